@@ -2,7 +2,6 @@ pub mod FirstLines
 pub mod EntryLines
 pub mod SpareTurns
 pub mod Limit
-pub mod Looked
 pub mod Nodes
 pub mod OneText
 pub mod Refused

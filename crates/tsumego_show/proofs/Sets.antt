@@ -14,7 +14,7 @@ use Rattle.tt_board.specs.Position.{Colouring}
 use Rattle.tt_board.specs.Play.{other}
 use Rattle.tt_board.specs.Reach.{entry_at}
 use Rattle.tt_game.specs.Games.{GameState}
-use Rattle.tsumego_show.specs.Marking.{closed_at, fewer_points, smaller_proposal, fewest, fewest_ways, ways_at}
+use Rattle.tsumego_show.specs.Marking.{closed_at, fewer_points, fewest, least_open, open_at}
 use Rattle.tsumego_show.specs.Regions.{inside, near, reached_in, stones, untaken, wall_after}
 
 -- no number yet
@@ -83,7 +83,7 @@ module _ (size : Size) (c : Colouring) (k : Colour) (q : ℕ) where
       e ∙ sym (ap (λ j. wall_after size c k q j) e2 ∙ same_wall n (subst (λ (w : Points). untaken size c k (inside size q w) ≡ w) e same) (m - n))
 
 -- one more stone
-pub fewest_more : (s : GameState) (n : ℕ) → fewest s (n + 1) ≡ smaller_proposal (fewest s n) (closed_at s false n (entry_at s.present n))
+pub fewest_more : (s : GameState) (n : ℕ) → fewest s (n + 1) ≡ fewer_points (fewest s n) (closed_at s false n (entry_at s.present n))
 unfolding fewest
 fewest_more s n = ap (fewest s) (let e : n + 1 ≡ suc n = omega arith in e)
 
@@ -91,13 +91,13 @@ pub fewest_none : (s : GameState) → fewest s 0 ≡ None
 unfolding fewest
 fewest_none s = refl
 
-pub ways_more : (s : GameState) (n : ℕ) → fewest_ways s (n + 1) ≡ fewer_points (fewest_ways s n) (ways_at s n (entry_at s.present n))
-unfolding fewest_ways
-ways_more s n = ap (fewest_ways s) (let e : n + 1 ≡ suc n = omega arith in e)
+pub open_more : (s : GameState) (n : ℕ) → least_open s (n + 1) ≡ fewer_points (least_open s n) (open_at s n (entry_at s.present n))
+unfolding least_open
+open_more s n = ap (least_open s) (let e : n + 1 ≡ suc n = omega arith in e)
 
-pub ways_none : (s : GameState) → fewest_ways s 0 ≡ set.empty
-unfolding fewest_ways
-ways_none s = refl
+pub open_none : (s : GameState) → least_open s 0 ≡ None
+unfolding least_open
+open_none s = refl
 
 pub first_wall_stones : (size : Size) (c : Colouring) (k : Colour) (q : ℕ) → wall_after size c k q 0 ≡ stones size c (other k)
 unfolding wall_after

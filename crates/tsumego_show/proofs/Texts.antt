@@ -1,5 +1,5 @@
 -- Lemmas on texts and lists that are made piece by piece.
-use Rattle.std.proofs.Common.{◌≡◌, ℕ, zero, suc, ◌+◌, List, ◌++◌, sym, ap, ◌∙◌, arith, append-nil, append_assoc}
+use Rattle.std.proofs.Common.{◌≡◌, ℕ, zero, suc, ◌+◌, List, ◌++◌, Ok, Err, OnOk, Result, sym, ap, ◌∙◌, arith, append-nil, append_assoc}
 use Rattle.std.specs.List.{flat_map, range_with_len}
 
 -- one more piece
@@ -12,3 +12,8 @@ pieces_more f a (suc n) j e =
 pub next_text : (f : ℕ → List ℕ) (old : List ℕ) (n : ℕ) → (old ++ flat_map f (range_with_len 0 n)) ++ f n ≡ old ++ flat_map f (range_with_len 0 (n + 1))
 next_text f old n = append_assoc old (flat_map f (range_with_len 0 n)) (f n) ∙ ap (λ l. old ++ l) (pieces_more f 0 n n (omega arith))
     ∙ ap (λ k. old ++ flat_map f (range_with_len 0 k)) (let e : suc n ≡ n + 1 = omega arith in e)
+
+-- words, and what is written behind them
+pub behind_words : {A E : Type 0} (r : Result A E) (words more old mid new : List ℕ) → mid ≡ old ++ words → OnOk r (new ≡ mid ++ more) → OnOk r (new ≡ old ++ (words ++ more))
+behind_words (Ok y) words more old mid new m w = w ∙ ap (λ (x : List ℕ). x ++ more) m ∙ append_assoc old words more
+behind_words (Err y) words more old mid new m w = w

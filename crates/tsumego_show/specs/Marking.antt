@@ -22,10 +22,11 @@ use Rattle.tt_sgf.specs.Bytes.{newline}
 use Rattle.tt_game.specs.Problems.{nodes_before_solution, game_of, posed}
 use Rattle.tsumego_show.specs.declared.form.Place.{Place}
 use Rattle.tsumego_show.specs.declared.form.Place.TheVariants.{FromAbove, FromBelow}
-use Rattle.tsumego_show.specs.declared.proposals.Proposal.{Proposal}
+use Rattle.tsumego_show.specs.declared.proposals.StoneWithPoints.{StoneWithPoints}
 use Rattle.tsumego_show.specs.declared.tree_bytes.LexicalState.TheVariants.{Outside}
 use Rattle.tsumego_show.specs.declared.variations.PointList.TheVariants.{Squares, Triangles}
-use Rattle.tsumego_show.specs.Hints.{hints, listed, members_text, names_text}
+use Rattle.tsumego_show.specs.Hints.{both_names, hints, members_text}
+use Rattle.tsumego_show.specs.Picture.{colour_name}
 use Rattle.tsumego_show.specs.Refusals.{fault_text, refusal_line}
 use Rattle.tsumego_show.specs.Regions.{around, is_closed, is_inner, region, stones, ways_out}
 use Rattle.tsumego_show.specs.TreeBytes.{behind_semicolon, from_open, kept_text}
@@ -62,58 +63,55 @@ placed_point size (FromBelow column number) = if nat_lt 0 number && nat_le numbe
 
 -- ---- which marks
 
--- the one with the fewer squares, and of two with as many the first
-abbrev pub smaller_proposal : Option Proposal → Option Proposal → Option Proposal
-smaller_proposal a None = a
-smaller_proposal None (Some b) = Some b
-smaller_proposal (Some a) (Some b) = if nat_lt (set.len b.region) (set.len a.region) then Some b else Some a
+-- the one with the fewer points, and of two with as many the first
+abbrev pub fewer_points : Option StoneWithPoints → Option StoneWithPoints → Option StoneWithPoints
+fewer_points a None = a
+fewer_points None (Some b) = Some b
+fewer_points (Some a) (Some b) = if nat_lt (set.len b.points) (set.len a.points) then Some b else Some a
 
 module _ (s : GameState) where
-  -- the mark on the stone on q, where a stone is there, and its region is closed and, where nobody named the stone, an inner one
-  abbrev pub closed_at : Bool → ℕ → Option Colour → Option Proposal
+  -- the stone on q with its region, where a stone is there, and the region is closed and, where nobody named the stone, an inner one
+  abbrev pub closed_at : Bool → ℕ → Option Colour → Option StoneWithPoints
   closed_at is_named q None = None
   closed_at is_named q (Some k) =
-      if is_closed s.size s.present k q && (is_named || is_inner s.size s.present k q) then Some (record { stone = q; colour = k; region = region s.size s.present k q }) else None
+      if is_closed s.size s.present k q && (is_named || is_inner s.size s.present k q) then Some (record { stone = q; colour = k; points = region s.size s.present k q }) else None
 
   -- of the stones on the first n points the one with the fewest squares
-  unfoldable pub fewest : ℕ → Option Proposal
+  unfoldable pub fewest : ℕ → Option StoneWithPoints
   fewest zero = None
-  fewest (suc n) = smaller_proposal (fewest n) (closed_at false n (entry_at s.present n))
+  fewest (suc n) = fewer_points (fewest n) (closed_at false n (entry_at s.present n))
 
-  -- the mark on the point, where the board has it
-  abbrev pub closed_on : Option ℕ → Option Proposal
+  -- that on the point, where the board has it
+  abbrev pub closed_on : Option ℕ → Option StoneWithPoints
   closed_on None = None
   closed_on (Some q) = closed_at true q (entry_at s.present q)
 
-  -- the mark on the stone in a place, or on any
-  abbrev pub chosen : Option Place → Option Proposal
+  -- that in a place, or on any point
+  abbrev pub chosen : Option Place → Option StoneWithPoints
   chosen None = fewest (point_count s.size)
   chosen (Some place) = closed_on (placed_point s.size place)
 
   -- where there are squares none is proposed: two regions would be one
-  abbrev pub proposed : Bool → Option Place → Option Proposal
+  abbrev pub proposed : Bool → Option Place → Option StoneWithPoints
   proposed is_squared place = if is_squared then None else chosen place
 
-  -- the problem that the mark makes of the game
-  abbrev pub marked : Proposal → LineWithUndo
-  marked m = posed s m.region (set.insert set.empty m.stone) m.colour
+  -- the problem with a triangle on the stone, and squares on its region
+  abbrev pub marked : StoneWithPoints → LineWithUndo
+  marked m = posed s m.points (set.insert set.empty m.stone) m.colour
 
 -- ---- which group is open least
 
--- the one with the fewer points where both have some, and of two with as many the first
-abbrev pub fewer_points : Points → Points → Points
-fewer_points a b = if nat_eq (set.len b) 0 || (nat_lt 0 (set.len a) && nat_le (set.len a) (set.len b)) then a else b
-
 module _ (s : GameState) where
-  -- the ways out of the stone on q
-  abbrev pub ways_at : ℕ → Option Colour → Points
-  ways_at q None = set.empty
-  ways_at q (Some k) = ways_out s.size s.present k q
+  -- the stone on q with its ways out, where a stone is there and has some
+  abbrev pub open_at : ℕ → Option Colour → Option StoneWithPoints
+  open_at q None = None
+  open_at q (Some k) =
+      if nat_eq (set.len (ways_out s.size s.present k q)) 0 then None else Some (record { stone = q; colour = k; points = ways_out s.size s.present k q })
 
-  -- of the stones on the first n points the ways out of the one that has some, and the fewest
-  unfoldable pub fewest_ways : ℕ → Points
-  fewest_ways zero = set.empty
-  fewest_ways (suc n) = fewer_points (fewest_ways n) (ways_at n (entry_at s.present n))
+  -- of the stones on the first n points the one with the fewest ways out
+  unfoldable pub least_open : ℕ → Option StoneWithPoints
+  least_open zero = None
+  least_open (suc n) = fewer_points (least_open n) (open_at n (entry_at s.present n))
 
   abbrev pub has_stones : Colour → Bool
   has_stones k = nat_lt 0 (set.len (stones s.size s.present k))
@@ -137,13 +135,31 @@ marked_text n p tree = hints p ++ with_marks n p (from_open tree)
 abbrev pub squared_line : List ℕ
 squared_line = codes "squares stand there already: put a triangle on a stone of the group, or take SQ out\n"
 
-abbrev pub open_words : List ℕ
-open_words = codes "no wall leaves the group 2 to 40 points: put stones of the wall on some of these, or mark by hand:"
+-- a chain by its colour and a stone: `the White chain of C5=ce`
+unfoldable pub chain_name : Size → Colour → ℕ → List ℕ
+chain_name size k q = codes "the " ++ (colour_name k ++ (codes " chain of " ++ both_names size q))
 
--- where a group is open: its ways out first
-unfoldable pub open_line : Size → Colouring → Colour → ℕ → List ℕ
-open_line size c k q =
-    open_words ++ (names_text size (ways_out size c k q) ++ members_text size (set.difference (around size c k q) (ways_out size c k q)))
+-- the ways out, or where there are none other empty points
+unfoldable pub openings : Size → Points → Points → List ℕ
+openings size ways others =
+    if nat_eq (set.len ways) 0 then codes "put stones of the wall on some of these, or mark by hand:" ++ members_text size others
+    else codes "it gets out at" ++ members_text size ways
+
+-- where a chain is open
+unfoldable pub open_text : Size → Colour → ℕ → Points → Points → List ℕ
+open_text size k q ways others = chain_name size k q ++ (codes " is not enclosed with 2 to 40 points: " ++ openings size ways others)
+
+abbrev pub open_line : Size → Colouring → Colour → ℕ → List ℕ
+open_line size c k q = open_text size k q (ways_out size c k q) (around size c k q)
+
+-- a chain, and its ways out
+unfoldable pub ways_text : Size → StoneWithPoints → List ℕ
+ways_text size m = chain_name size m.colour m.stone ++ (codes ", which gets out at" ++ members_text size m.points)
+
+-- the chain that is open least, where one is
+abbrev pub least_open_text : Size → Option StoneWithPoints → List ℕ
+least_open_text size None = codes "no group is enclosed with 2 to 40 points: close the wall, or name a stone of the group\n"
+least_open_text size (Some m) = codes "no group is enclosed with 2 to 40 points: least open is " ++ ways_text size m
 
 -- the board has so many columns and rows
 abbrev pub off_board_line : Size → List ℕ
@@ -152,8 +168,7 @@ off_board_line size = codes "the board has no such point: it is " ++ (decimal si
 module _ (s : GameState) where
   -- where there are black stones, and white ones: no group is enclosed; without both there is no wall
   abbrev pub unenclosed_text : Bool → Bool → List ℕ
-  unenclosed_text true true =
-      codes "no group is enclosed with 2 to 40 points: close the wall, or name a stone of the group\n" ++ listed s.size (codes "look at:") (fewest_ways s (point_count s.size))
+  unenclosed_text true true = least_open_text s.size (least_open s (point_count s.size))
   unenclosed_text true false = codes "no White stone is on the board, so there is no wall\n"
   unenclosed_text false true = codes "no Black stone is on the board, so there is no wall\n"
   unenclosed_text false false = codes "no stone is on the board\n"
@@ -176,7 +191,7 @@ module _ (s : GameState) where
   -- ---- tree number k
 
   -- what is written of the game with this mark in the node of this number, or without one
-  abbrev pub with_mark : Bool → Option Place → ℕ → ℕ → List ℕ → Option Proposal → List ℕ
+  abbrev pub with_mark : Bool → Option Place → ℕ → ℕ → List ℕ → Option StoneWithPoints → List ℕ
   with_mark is_squared place k n tree None = refusal_line k (code_of NoTarget) ++ (codes "why: " ++ (why_left is_squared place ++ kept_text tree))
   with_mark is_squared place k n tree (Some m) = marked_text n (marked s m) tree
 
@@ -190,7 +205,7 @@ abbrev pub line_marked : Option Place → ℕ → List ℕ → List Node → Gam
 line_marked place k tree ns e = if has_triangles ns then fault_text k ns e ++ kept_text tree else game_marked place k tree ns (game_of ns)
 
 -- and whether it is refused
-abbrev pub is_proposal_missing : Option Proposal → Bool
+abbrev pub is_proposal_missing : Option StoneWithPoints → Bool
 is_proposal_missing None = true
 is_proposal_missing (Some m) = false
 

@@ -39,7 +39,7 @@ fn put_editor_name(
 
 /// Writes both names of a point behind the text.
 #[tactic(auto, unfolding(crate::specs::Hints::both_names))]
-fn put_both_names(
+pub fn put_both_names(
     alloc: Global,
     out: &mut Vec<u8>,
     size: Size,

@@ -1,23 +1,22 @@
 //! Writes problems with the marks that are proposed for them.
-ghost use Rattle.std.specs.Prelude.{◌≡◌, ◌++◌, ◌-◌, ◌<◌, IfOk, IfSome, OnOk, Some, codes, false, length, slice_get, true};
+ghost use Rattle.std.specs.Prelude.{◌≡◌, ◌++◌, ◌-◌, ◌<◌, IfOk, IfSome, OnOk, Some, false, length, slice_get, true};
 ghost use Rattle.std.specs.List.{list_any};
-ghost use Rattle.std.specs.FinSet as set;
 ghost use Rattle.tt_sgf.specs.Sizes.{point_count};
 ghost use Rattle.tt_board.specs.declared.Colour.TheVariants.{Black, White};
 ghost use Rattle.tt_board.specs.Reach.{entry_at};
 ghost use Rattle.tt_game.specs.Nodes.{SQ, TR, has};
 ghost use Rattle.tt_game.specs.Problems.{nodes_before_solution, game_of};
-ghost use Rattle.tsumego_show.specs.Hints.{listed, members_text, names_text};
-ghost use Rattle.tsumego_show.specs.Marking.{asked_nodes, fewest_ways, game_marked, has_in, is_proposal_missing, has_squares, has_stones, has_triangles, is_game_left, is_left};
-ghost use Rattle.tsumego_show.specs.Marking.{line_marked, marked, marked_text, node_without_squares, off_board_line, open_line, problem_kept, proposed, unenclosed_text, why_at};
+ghost use Rattle.tsumego_show.specs.Marking.{asked_nodes, chain_name, game_marked, has_in, is_proposal_missing, has_squares, has_stones, has_triangles, is_game_left, is_left};
+ghost use Rattle.tsumego_show.specs.Marking.{line_marked, marked, least_open_text, marked_text, node_without_squares, off_board_line, open_line, open_text, openings, problem_kept, proposed, unenclosed_text, ways_text, why_at};
 ghost use Rattle.tsumego_show.specs.Marking.{why_left, why_not, why_on, with_mark, with_marks, without_squares_line};
 ghost use Rattle.tsumego_show.specs.Refusals.{fault_text};
 ghost use Rattle.tsumego_show.specs.TreeBytes.{kept_text};
 
 use crate::form::Place;
-use crate::hints::{put_hints, put_listed, put_members, put_names};
+use crate::hints::{put_both_names, put_hints, put_members};
 use crate::node_values::has;
-use crate::proposals::{Proposal, fewest_ways, placed_point, proposed};
+use crate::picture::colour_name;
+use crate::proposals::{StoneWithPoints, least_open, placed_point, proposed};
 use crate::refusals::{put_fault, put_refusal};
 use crate::regions::{around, stones, ways_out};
 use crate::tree_bytes::{behind_semicolon, from_open, put_kept};
@@ -61,21 +60,63 @@ fn put_marked(
     put_with_marks(alloc, out, line, number, from_open(tree))
 }
 
-/// Writes the names of these points first, and those of the others, behind the text.
-fn put_first_and_others(
+/// Writes the name of the chain of a stone of this colour behind the text.
+#[tactic(auto, unfolding(crate::specs::Marking::chain_name))]
+fn put_chain(
     alloc: Global,
     out: &mut Vec<u8>,
     size: Size,
-    first: &PointSet,
-    all: &PointSet,
+    colour: Colour,
+    stone: Point,
 ) -> Result<(), NoMemory>
-    ensures { OnOk result (out.new.items ≡ out.old.items ++ (names_text size first.now ++ members_text size (set.difference all.now first.now))) }
+    requires { stone < point_count size }
+    ensures { OnOk result (out.new.items ≡ out.old.items ++ chain_name size colour stone) }
 {
-    put_names(alloc, out, size, first)?;
-    put_members(alloc, out, size, &all.minus(first))
+    out.extend_from_slice(b"the ")?;
+    out.extend_from_slice(colour_name(colour))?;
+    out.extend_from_slice(b" chain of ")?;
+    put_both_names(alloc, out, size, usize::from(stone.number()))
 }
 
-/// Writes where the group of a stone of this colour is open behind the text.
+/// Writes the ways out, or where there are none the other points, behind the text.
+#[tactic(auto, unfolding(crate::specs::Marking::openings))]
+fn put_openings(
+    alloc: Global,
+    out: &mut Vec<u8>,
+    size: Size,
+    ways: &PointSet,
+    others: &PointSet,
+) -> Result<(), NoMemory>
+    ensures { OnOk result (out.new.items ≡ out.old.items ++ openings size ways.now others.now) }
+{
+    if ways.count() == 0 {
+        out.extend_from_slice(b"put stones of the wall on some of these, or mark by hand:")?;
+        return put_members(alloc, out, size, others);
+    }
+    out.extend_from_slice(b"it gets out at")?;
+    put_members(alloc, out, size, ways)
+}
+
+/// Writes where the chain of a stone of this colour is open, by these ways out or other points, behind the text.
+#[tactic(auto, unfolding(crate::specs::Marking::open_text))]
+fn put_open_chain(
+    alloc: Global,
+    out: &mut Vec<u8>,
+    size: Size,
+    colour: Colour,
+    stone: Point,
+    ways: &PointSet,
+    others: &PointSet,
+) -> Result<(), NoMemory>
+    requires { stone < point_count size }
+    ensures { OnOk result (out.new.items ≡ out.old.items ++ open_text size colour stone ways.now others.now) }
+{
+    put_chain(alloc, out, size, colour, stone)?;
+    out.extend_from_slice(b" is not enclosed with 2 to 40 points: ")?;
+    put_openings(alloc, out, size, ways, others)
+}
+
+/// Writes where the chain of a stone of this colour is open behind the text.
 fn put_open(
     alloc: Global,
     out: &mut Vec<u8>,
@@ -83,14 +124,12 @@ fn put_open(
     colour: Colour,
     stone: Point,
 ) -> Result<(), NoMemory>
+    requires { stone < point_count board.now.size }
     ensures { OnOk result (out.new.items ≡ out.old.items ++ open_line board.now.size board.now.points colour stone) }
 {
-    out.extend_from_slice(
-        b"no wall leaves the group 2 to 40 points: put stones of the wall on some of these, or mark by hand:",
-    )?;
-    let first = ways_out(board, colour, stone);
-    let all = around(board, colour, stone);
-    put_first_and_others(alloc, out, board.size(), &first, &all)
+    let ways = ways_out(board, colour, stone);
+    let others = around(board, colour, stone);
+    put_open_chain(alloc, out, board.size(), colour, stone, &ways, &others)
 }
 
 /// Writes why no mark is proposed for what stands on a point behind the text.
@@ -131,21 +170,48 @@ fn put_why_on(
     }
 }
 
-/// Writes the ways out of the group with the fewest behind the text.
-fn put_ways(alloc: Global, out: &mut Vec<u8>, game: &Game) -> Result<(), NoMemory>
-    ensures { OnOk result (out.new.items ≡ out.old.items ++ listed game.now.size (codes "look at:") (fewest_ways game.now (point_count game.now.size))) }
+/// Writes a chain and its ways out behind the text.
+#[tactic(auto, unfolding(crate::specs::Marking::ways_text))]
+fn put_ways(
+    alloc: Global,
+    out: &mut Vec<u8>,
+    size: Size,
+    opening: &StoneWithPoints,
+) -> Result<(), NoMemory>
+    requires { opening.now.stone < point_count size }
+    ensures { OnOk result (out.new.items ≡ out.old.items ++ ways_text size opening.now) }
 {
-    put_listed(alloc, out, game.size(), b"look at:", &fewest_ways(game))
+    put_chain(alloc, out, size, opening.colour, opening.stone)?;
+    out.extend_from_slice(b", which gets out at")?;
+    put_members(alloc, out, size, &opening.points)
 }
 
-/// Writes that no group is enclosed, and the ways out of the one with the fewest, behind the text.
+/// Writes which chain is open least, where one is, behind the text.
+fn put_least_open(
+    alloc: Global,
+    out: &mut Vec<u8>,
+    size: Size,
+    opening: &Option<StoneWithPoints>,
+) -> Result<(), NoMemory>
+    requires { IfSome opening.now (λ m. m.stone < point_count size) }
+    ensures { OnOk result (out.new.items ≡ out.old.items ++ least_open_text size opening.now) }
+{
+    match opening {
+        Some(opening) => {
+            out.extend_from_slice(b"no group is enclosed with 2 to 40 points: least open is ")?;
+            put_ways(alloc, out, size, opening)
+        }
+        None => Ok(out.extend_from_slice(
+            b"no group is enclosed with 2 to 40 points: close the wall, or name a stone of the group\n",
+        )?),
+    }
+}
+
+/// Writes that no group is enclosed, and where the least open one gets out, behind the text.
 fn put_all_open(alloc: Global, out: &mut Vec<u8>, game: &Game) -> Result<(), NoMemory>
     ensures { OnOk result (out.new.items ≡ out.old.items ++ unenclosed_text game.now true true) }
 {
-    out.extend_from_slice(
-        b"no group is enclosed with 2 to 40 points: close the wall, or name a stone of the group\n",
-    )?;
-    put_ways(alloc, out, game)
+    put_least_open(alloc, out, game.size(), &least_open(game))
 }
 
 /// Whether a stone of a colour is on the board.
@@ -237,7 +303,7 @@ fn put_with(
     alloc: Global,
     out: &mut Vec<u8>,
     game: Game,
-    mark: Proposal,
+    mark: StoneWithPoints,
     number: usize,
     tree: &[u8],
 ) -> Result<(), NoMemory>
@@ -245,7 +311,7 @@ fn put_with(
     ensures { OnOk result (out.new.items ≡ out.old.items ++ marked_text number (marked game mark) tree.now) }
 {
     let targets = PointSet::empty().with(mark.stone);
-    let line = game.pose(mark.region, targets, mark.colour)?;
+    let line = game.pose(mark.points, targets, mark.colour)?;
     put_marked(alloc, out, &line, number, tree)
 }
 

@@ -1,8 +1,8 @@
-//! The marks that are proposed for a game.
+//! The marks that are proposed for a game, and the group that is open least.
 ghost use Rattle.std.specs.Prelude.{◌≡◌, ℕ, ◌<◌, IfSome};
 ghost use Rattle.tt_sgf.specs.Sizes.{point_count};
 ghost use Rattle.tt_board.specs.Reach.{entry_at};
-ghost use Rattle.tsumego_show.specs.Marking.{chosen, closed_at, closed_on, fewer_points, smaller_proposal, fewest, fewest_ways, placed_point, point_of_coordinates, proposed, ways_at};
+ghost use Rattle.tsumego_show.specs.Marking.{chosen, closed_at, closed_on, fewer_points, fewest, least_open, open_at, placed_point, point_of_coordinates, proposed};
 
 use crate::form::Place;
 use crate::points::point_numbered;
@@ -11,15 +11,15 @@ use tt_board::Colour;
 use tt_game::Game;
 use tt_sgf::{Point, PointSet, Size};
 
-/// A triangle on a stone of this colour, and squares on a region.
+/// A stone of this colour, and the points of its region, or its ways out.
 #[derive(Drop)]
-pub struct Proposal {
+pub struct StoneWithPoints {
     /// The point of the stone.
     pub stone: Point,
     /// The colour of the stone.
     pub colour: Colour,
-    /// The points of the squares.
-    pub region: PointSet,
+    /// The points.
+    pub points: PointSet,
 }
 
 /// The point of this column and row, where the board has it.
@@ -51,9 +51,9 @@ pub fn placed_point(size: Size, place: Place) -> Option<Point>
     }
 }
 
-/// The mark on the stone on a point, where a stone is there, and its region is closed and, where nobody named the stone, an inner
-/// one.
-fn closed_at(game: &Game, is_named: bool, stone: Point) -> Option<Proposal>
+/// The stone on a point with its region, where a stone is there, and the region is closed and, where nobody named the stone, an
+/// inner one.
+fn closed_at(game: &Game, is_named: bool, stone: Point) -> Option<StoneWithPoints>
     requires { stone < point_count game.now.size }
     ensures value { result ≡ closed_at game.now is_named stone (entry_at game.now.present stone) }
     ensures on_board { IfSome result (λ m. m.stone < point_count game.now.size) }
@@ -61,18 +61,21 @@ fn closed_at(game: &Game, is_named: bool, stone: Point) -> Option<Proposal>
     let colour = game.present().at(stone)?;
     let found = region(game.present(), colour, stone);
     if found.closed && (is_named || found.inner) {
-        return Some(Proposal {
+        return Some(StoneWithPoints {
             stone,
             colour,
-            region: found.points,
+            points: found.points,
         });
     }
     None
 }
 
-/// The one with the fewer squares, and of two with as many the first.
-fn smaller_proposal(first: Option<Proposal>, second: Option<Proposal>) -> Option<Proposal>
-    ensures value { result ≡ smaller_proposal first second }
+/// The one with the fewer points, and of two with as many the first.
+fn fewer_points(
+    first: Option<StoneWithPoints>,
+    second: Option<StoneWithPoints>,
+) -> Option<StoneWithPoints>
+    ensures value { result ≡ fewer_points first second }
     ensures bound { (n : ℕ) → IfSome first (λ m. m.stone < n) → IfSome second (λ m. m.stone < n) → IfSome result (λ m. m.stone < n) }
 {
     let Some(b) = second else {
@@ -81,7 +84,7 @@ fn smaller_proposal(first: Option<Proposal>, second: Option<Proposal>) -> Option
     let Some(a) = first else {
         return Some(b);
     };
-    if b.region.count() < a.region.count() {
+    if b.points.count() < a.points.count() {
         return Some(b);
     }
     Some(a)
@@ -89,20 +92,20 @@ fn smaller_proposal(first: Option<Proposal>, second: Option<Proposal>) -> Option
 
 /// Of all stones the one with the fewest squares.
 #[tactic(auto, using(crate::proofs::Sets::fewest_none, crate::proofs::Sets::fewest_more), unfolding(crate::specs::Marking::fewest))]
-fn fewest(game: &Game) -> Option<Proposal>
+fn fewest(game: &Game) -> Option<StoneWithPoints>
     ensures value { result ≡ fewest game.now (point_count game.now.size) }
     ensures on_board { IfSome result (λ m. m.stone < point_count game.now.size) }
 {
     let size = game.size();
     let mut found = None;
     for number in 0..size.point_count() {
-        found = smaller_proposal(found, closed_at(game, false, point_numbered(size, number)));
+        found = fewer_points(found, closed_at(game, false, point_numbered(size, number)));
     }
     found
 }
 
-/// The mark on the stone on a point, where the board has the point.
-fn closed_on(game: &Game, stone: Option<Point>) -> Option<Proposal>
+/// That on a point, where the board has the point.
+fn closed_on(game: &Game, stone: Option<Point>) -> Option<StoneWithPoints>
     requires { IfSome stone (λ q. q < point_count game.now.size) }
     ensures value { result ≡ closed_on game.now stone }
     ensures on_board { IfSome result (λ m. m.stone < point_count game.now.size) }
@@ -110,8 +113,8 @@ fn closed_on(game: &Game, stone: Option<Point>) -> Option<Proposal>
     closed_at(game, true, stone?)
 }
 
-/// The mark on the stone in a place, or on any.
-fn chosen(game: &Game, place: Option<Place>) -> Option<Proposal>
+/// That in a place, or on any point.
+fn chosen(game: &Game, place: Option<Place>) -> Option<StoneWithPoints>
     ensures value { result ≡ chosen game.now place }
     ensures on_board { IfSome result (λ m. m.stone < point_count game.now.size) }
 {
@@ -121,8 +124,8 @@ fn chosen(game: &Game, place: Option<Place>) -> Option<Proposal>
     }
 }
 
-/// The mark on the stone in a place, or on any, where the problem has no squares.
-pub fn proposed(game: &Game, is_squared: bool, place: Option<Place>) -> Option<Proposal>
+/// The stone in a place, or any, with the region that is proposed for it, where the problem has no squares.
+pub fn proposed(game: &Game, is_squared: bool, place: Option<Place>) -> Option<StoneWithPoints>
     ensures value { result ≡ proposed game.now is_squared place }
     ensures on_board { IfSome result (λ m. m.stone < point_count game.now.size) }
 {
@@ -132,37 +135,34 @@ pub fn proposed(game: &Game, is_squared: bool, place: Option<Place>) -> Option<P
     chosen(game, place)
 }
 
-/// The ways out of the stone on a point, where a stone is there.
-fn ways_at(game: &Game, stone: Point) -> PointSet
+/// The stone on a point with its ways out, where a stone is there and has some.
+fn open_at(game: &Game, stone: Point) -> Option<StoneWithPoints>
     requires { stone < point_count game.now.size }
-    ensures { result ≡ ways_at game.now stone (entry_at game.now.present stone) }
+    ensures value { result ≡ open_at game.now stone (entry_at game.now.present stone) }
+    ensures on_board { IfSome result (λ m. m.stone < point_count game.now.size) }
 {
-    match game.present().at(stone) {
-        Some(colour) => ways_out(game.present(), colour, stone),
-        None => PointSet::empty(),
+    let colour = game.present().at(stone)?;
+    let points = ways_out(game.present(), colour, stone);
+    if points.count() == 0 {
+        return None;
     }
+    Some(StoneWithPoints {
+        stone,
+        colour,
+        points,
+    })
 }
 
-/// The one with the fewer points where both have some, and of two with as many the first.
-fn fewer_points(first: PointSet, second: PointSet) -> PointSet
-    ensures { result ≡ fewer_points first second }
-{
-    let count = second.count();
-    if count == 0 || (0 < first.count() && first.count() <= count) {
-        return first;
-    }
-    second
-}
-
-/// Of all stones the ways out of the one that has some, and the fewest.
-#[tactic(auto, using(crate::proofs::Sets::ways_none, crate::proofs::Sets::ways_more), unfolding(crate::specs::Marking::fewest_ways))]
-pub fn fewest_ways(game: &Game) -> PointSet
-    ensures { result ≡ fewest_ways game.now (point_count game.now.size) }
+/// Of all stones the one with the fewest ways out.
+#[tactic(auto, using(crate::proofs::Sets::open_none, crate::proofs::Sets::open_more), unfolding(crate::specs::Marking::least_open))]
+pub fn least_open(game: &Game) -> Option<StoneWithPoints>
+    ensures value { result ≡ least_open game.now (point_count game.now.size) }
+    ensures on_board { IfSome result (λ m. m.stone < point_count game.now.size) }
 {
     let size = game.size();
-    let mut found = PointSet::empty();
+    let mut found = None;
     for number in 0..size.point_count() {
-        found = fewer_points(found, ways_at(game, point_numbered(size, number)));
+        found = fewer_points(found, open_at(game, point_numbered(size, number)));
     }
     found
 }

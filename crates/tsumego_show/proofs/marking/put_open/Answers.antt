@@ -1,8 +1,17 @@
-use Rattle.tsumego_show.proofs.Looked.{open_written}
+use Rattle.std.proofs.Common.{◌≡◌, ◌++◌, OnOk, subst}
+use Rattle.tt_sgf.specs.declared.size.Size.{Size}
+use Rattle.tt_board.specs.Stones.{Points}
+use Rattle.tsumego_show.specs.Marking.{open_text}
+use Rattle.tsumego_show.specs.Regions.{around, ways_out}
 use Rattle.tsumego_show.proofs.marking.put_open.Goals as goal
 
 pub returns : goal.returns
 returns c =
-    open_written c.put_first_and_others.result c.args.board.now.size c.size.result c.args.board.now.points c.args.colour c.args.stone c.ways_out-first.result
-    c.around-all.result c.args.out.now.items c.extend_from_slice.new.self.items c.put_first_and_others.new.out.items c.size.ensures.value c.ways_out-first.ensures
-    c.around-all.ensures c.in_ok-extend_from_slice.ensures.items c.put_first_and_others.ensures
+    let board = c.args.board.now in
+    let stone = c.args.stone in
+    let k = c.args.colour in
+    let put = c.put_open_chain in
+    let old = c.args.out.now.items in
+    subst (λ (z : Size). OnOk put.result (put.new.out.items ≡ old ++ open_text z k stone (ways_out board.size board.points k stone) (around board.size board.points k stone))) c.size.ensures.value
+    (subst (λ (w : Points). OnOk put.result (put.new.out.items ≡ old ++ open_text c.size.result k stone w (around board.size board.points k stone))) c.ways_out-ways.ensures
+    (subst (λ (a : Points). OnOk put.result (put.new.out.items ≡ old ++ open_text c.size.result k stone c.ways_out-ways.result a)) c.around-others.ensures put.ensures))
