@@ -1,10 +1,12 @@
--- What is likely wrong in a problem: that nobody says who moves, points that nobody can fill, stones that can be taken where nobody can
--- play again, stones that nobody marked, and a region that is too wide.
-use Rattle.std.specs.Prelude.{ℕ, ◌/◌, ◌%◌, ◌&&◌, ◌||◌, nat_eq, nat_lt, Bool, false, List, [], ◌∷◌, ◌++◌, codes, decimal, if◌then◌else◌}
-use Rattle.std.specs.List.{flat_map, range_with_len}
+-- What is likely wrong in a problem: that nobody says who moves, a comment that goes on too far, points that nobody can fill, stones that
+-- can be taken where nobody can play again, stones that nobody marked, and a region that is too wide.
+use Rattle.std.specs.Prelude.{ℕ, ◌/◌, ◌%◌, ◌&&◌, ◌||◌, ◌==◌, nat_eq, nat_lt, Bool, false, List, [], ◌∷◌, ◌++◌, codes, decimal, if◌then◌else◌}
+use Rattle.std.specs.List.{flat_map, list_any, range_with_len, starts_with}
+use lib.Pointwise.{pointwise}
 use Rattle.std.specs.FinSet as set
-use Rattle.tt_sgf.specs.Bytes.{newline, space}
+use Rattle.tt_sgf.specs.Bytes.{close_value, newline, space}
 use Rattle.tt_sgf.specs.declared.nodes.Node.{Node}
+use Rattle.tt_sgf.specs.declared.nodes.Property.{Property}
 use Rattle.tt_sgf.specs.declared.size.Size.{Size}
 use Rattle.tt_sgf.specs.Sizes.{point_count}
 use Rattle.tt_board.specs.Play.{other}
@@ -122,3 +124,25 @@ is_mover_said before (n ∷ ns) = if has TR n then is_said_behind before n else 
 -- where nobody says who moves, Black does
 abbrev pub mover_line : List Node → List ℕ
 mover_line ns = if is_mover_said false ns then [] else codes "hint: the setup has no PL, so Black is to move" ++ newline ∷ []
+
+-- ---- comments that go on too far
+
+-- whether a bracket with this name in front is open where a value ends, no `]` behind it; or whether one was open before
+unfoldable pub is_left_open : List ℕ → Bool → List ℕ → Bool
+is_left_open name before [] = before
+is_left_open name before (b ∷ bs) = is_left_open name (if nat_eq b close_value then false else (starts_with ◌==◌ (b ∷ bs) name || before)) bs
+
+-- a comment with such a bracket, which was likely to be a property behind it
+abbrev pub is_open_comment : List ℕ → Property → Bool
+is_open_comment name p = pointwise ◌==◌ p.ident (codes "C") && list_any (is_left_open name false) p.values
+
+abbrev pub has_open_comment : List ℕ → Node → Bool
+has_open_comment name n = list_any (is_open_comment name) n.properties
+
+abbrev pub comment_line : List ℕ → List Node → List ℕ
+comment_line name ns = if list_any (has_open_comment name) ns then codes "hint: a comment holds " ++ (name ++ codes ": is its ] missing?\n") else []
+
+-- the lines on the names that say who moves, what is marked, and where stones are
+abbrev pub comment_lines : List Node → List ℕ
+comment_lines ns =
+    comment_line (codes "PL[") ns ++ (comment_line (codes "TR[") ns ++ (comment_line (codes "SQ[") ns ++ (comment_line (codes "AB[") ns ++ comment_line (codes "AW[") ns)))

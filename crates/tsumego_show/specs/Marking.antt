@@ -25,7 +25,7 @@ use Rattle.tsumego_show.specs.declared.form.Place.TheVariants.{FromAbove, FromBe
 use Rattle.tsumego_show.specs.declared.proposals.StoneWithPoints.{StoneWithPoints}
 use Rattle.tsumego_show.specs.declared.tree_bytes.LexicalState.TheVariants.{Outside}
 use Rattle.tsumego_show.specs.declared.variations.PointList.TheVariants.{Squares, Triangles}
-use Rattle.tsumego_show.specs.Hints.{both_names, hints, members_text}
+use Rattle.tsumego_show.specs.Hints.{both_names, comment_lines, hints, members_text}
 use Rattle.tsumego_show.specs.Picture.{colour_name}
 use Rattle.tsumego_show.specs.Refusals.{fault_text, refusal_line}
 use Rattle.tsumego_show.specs.Regions.{around, is_closed, is_inner, region, stones, ways_out}
@@ -195,9 +195,9 @@ module _ (s : GameState) where
   with_mark is_squared place k n tree None = refusal_line k (code_of NoTarget) ++ (codes "why: " ++ (why_left is_squared place ++ kept_text tree))
   with_mark is_squared place k n tree (Some m) = marked_text n (marked s m) tree
 
--- what is written of a main line without triangles: up to where it asks it comes to a game, or is refused
+-- what is written of a main line without triangles: which comments go on too far, where up to its end it comes to a game; or why it is refused
 abbrev pub game_marked : Option Place → ℕ → List ℕ → List Node → Result GameState GameFault → List ℕ
-game_marked place k tree ns (Ok s) = with_mark s (has_squares ns) place k (nodes_before_solution false ns) tree (proposed s (has_squares ns) place)
+game_marked place k tree ns (Ok s) = comment_lines ns ++ with_mark s (has_squares ns) place k (nodes_before_solution false ns) tree (proposed s (has_squares ns) place)
 game_marked place k tree ns (Err e) = fault_text k ns e ++ kept_text tree
 
 -- what is written of a main line that is no problem, by this fault: where nothing is proposed, the tree as it was stands behind the lines

@@ -1,5 +1,5 @@
 -- What is written where something is refused: the line with the number, and a line that says in words why, and how to go on.
-use Rattle.std.specs.Prelude.{ℕ, zero, suc, ◌+◌, ◌-◌, ◌||◌, nat_eq, nat_lt, Bool, false, List, [], ◌∷◌, ◌++◌, codes, decimal, length, take, Option, Some, None, Ok, Err, if◌then◌else◌}
+use Rattle.std.specs.Prelude.{ℕ, zero, suc, ◌+◌, ◌-◌, nat_eq, nat_lt, Bool, false, List, [], ◌∷◌, ◌++◌, codes, decimal, length, take, Option, Some, None, Ok, Err, if◌then◌else◌}
 use Rattle.std.specs.declared.result.Result.{Result}
 use Rattle.tt_sgf.specs.Bytes.{newline}
 use Rattle.tt_sgf.specs.declared.nodes.Node.{Node}
@@ -10,6 +10,7 @@ use Rattle.tt_game.specs.Faults.{code_of}
 use Rattle.tt_game.specs.Line.{LineWithUndo}
 use Rattle.tt_game.specs.Problems.{problem_of}
 use Rattle.tsumego_show.specs.FaultDetails.{look_line}
+use Rattle.tsumego_show.specs.Hints.{comment_lines}
 use Rattle.tsumego_show.specs.TreeBytes.{from_open}
 
 -- the line on a refusal of tree number k, which a newline ends
@@ -68,9 +69,9 @@ maybe_named e k front (Some n) = named_fault e k front n
 abbrev pub at_node : GameFault → List Node → List ℕ
 at_node e ns = maybe_named e (needed (code_of e) ns (length ns)) (take (needed (code_of e) ns (length ns) - 1) ns) (nth_node (needed (code_of e) ns (length ns)) ns)
 
--- why a main line is refused so; where it isn't too long, the node is looked for
+-- why a main line is refused so: where no node has TR, comments may hold it; else, where it isn't too long, the node is looked for
 abbrev pub why_text : GameFault → List Node → List ℕ
-why_text e ns = if nat_eq (code_of e) (code_of NoTarget) || nat_lt most_nodes (length ns) then meaning e else at_node e ns
+why_text e ns = if nat_eq (code_of e) (code_of NoTarget) then meaning e ++ comment_lines ns else (if nat_lt most_nodes (length ns) then meaning e else at_node e ns)
 
 -- the lines on a main line that is refused so
 abbrev pub fault_text : ℕ → List Node → GameFault → List ℕ

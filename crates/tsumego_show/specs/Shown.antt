@@ -14,7 +14,7 @@ use Rattle.tsumego_show.specs.declared.form.Form.TheVariants.{Picture, Diagram, 
 use Rattle.tsumego_show.specs.Diagram.{svg_text}
 use Rattle.tsumego_show.specs.Drawing.{DrawsCertificate}
 use Rattle.tsumego_show.specs.Found.{Found, StandsBehind}
-use Rattle.tsumego_show.specs.Hints.{hints, mover_line}
+use Rattle.tsumego_show.specs.Hints.{comment_lines, hints, mover_line}
 use Rattle.tsumego_show.specs.Marking.{is_left, line_marked, problem_kept}
 use Rattle.tsumego_show.specs.Picture.{picture}
 use Rattle.tsumego_show.specs.Refusals.{fault_text, too_long_text, no_tree_text}
@@ -48,7 +48,7 @@ without_strategy behind =
 
 -- the number, the picture and the hints
 abbrev pub problem_text : ℕ → List Node → LineWithUndo → List ℕ
-problem_text k ns p = decimal k ++ (space ∷ (picture p ++ (mover_line ns ++ hints p)))
+problem_text k ns p = decimal k ++ (space ∷ (picture p ++ (mover_line ns ++ (comment_lines ns ++ hints p))))
 
 -- the text on tree number k with these bytes, whose main line is this problem and which is followed by the others: the picture with what follows it;
 -- or the diagram or the game tree with the strategy that stands there; or the tree as it was, since it has a mark

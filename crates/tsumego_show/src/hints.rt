@@ -1,10 +1,11 @@
 //! Hints on what is likely wrong in a problem.
-ghost use Rattle.std.specs.Prelude.{◌≡◌, ◌<◌, ◌++◌, OnOk, false};
+ghost use Rattle.std.specs.Prelude.{◌≡◌, ◌<◌, ◌++◌, OnOk, codes, false};
+ghost use Rattle.std.specs.List.{list_any};
 ghost use Rattle.tt_sgf.specs.Sizes.{point_count};
 ghost use Rattle.tt_game.specs.Nodes.{is_setup};
 ghost use Rattle.tsumego_show.specs.Hints.{attackers, both_names, defenders, editor_name, enclosed, held_chains, hints, is_mover_said, is_said_behind, is_wide, leaks, leaks_line};
 ghost use Rattle.tsumego_show.specs.Hints.{listed, member_name, members_text, mover_line, names_text, strangers, strangers_line, takeables, takeables_line, target_chains};
-ghost use Rattle.tsumego_show.specs.Hints.{unfillables, wide_line};
+ghost use Rattle.tsumego_show.specs.Hints.{comment_line, comment_lines, has_open_comment, is_left_open, is_open_comment, unfillables, wide_line};
 
 use crate::node_values::has;
 use crate::picture::editor_column_letter;
@@ -13,7 +14,7 @@ use crate::regions::{empties, near, reached, stones, untaken};
 use std::alloc::Global;
 use tt_game::{Line, Turn};
 use tt_proof::put_turn;
-use tt_sgf::{NoMemory, Node, PointSet, Size};
+use tt_sgf::{NoMemory, Node, PointSet, Property, Size};
 
 /// The most points of a board that may well be a region as a whole.
 const MOST_POINTS: usize = 10;
@@ -302,4 +303,88 @@ pub fn put_mover(out: &mut Vec<u8>, nodes: &[Node]) -> Result<(), NoMemory>
         out.extend_from_slice(b"hint: the setup has no PL, so Black is to move\n")?;
     }
     Ok(())
+}
+
+/// Whether a bracket with this name in front is open where a value ends, no `]` behind it.
+#[tactic(auto, using(crate::proofs::Said::left_none, crate::proofs::Said::left_closed, crate::proofs::Said::left_here, crate::proofs::Said::left_further))]
+fn is_left_open(name: &[u8], value: &[u8]) -> bool
+    ensures { result ≡ is_left_open name.now false value.now }
+{
+    let mut found = false;
+    let mut rest = value;
+    while let Some((byte, behind)) = rest.split_first() {
+        if *byte == b']' {
+            found = false;
+        } else if rest.starts_with(name) {
+            found = true;
+        }
+        rest = behind;
+    }
+    found
+}
+
+/// Whether a value of a property has such a bracket.
+fn has_left_open(property: &Property, name: &[u8]) -> bool
+    ensures { result ≡ list_any (is_left_open name.now false) property.now.values }
+{
+    let values = property.values.as_slice();
+    values
+        .iter()
+        .any(|value| is_left_open(name, value.as_slice()))
+}
+
+/// Whether a property is a comment with such a bracket.
+fn is_open_comment(property: &Property, name: &[u8]) -> bool
+    ensures { result ≡ is_open_comment name.now property.now }
+{
+    property.ident.as_slice() == b"C".as_slice() && has_left_open(property, name)
+}
+
+/// Whether a node has such a comment.
+fn has_open_comment(node: &Node, name: &[u8]) -> bool
+    ensures { result ≡ has_open_comment name.now node.now }
+{
+    let properties = node.properties.as_slice();
+    properties
+        .iter()
+        .any(|property| is_open_comment(property, name))
+}
+
+/// Whether one of these nodes has such a comment.
+fn have_open_comment(nodes: &[Node], name: &[u8]) -> bool
+    ensures { result ≡ list_any (has_open_comment name.now) nodes.now }
+{
+    nodes.iter().any(|node| has_open_comment(node, name))
+}
+
+/// Writes which name stands there, and a question, behind the text.
+fn put_question(out: &mut Vec<u8>, name: &[u8]) -> Result<(), NoMemory>
+    ensures { OnOk result (out.new.items ≡ out.old.items ++ (name.now ++ codes ": is its ] missing?\n")) }
+{
+    out.extend_from_slice(name)?;
+    Ok(out.extend_from_slice(b": is its ] missing?\n")?)
+}
+
+/// Writes the line on such a comment of these nodes behind the text.
+fn put_comment(out: &mut Vec<u8>, nodes: &[Node], name: &[u8]) -> Result<(), NoMemory>
+    ensures { OnOk result (out.new.items ≡ out.old.items ++ comment_line name.now nodes.now) }
+{
+    if have_open_comment(nodes, name) {
+        out.extend_from_slice(b"hint: a comment holds ")?;
+        return put_question(out, name);
+    }
+    Ok(())
+}
+
+/// Writes a line for each of PL, TR, SQ, AB and AW that stands with an open bracket in a comment of a main line behind the text: the
+/// `]` of the comment is likely missing, so that the property is a part of it. `NoMemory` where memory was refused; a part may stand
+/// there then.
+pub fn put_comments(out: &mut Vec<u8>, nodes: &[Node]) -> Result<(), NoMemory>
+    ensures { OnOk result (out.new.items ≡ out.old.items ++ comment_lines nodes.now) }
+{
+    put_comment(out, nodes, b"PL[")?;
+    put_comment(out, nodes, b"TR[")?;
+    put_comment(out, nodes, b"SQ[")?;
+    put_comment(out, nodes, b"AB[")?;
+    put_comment(out, nodes, b"AW[")
 }

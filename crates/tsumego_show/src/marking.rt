@@ -13,7 +13,7 @@ ghost use Rattle.tsumego_show.specs.Refusals.{fault_text};
 ghost use Rattle.tsumego_show.specs.TreeBytes.{kept_text};
 
 use crate::form::Place;
-use crate::hints::{put_both_names, put_hints, put_members};
+use crate::hints::{put_both_names, put_comments, put_hints, put_members};
 use crate::node_values::has;
 use crate::picture::colour_name;
 use crate::proposals::{StoneWithPoints, least_open, placed_point, proposed};
@@ -375,7 +375,10 @@ fn put_unmarked(
     ensures left { IfOk result (λ left. left ≡ is_game_left (has_squares main.nodes) place (game_of main.nodes)) }
 {
     match game_before_solution(alloc, &main) {
-        Ok(game) => put_game(alloc, out, place, number, &main, tree, game),
+        Ok(game) => {
+            put_comments(out, main.nodes.as_slice())?;
+            put_game(alloc, out, place, number, &main, tree, game)
+        }
         Err(GameFault::NoMemory) => Err(NoMemory),
         Err(fault) => {
             put_left(alloc, out, number, main, tree, fault)?;

@@ -2,9 +2,11 @@
 ghost use Rattle.std.specs.Prelude.{◌≡◌, ◌++◌, ◌+◌, ◌-◌, ◌≤◌, length, nat_eq, take, IfOk, MatchOption, OnOk, Some};
 ghost use Rattle.tt_game.specs.Faults.{code_of};
 ghost use Rattle.tt_game.specs.Problems.{problem_of};
+ghost use Rattle.tsumego_show.specs.Hints.{comment_lines};
 ghost use Rattle.tsumego_show.specs.Refusals.{at_node, fault_text, is_refused_with, nth_node, too_long_text, meaning, named_fault, needed, newlines, no_tree_text, refusal_line, unread_line, why_text};
 
 use crate::fault_details::put_look;
+use crate::hints::put_comments;
 use crate::tree_bytes::from_open;
 use std::alloc::Global;
 use tt_game::{GameFault, problem};
@@ -135,6 +137,14 @@ fn is_no_target(fault: GameFault) -> bool
     matches!(fault, GameFault::NoTarget)
 }
 
+/// Writes that no node of a main line has TR, and which comments may hold it, behind the text.
+fn put_no_target(out: &mut Vec<u8>, nodes: &[Node], fault: GameFault) -> Result<(), NoMemory>
+    ensures { OnOk result (out.new.items ≡ out.old.items ++ (meaning fault ++ comment_lines nodes.now)) }
+{
+    out.extend_from_slice(meaning(fault))?;
+    put_comments(out, nodes)
+}
+
 /// Writes why a main line is refused, at which node where one is and the main line is not too long to look for it, and how to go
 /// on behind the text.
 fn put_why(
@@ -145,7 +155,10 @@ fn put_why(
 ) -> Result<(), NoMemory>
     ensures { OnOk result (out.new.items ≡ out.old.items ++ why_text fault line.nodes) }
 {
-    if is_no_target(fault) || line.nodes.as_slice().len() > MOST_NODES {
+    if is_no_target(fault) {
+        return put_no_target(out, line.nodes.as_slice(), fault);
+    }
+    if line.nodes.as_slice().len() > MOST_NODES {
         return Ok(out.extend_from_slice(meaning(fault))?);
     }
     put_at_node(alloc, out, line, fault)

@@ -8,7 +8,7 @@ use crate::diagram::put_svg;
 use crate::drawing::put_certificate;
 use crate::form::Form;
 use crate::found::find;
-use crate::hints::{put_hints, put_mover};
+use crate::hints::{put_comments, put_hints, put_mover};
 use crate::marking::{put_line, put_problem_kept};
 use crate::picture::put_picture;
 use crate::refusals::{put_fault, put_length, put_no_tree};
@@ -43,6 +43,7 @@ fn put_problem(
     out.extend_from_slice(text.as_bytes())?;
     put_picture(alloc, out, line)?;
     put_mover(out, nodes)?;
+    put_comments(out, nodes)?;
     put_hints(alloc, out, line)
 }
 
