@@ -7,12 +7,14 @@ use Rattle.tt_board.specs.declared.Colour.{Colour}
 use Rattle.tt_board.specs.Play.{other}
 use Rattle.tt_game.specs.declared.frame.Side.{Side}
 use Rattle.tt_game.specs.declared.turns.Turn.{Turn}
+use Rattle.tt_game.specs.declared.turns.Turn.TheVariants.{Play, Pass}
 use Rattle.tt_game.specs.Game.{IsLegal, after, side_colour}
 use Rattle.tt_game.specs.Line.{LineWithUndo}
 use Rattle.tt_proof.specs.CertificateText.{IsTooDeep, shown_turn}
 use Rattle.tt_proof.specs.Proven.{first_of}
 use Rattle.tt_proof.specs.Strategy.{Strategy, Entries, done, pick, reply, none, entry}
 use Rattle.tsumego_show.specs.Found.{IsCertificateFor}
+use Rattle.tsumego_show.specs.Hints.{both_names}
 use Rattle.tsumego_show.specs.Picture.{board_text, colour_name}
 
 -- one step further in; the blanks in front of a line are 40 at the most
@@ -35,6 +37,11 @@ module _ (size : Size) where
       pub entries_lines : ℕ → Entries → List ℕ
       entries_lines level none = []
       entries_lines level (entry t u es) = turn_line level (other own) t ++ (tree_lines (deeper level) u ++ entries_lines level es)
+
+-- a turn by both names of its point
+abbrev pub both_turn_names : Size → Turn → List ℕ
+both_turn_names size (Play q) = both_names size q
+both_turn_names size Pass = codes "pass"
 
 -- the first n lines, and a line of three dots where there are more
 unfoldable pub first_lines : ℕ → List ℕ → List ℕ
@@ -70,9 +77,9 @@ module _ (p : LineWithUndo) where
   abbrev pub turned : Turn → LineWithUndo
   turned t = record { frame = p.frame; state = after p.frame p.state t; before = p.state ∷ [] }
 
-  -- `After Black ca:`
+  -- `After Black C7=ca:`
   abbrev pub turned_head : Turn → List ℕ
-  turned_head t = codes "After " ++ (colour_name (side_colour p.frame p.state.to_move) ++ (space ∷ (shown_turn p.frame.size t ++ codes ":\n")))
+  turned_head t = codes "After " ++ (colour_name (side_colour p.frame p.state.to_move) ++ (space ∷ (both_turn_names p.frame.size t ++ codes ":\n")))
 
   -- that, and the board then
   abbrev pub turned_text : Turn → List ℕ

@@ -2,13 +2,14 @@
 ghost use Rattle.std.specs.Prelude.{◌≡◌, ◌↔◌, ◌++◌, ℕ, List, IfOk, IfSome, IsTrue, MatchOption, OnOk};
 ghost use Rattle.tt_game.specs.Game.{IsLegal};
 ghost use Rattle.tt_proof.specs.Strategy.{IsInOrder, IsOnBoard, strategy_of};
-ghost use Rattle.tsumego_show.specs.Drawing.{BeginsWithTurn, DrawsFirst, turned, turned_head, turned_text};
+ghost use Rattle.tsumego_show.specs.Drawing.{BeginsWithTurn, DrawsFirst, both_turn_names, turned, turned_head, turned_text};
 
+use crate::hints::put_both_names;
 use crate::picture::{colour_name, put_board, side_colour};
 use std::alloc::Global;
 use tt_game::{Line, Side, Turn};
-use tt_proof::{Tree, put_shown};
-use tt_sgf::NoMemory;
+use tt_proof::Tree;
+use tt_sgf::{NoMemory, Size};
 
 /// Whether the side is to move, and the turn is legal.
 fn may_begin(line: &Line, side: Side, turn: Turn) -> bool
@@ -40,15 +41,31 @@ fn after(line: &Line, turn: Turn) -> Result<Line, NoMemory>
     Ok(next)
 }
 
+/// Writes a turn by both names of its point behind the text.
+fn put_both_turn_names(
+    alloc: Global,
+    out: &mut Vec<u8>,
+    size: Size,
+    turn: Turn,
+) -> Result<(), NoMemory>
+    requires { IsOnBoard size turn }
+    ensures { OnOk result (out.new.items ≡ out.old.items ++ both_turn_names size turn) }
+{
+    match turn {
+        Turn::Play(point) => put_both_names(alloc, out, size, usize::from(point.number())),
+        Turn::Pass => Ok(out.extend_from_slice(b"pass")?),
+    }
+}
+
 /// Writes who makes which turn behind the text.
-fn put_head(out: &mut Vec<u8>, line: &Line, turn: Turn) -> Result<(), NoMemory>
+fn put_head(alloc: Global, out: &mut Vec<u8>, line: &Line, turn: Turn) -> Result<(), NoMemory>
     requires { IsOnBoard line.now.frame.size turn }
     ensures { OnOk result (out.new.items ≡ out.old.items ++ turned_head line.now turn) }
 {
     out.extend_from_slice(b"After ")?;
     out.extend_from_slice(colour_name(side_colour(line, line.to_move())))?;
     out.push(b' ')?;
-    put_shown(out, turn, line.frame().size)?;
+    put_both_turn_names(alloc, out, line.frame().size, turn)?;
     Ok(out.extend_from_slice(b":\n")?)
 }
 
@@ -59,7 +76,7 @@ fn put_turned(alloc: Global, out: &mut Vec<u8>, line: &Line, turn: &Turn) -> Res
     ensures { OnOk result (out.new.items ≡ out.old.items ++ turned_text line.now turn.now) }
 {
     let next = after(line, *turn)?;
-    put_head(out, line, *turn)?;
+    put_head(alloc, out, line, *turn)?;
     put_board(alloc, out, &next)
 }
 
