@@ -1,5 +1,5 @@
 -- What is written for an input: a text on each of its game trees.
-use Rattle.std.specs.Prelude.{◌≡◌, ◌⊎◌, ◌+◌, ◌<◌, ◌≤◌, ℕ, Bool, true, false, ◌&&◌, ◌||◌, not, nat_eq, List, [], ◌∷◌, ◌++◌, length, drop, take, codes, decimal, Ok, Err, if◌then◌else◌}
+use Rattle.std.specs.Prelude.{is_some, ◌≡◌, ◌⊎◌, ◌+◌, ◌<◌, ◌≤◌, ℕ, Bool, true, false, ◌&&◌, ◌||◌, not, nat_eq, List, [], ◌∷◌, ◌++◌, length, drop, take, codes, decimal, Ok, Err, if◌then◌else◌}
 use Rattle.std.specs.declared.result.Result.{Result}
 use Rattle.tt_sgf.specs.declared.trees.TheConstants.{MAX_BYTES}
 use Rattle.tt_sgf.specs.Bytes.{space}
@@ -15,7 +15,7 @@ use Rattle.tsumego_show.specs.Diagram.{svg_text}
 use Rattle.tsumego_show.specs.Drawing.{DrawsCertificate}
 use Rattle.tsumego_show.specs.Found.{Found, StandsBehind}
 use Rattle.tsumego_show.specs.Hints.{comment_lines, hints, mover_line}
-use Rattle.tsumego_show.specs.Marking.{is_left, line_marked, problem_kept}
+use Rattle.tsumego_show.specs.Marking.{is_left, line_marked, node_without_squares, problem_kept}
 use Rattle.tsumego_show.specs.Picture.{picture}
 use Rattle.tsumego_show.specs.Refusals.{fault_text, too_long_text, no_tree_text}
 use Rattle.tsumego_show.specs.Solution.{solution}
@@ -76,15 +76,15 @@ abbrev pub IsTreeText : Form → ℕ → List ℕ → List Node → Result LineW
 IsTreeText form k tree ns (Ok p) behind text = IsProblemText form k tree ns p behind text
 IsTreeText form k tree ns (Err e) behind text = text ≡ fault_told form k tree ns e
 
--- and whether it is refused
-abbrev pub is_one_of_several : Form → ℕ → List ℕ → Bool
-is_one_of_several Picture k behind = false
-is_one_of_several Diagram k behind = not (is_alone k behind)
-is_one_of_several (Variations depth) k behind = false
-is_one_of_several (Marks place) k behind = false
+-- and whether it is refused: a diagram beside others, and a problem whose triangles have no squares where marks are wanted
+abbrev pub is_problem_left : Form → ℕ → List Node → List ℕ → Bool
+is_problem_left Picture k ns behind = false
+is_problem_left Diagram k ns behind = not (is_alone k behind)
+is_problem_left (Variations depth) k ns behind = false
+is_problem_left (Marks place) k ns behind = is_some (node_without_squares 0 ns)
 
 abbrev pub is_tree_refused : Form → ℕ → List Node → Result LineWithUndo GameFault → List ℕ → Bool
-is_tree_refused form k ns (Ok p) behind = is_one_of_several form k behind
+is_tree_refused form k ns (Ok p) behind = is_problem_left form k ns behind
 is_tree_refused form k ns (Err e) behind = is_fault_left form ns
 
 -- The text on bytes at the end of an input, whose first tree has number k, and whether something is refused: a tree

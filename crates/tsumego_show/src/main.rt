@@ -33,6 +33,7 @@ use form::Form;
 use running::run;
 use std::alloc::AllocError;
 use std::env;
+use std::io::IsTerminal;
 use std::process::ExitCode;
 
 /// What the words behind the program's name ask for, if anything.
@@ -60,6 +61,13 @@ fn behind_name(words: &[String]) -> Option<Form> {
     form_of(words)
 }
 
+/// Says that trees were left without marks, where nobody reads the reasons: they went to a file or to a program.
+fn tell_unmarked(rt: &HostRuntime, form: Form, status: u8) {
+    if status == 1 && matches!(form, Form::Marks(_)) && !rt.stdout().is_terminal() {
+        let _ = eprintln!(rt; "tsumego-show: not all trees were marked: the output says why");
+    }
+}
+
 fn main(rt: HostRuntime) -> ExitCode {
     let Some(form) = asked(&rt) else {
         let _ = eprintln!(rt; "tsumego-show: {USAGE}");
@@ -68,7 +76,10 @@ fn main(rt: HostRuntime) -> ExitCode {
     let mut reader = Watched::new(rt.stdin());
     let mut writer = Watched::new(rt.stdout());
     match run(rt.alloc(), form, &mut reader, &mut writer) {
-        Ok(status) => ExitCode::from(status),
+        Ok(status) => {
+            tell_unmarked(&rt, form, status);
+            ExitCode::from(status)
+        }
         Err(fault) => {
             let _ = eprintln!(rt; "tsumego-show: {fault}");
             ExitCode::from(2)

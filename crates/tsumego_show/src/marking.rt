@@ -410,7 +410,7 @@ pub fn put_line(
 
 /// The number of the first node with triangles, counted from 1, where it has no squares.
 #[tactic(auto, using(crate::proofs::Said::without_none, crate::proofs::Said::without_here, crate::proofs::Said::without_squared, crate::proofs::Said::without_further))]
-fn node_without_squares(nodes: &[Node]) -> Option<usize>
+pub fn node_without_squares(nodes: &[Node]) -> Option<usize>
     ensures { result ≡ node_without_squares 0 nodes.now }
 {
     let mut number: usize = 0;

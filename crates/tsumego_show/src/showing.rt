@@ -2,14 +2,14 @@
 ghost use Rattle.std.specs.Prelude.{◌≡◌, ◌++◌, if◌then◌else◌, ℕ, List, [], true, IfOk, OnOk};
 ghost use Rattle.tt_game.specs.Problems.{problem_of};
 ghost use Rattle.tsumego_show.specs.declared.form.Form.TheVariants.{Picture, Variations};
-ghost use Rattle.tsumego_show.specs.Shown.{DrawsBehind, IsDiagram, IsProblemText, IsShown, IsTreeText, fault_told, is_alone, is_fault_left, is_one_of_several, is_tree_refused, problem_text, one_of_several_line, without_strategy};
+ghost use Rattle.tsumego_show.specs.Shown.{DrawsBehind, IsDiagram, IsProblemText, IsShown, IsTreeText, fault_told, is_alone, is_fault_left, is_problem_left, is_tree_refused, problem_text, one_of_several_line, without_strategy};
 
 use crate::diagram::put_svg;
 use crate::drawing::put_certificate;
 use crate::form::Form;
 use crate::found::find;
 use crate::hints::{put_comments, put_hints, put_mover};
-use crate::marking::{put_line, put_problem_kept};
+use crate::marking::{node_without_squares, put_line, put_problem_kept};
 use crate::picture::put_picture;
 use crate::refusals::{put_fault, put_length, put_no_tree};
 use crate::solution::solution;
@@ -174,13 +174,14 @@ fn put_untold(
     }
 }
 
-/// Whether a problem isn't drawn, since there are several.
-fn is_one_of_several(form: Form, number: usize, behind: &[u8]) -> bool
-    ensures { result ≡ is_one_of_several form number behind.now }
+/// Whether a problem isn't drawn, since there are several, or not marked, since it has triangles without squares.
+fn is_problem_left(form: Form, number: usize, nodes: &[Node], behind: &[u8]) -> bool
+    ensures { result ≡ is_problem_left form number nodes.now behind.now }
 {
     match form {
         Form::Diagram => !is_alone(number, behind),
-        Form::Picture | Form::Variations(_) | Form::Marks(_) => false,
+        Form::Marks(_) => node_without_squares(nodes).is_some(),
+        Form::Picture | Form::Variations(_) => false,
     }
 }
 
@@ -202,7 +203,7 @@ fn put_tree(
         Ok(mut line) => {
             let nodes = main.nodes.as_slice();
             put_whole(alloc, out, form, number, tree, nodes, &mut line, behind)?;
-            Ok(is_one_of_several(form, number, behind))
+            Ok(is_problem_left(form, number, nodes, behind))
         }
         Err(GameFault::NoMemory) => Err(NoMemory),
         Err(fault) => put_untold(alloc, out, form, number, tree, main, fault),
