@@ -1,9 +1,12 @@
 -- Lemmas on the first lines of a text, and on what is drawn of a certificate.
 use Rattle.std.proofs.Common.{◌≡◌, inl, inr, ℕ, ◌+◌, ◌-◌, ◌%◌, ◌/◌, Bool, false, zero, suc, nat_eq, rules, List, [], ◌∷◌, ◌++◌, codes, replicate, sym, ◌∙◌, if◌then◌else◌, ◌==◌, ap, ap₂}
-use Rattle.std.proofs.Common.{append-nil}
+use Rattle.std.proofs.Common.{append-nil, decimal, nat_lt, ◌<◌, ◌^◌}
 use Rattle.std.proofs.Common.{append_assoc, subst, Option, None, Some, Result, Ok, Err, OnOk, arith}
 use Rattle.std.proofs.lemmas.Bool.{cases_Bool}
-use Rattle.tt_sgf.specs.Bytes.{lower_a, newline, space}
+use Rattle.std.proofs.lemmas.Fmt.{decimal_is_IsNumeral}
+use Rattle.std.proofs.lemmas.Str.Parse.{tells_digits}
+use Rattle.std.specs.Str.Parse.{AllDigits}
+use Rattle.tt_sgf.specs.Bytes.{lower_a, newline, space, upper_A}
 use Rattle.tt_sgf.specs.declared.size.Size.{Size}
 use Rattle.tt_board.specs.declared.Colour.{Colour}
 use Rattle.tt_board.specs.declared.Colour.TheVariants.{Black, White}
@@ -15,13 +18,14 @@ use Rattle.tt_game.specs.Game.{side_colour}
 use Rattle.tt_game.specs.Line.{LineWithUndo}
 use Rattle.tt_proof.specs.declared.certificate_read.CertFault.{CertFault}
 use Rattle.tt_proof.specs.declared.certificate_read.CertFault.TheVariants.{Syntax, TooDeep}
-use Rattle.tt_proof.specs.CertificateText.{IsTooDeep, shown_turn}
+use Rattle.tt_proof.specs.CertificateText.{IsTooDeep, turn_text}
 use Rattle.tt_proof.specs.Strategy.{Strategy}
-use Rattle.tsumego_show.specs.Drawing.{DrawsCertificate, DrawsFirst, drawn, deep_drawn, deep_line, first_lines, heading, most_lines, none_drawn, none_line, strategy_text, tree_lines, turn_line}
+use Rattle.tsumego_show.specs.Drawing.{both_turn_names, DrawsCertificate, DrawsFirst, drawn, deep_drawn, deep_line, first_lines, heading, most_lines, none_drawn, none_line, strategy_text, tree_lines, turn_line}
 use Rattle.tsumego_show.specs.Found.{IsCertificateFor}
 use Rattle.tsumego_show.specs.inside.Lines.{Goes}
 use Rattle.tsumego_show.specs.inside.Trees.{IsReadFault}
-use Rattle.tsumego_show.specs.Picture.{colour_name}
+use Rattle.tsumego_show.specs.Hints.{both_names}
+use Rattle.tsumego_show.specs.Picture.{colour_name, editor_column_letter, row_number}
 
 abbrev IsInLine : ℕ → Type 0
 IsInLine b = b ≡ newline → ⊥
@@ -69,13 +73,13 @@ line_shown n (b ∷ xs) rest some in_line =
 
 -- the turn without its newline
 turn_words : Size → ℕ → Colour → Turn → List ℕ
-turn_words size level k t = replicate level space ++ (colour_name k ++ (space ∷ shown_turn size t))
+turn_words size level k t = replicate level space ++ (colour_name k ++ (space ∷ both_turn_names size t))
 
 turn_line_is : (size : Size) (level : ℕ) (k : Colour) (t : Turn) → turn_line size level k t ≡ turn_words size level k t ++ newline ∷ []
 unfolding turn_line turn_words
 turn_line_is size level k t =
-    sym (append_assoc (replicate level space) (colour_name k ++ (space ∷ shown_turn size t)) (newline ∷ [])
-    ∙ ap (λ (x : List ℕ). replicate level space ++ x) (append_assoc (colour_name k) (space ∷ shown_turn size t) (newline ∷ [])))
+    sym (append_assoc (replicate level space) (colour_name k ++ (space ∷ both_turn_names size t)) (newline ∷ [])
+    ∙ ap (λ (x : List ℕ). replicate level space ++ x) (append_assoc (colour_name k) (space ∷ both_turn_names size t) (newline ∷ [])))
 
 behind_newline : (n : ℕ) → IsInLine (11 + n)
 behind_newline n e = omega (arith, e)
@@ -88,15 +92,33 @@ unfolding colour_name
 name_in_line Black = (behind_newline 55, (behind_newline 97, (behind_newline 86, (behind_newline 88, (behind_newline 96, tt)))))
 name_in_line White = (behind_newline 76, (behind_newline 93, (behind_newline 94, (behind_newline 105, (behind_newline 90, tt)))))
 
-turn_in_line : (size : Size) (t : Turn) → InLine (shown_turn size t)
-turn_in_line size (Play p) = (letter_in_line (p % size.columns), (letter_in_line (p / size.columns), tt))
+digits_in_line : (bs : List ℕ) → AllDigits 10 bs → InLine bs
+digits_in_line [] d = tt
+digits_in_line (b ∷ bs) d = let k = tells_digits.parts b bs d in ((λ e. omega (arith, e, k.0.0)), digits_in_line bs k.1)
+
+row_in_line : (size : Size) (n : ℕ) → InLine (decimal (row_number size n))
+row_in_line size n = digits_in_line (decimal (row_number size n)) (decimal_is_IsNumeral (row_number size n) (let low : size.rows - n < 2 ^ 64 = omega (arith, size.rows_in.1) in low)).0.1
+
+column_in_line : (n : ℕ) → IsInLine (editor_column_letter n)
+column_in_line n e = elim (cases_Bool (nat_lt n 8)) [ inl on ↦ (let h : upper_A + n ≡ newline = rw on at e in omega (arith, h)) | inr off ↦ (let h : upper_A + n + 1 ≡ newline = rw off at e in omega (arith, h)) ]
+
+names_in_line : (size : Size) (q : ℕ) → InLine (both_names size q)
+unfolding both_names
+names_in_line size q = (
+  column_in_line (q % size.columns),
+  both_in_line (decimal (row_number size (q / size.columns))) (codes "=" ++ turn_text size (Play q)) (row_in_line size (q / size.columns))
+      (behind_newline 50, (letter_in_line (q % size.columns), (letter_in_line (q / size.columns), tt))),
+)
+
+turn_in_line : (size : Size) (t : Turn) → InLine (both_turn_names size t)
+turn_in_line size (Play p) = names_in_line size p
 turn_in_line size Pass = (behind_newline 101, (behind_newline 86, (behind_newline 104, (behind_newline 104, tt))))
 
 words_in_line : (size : Size) (level : ℕ) (k : Colour) (t : Turn) → InLine (turn_words size level k t)
 unfolding turn_words
 words_in_line size level k t =
-    both_in_line (replicate level space) (colour_name k ++ (space ∷ shown_turn size t)) (blanks_in_line level)
-    (both_in_line (colour_name k) (space ∷ shown_turn size t) (name_in_line k) ((λ e. omega (arith, e)), turn_in_line size t))
+    both_in_line (replicate level space) (colour_name k ++ (space ∷ both_turn_names size t)) (blanks_in_line level)
+    (both_in_line (colour_name k) (space ∷ both_turn_names size t) (name_in_line k) ((λ e. omega (arith, e)), turn_in_line size t))
 
 -- ---- what goes on behind a text
 

@@ -10,7 +10,7 @@ use Rattle.tt_game.specs.declared.turns.Turn.{Turn}
 use Rattle.tt_game.specs.declared.turns.Turn.TheVariants.{Play, Pass}
 use Rattle.tt_game.specs.Game.{IsLegal, after, side_colour}
 use Rattle.tt_game.specs.Line.{LineWithUndo}
-use Rattle.tt_proof.specs.CertificateText.{IsTooDeep, shown_turn}
+use Rattle.tt_proof.specs.CertificateText.{IsTooDeep}
 use Rattle.tt_proof.specs.Proven.{first_of}
 use Rattle.tt_proof.specs.Strategy.{Strategy, Entries, done, pick, reply, none, entry}
 use Rattle.tsumego_show.specs.Found.{IsCertificateFor}
@@ -21,10 +21,15 @@ use Rattle.tsumego_show.specs.Picture.{board_text, colour_name}
 abbrev pub deeper : ℕ → ℕ
 deeper level = if nat_lt level 40 then level + 1 else level
 
+-- a turn by both names of its point
+abbrev pub both_turn_names : Size → Turn → List ℕ
+both_turn_names size (Play q) = both_names size q
+both_turn_names size Pass = codes "pass"
+
 module _ (size : Size) where
   -- blanks, who plays, and the turn; a newline ends the line
   unfoldable pub turn_line : ℕ → Colour → Turn → List ℕ
-  turn_line level k t = replicate level space ++ (colour_name k ++ (space ∷ (shown_turn size t ++ newline ∷ [])))
+  turn_line level k t = replicate level space ++ (colour_name k ++ (space ∷ (both_turn_names size t ++ newline ∷ [])))
 
   module _ (own : Colour) where
     abbrev mutual
@@ -37,11 +42,6 @@ module _ (size : Size) where
       pub entries_lines : ℕ → Entries → List ℕ
       entries_lines level none = []
       entries_lines level (entry t u es) = turn_line level (other own) t ++ (tree_lines (deeper level) u ++ entries_lines level es)
-
--- a turn by both names of its point
-abbrev pub both_turn_names : Size → Turn → List ℕ
-both_turn_names size (Play q) = both_names size q
-both_turn_names size Pass = codes "pass"
 
 -- the first n lines, and a line of three dots where there are more
 unfoldable pub first_lines : ℕ → List ℕ → List ℕ

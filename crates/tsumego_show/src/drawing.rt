@@ -1,19 +1,18 @@
 //! Draws what follows a problem: the first turn and the strategy of a certificate.
 ghost use Rattle.std.specs.Prelude.{◌≡◌, ◌++◌, ◌∷◌, [], ℕ, List, replicate, IfOk, OnOk};
 ghost use Rattle.tt_sgf.specs.Bytes.{newline, space};
-ghost use Rattle.tt_proof.specs.CertificateText.{shown_turn};
 ghost use Rattle.tt_proof.specs.Strategy.{AreInOrder, IsInOrder, IsOnBoard, entries_of_list, strategy_of};
 ghost use Rattle.tsumego_show.specs.Picture.{colour_name};
-ghost use Rattle.tsumego_show.specs.Drawing.{DrawsCertificate, DrawsFirst, deep_line, deeper, entries_lines, heading, none_line, strategy_text, tree_lines, turn_line};
+ghost use Rattle.tsumego_show.specs.Drawing.{DrawsCertificate, DrawsFirst, both_turn_names, deep_line, deeper, entries_lines, heading, none_line, strategy_text, tree_lines, turn_line};
 ghost use Rattle.tsumego_show.specs.inside.Lines.{Goes};
 
 use crate::certificates::read_either;
-use crate::first_turn::put_first_turn;
+use crate::first_turn::{put_both_turn_names, put_first_turn};
 use crate::picture::{colour_name, side_colour};
 use std::alloc::Global;
 use tt_board::Colour;
 use tt_game::{Line, Side, Turn};
-use tt_proof::{CertFault, Tree, put_shown};
+use tt_proof::{CertFault, Tree};
 use tt_sgf::{NoMemory, Size};
 
 /// How many lines of a strategy are shown.
@@ -37,13 +36,19 @@ fn put_blanks(out: &mut Vec<u8>, level: usize) -> Result<(), NoMemory>
 }
 
 /// Writes who plays and a turn behind the text.
-fn put_played(out: &mut Vec<u8>, turn: Turn, size: Size, colour: Colour) -> Result<(), NoMemory>
+fn put_played(
+    alloc: Global,
+    out: &mut Vec<u8>,
+    turn: Turn,
+    size: Size,
+    colour: Colour,
+) -> Result<(), NoMemory>
     requires { IsOnBoard size turn }
-    ensures { OnOk result (out.new.items ≡ out.old.items ++ colour_name colour ++ space ∷ (shown_turn size turn ++ newline ∷ [])) }
+    ensures { OnOk result (out.new.items ≡ out.old.items ++ colour_name colour ++ space ∷ (both_turn_names size turn ++ newline ∷ [])) }
 {
     out.extend_from_slice(colour_name(colour))?;
     out.push(b' ')?;
-    put_shown(out, turn, size)?;
+    put_both_turn_names(alloc, out, size, turn)?;
     out.push(b'\n')?;
     Ok(())
 }
@@ -51,6 +56,7 @@ fn put_played(out: &mut Vec<u8>, turn: Turn, size: Size, colour: Colour) -> Resu
 /// Writes the line of a turn behind the text.
 #[tactic(auto, unfolding(crate::specs::Drawing::turn_line))]
 fn put_line(
+    alloc: Global,
     out: &mut Vec<u8>,
     turn: Turn,
     size: Size,
@@ -61,12 +67,13 @@ fn put_line(
     ensures { OnOk result (out.new.items ≡ out.old.items ++ turn_line size level colour turn) }
 {
     put_blanks(out, level)?;
-    put_played(out, turn, size, colour)
+    put_played(alloc, out, turn, size, colour)
 }
 
 /// Writes the line of a turn behind the text, where lines are left, and else three dots. The answer is how many lines are left;
 /// none behind the dots.
 fn put_next_line(
+    alloc: Global,
     out: &mut Vec<u8>,
     turn: Turn,
     size: Size,
@@ -81,13 +88,14 @@ fn put_next_line(
         out.extend_from_slice(b"...\n")?;
         return Ok(None);
     }
-    put_line(out, turn, size, colour, level)?;
+    put_line(alloc, out, turn, size, colour, level)?;
     Ok(Some(left - 1))
 }
 
 /// Writes the lines of a tree behind the text, as many as are left.
 #[cycle(draw)]
 fn put_tree(
+    alloc: Global,
     out: &mut Vec<u8>,
     tree: &Tree,
     size: Size,
@@ -100,14 +108,15 @@ fn put_tree(
 {
     match tree {
         Tree::Done => Ok(Some(left)),
-        Tree::Pick(turn, child) => put_turn(out, *turn, own, child, size, own, level, left),
-        Tree::Reply(list) => put_entries(out, list, size, own, level, left),
+        Tree::Pick(turn, child) => put_turn(alloc, out, *turn, own, child, size, own, level, left),
+        Tree::Reply(list) => put_entries(alloc, out, list, size, own, level, left),
     }
 }
 
 /// Writes the lines of a turn and of what follows it.
 #[cycle(draw)]
 fn put_turn(
+    alloc: Global,
     out: &mut Vec<u8>,
     turn: Turn,
     colour: Colour,
@@ -122,8 +131,8 @@ fn put_turn(
     ensures { IfOk result (λ r. Goes r out.new.items out.old.items left
         (turn_line size level colour turn ++ tree_lines size own (deeper level) (strategy_of child.now))) }
 {
-    match put_next_line(out, turn, size, colour, level, left) {
-        Ok(Some(more)) => put_tree(out, child, size, own, deeper(level), more),
+    match put_next_line(alloc, out, turn, size, colour, level, left) {
+        Ok(Some(more)) => put_tree(alloc, out, child, size, own, deeper(level), more),
         Ok(None) => Ok(None),
         Err(e) => Err(e),
     }
@@ -131,6 +140,7 @@ fn put_turn(
 
 #[cycle(draw)]
 fn put_entries(
+    alloc: Global,
     out: &mut Vec<u8>,
     list: &[(Turn, Tree)],
     size: Size,
@@ -143,7 +153,17 @@ fn put_entries(
 {
     let mut more = left;
     for (turn, child) in list {
-        match put_turn(out, *turn, own.other(), child, size, own, level, more) {
+        match put_turn(
+            alloc,
+            out,
+            *turn,
+            own.other(),
+            child,
+            size,
+            own,
+            level,
+            more,
+        ) {
             Ok(Some(rest)) => more = rest,
             Ok(None) => return Ok(None),
             Err(e) => return Err(e),
@@ -162,13 +182,19 @@ fn put_heading(out: &mut Vec<u8>, colour: Colour) -> Result<(), NoMemory>
 }
 
 /// Writes the strategy of a side behind the text.
-fn put_strategy(out: &mut Vec<u8>, line: &Line, side: Side, tree: &Tree) -> Result<(), NoMemory>
+fn put_strategy(
+    alloc: Global,
+    out: &mut Vec<u8>,
+    line: &Line,
+    side: Side,
+    tree: &Tree,
+) -> Result<(), NoMemory>
     requires { IsInOrder line.now.frame.size (strategy_of tree.now) }
     ensures { OnOk result (out.new.items ≡ out.old.items ++ strategy_text line.now side (strategy_of tree.now)) }
 {
     let own = side_colour(line, side);
     put_heading(out, own)?;
-    put_tree(out, tree, line.frame().size, own, 1, MOST_LINES)?;
+    put_tree(alloc, out, tree, line.frame().size, own, 1, MOST_LINES)?;
     Ok(())
 }
 
@@ -203,7 +229,7 @@ fn put_drawn(
         × (out.new.items ≡ out.old.items ++ (text ++ strategy_text line.now side (strategy_of tree.now)))) }
 {
     put_first_turn(alloc, out, line, side, tree)?;
-    put_strategy(out, line, side, tree)
+    put_strategy(alloc, out, line, side, tree)
 }
 
 /// Writes the text on what follows a problem behind the text. Where it is a certificate, the board after its side's first turn,

@@ -42,7 +42,7 @@ fn after(line: &Line, turn: Turn) -> Result<Line, NoMemory>
 }
 
 /// Writes a turn by both names of its point behind the text.
-fn put_both_turn_names(
+pub fn put_both_turn_names(
     alloc: Global,
     out: &mut Vec<u8>,
     size: Size,
