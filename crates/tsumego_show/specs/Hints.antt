@@ -132,7 +132,7 @@ unfoldable pub is_left_open : List ℕ → Bool → List ℕ → Bool
 is_left_open name before [] = before
 is_left_open name before (b ∷ bs) = is_left_open name (if nat_eq b close_value then false else (starts_with ◌==◌ (b ∷ bs) name || before)) bs
 
--- a comment with such a bracket, which was likely to be a property behind it
+-- a comment with such a bracket: its `]` is likely missing, and the property behind has become a part of it
 abbrev pub is_open_comment : List ℕ → Property → Bool
 is_open_comment name p = pointwise ◌==◌ p.ident (codes "C") && list_any (is_left_open name false) p.values
 
@@ -142,7 +142,7 @@ has_open_comment name n = list_any (is_open_comment name) n.properties
 abbrev pub comment_line : List ℕ → List Node → List ℕ
 comment_line name ns = if list_any (has_open_comment name) ns then codes "hint: a comment holds " ++ (name ++ codes ": is its ] missing?\n") else []
 
--- the lines on the names that say who moves, what is marked, and where stones are
+-- the lines on who moves, the marks and the stones
 abbrev pub comment_lines : List Node → List ℕ
 comment_lines ns =
     comment_line (codes "PL[") ns ++ (comment_line (codes "TR[") ns ++ (comment_line (codes "SQ[") ns ++ (comment_line (codes "AB[") ns ++ comment_line (codes "AW[") ns)))

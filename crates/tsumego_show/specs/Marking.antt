@@ -195,7 +195,7 @@ module _ (s : GameState) where
   with_mark is_squared place k n tree None = refusal_line k (code_of NoTarget) ++ (codes "why: " ++ (why_left is_squared place ++ kept_text tree))
   with_mark is_squared place k n tree (Some m) = marked_text n (marked s m) tree
 
--- what is written of a main line without triangles: which comments go on too far, where up to its end it comes to a game; or why it is refused
+-- what is written of a main line without triangles: up to where it asks it comes to a game, and comments may go on too far; or it is refused
 abbrev pub game_marked : Option Place → ℕ → List ℕ → List Node → Result GameState GameFault → List ℕ
 game_marked place k tree ns (Ok s) = comment_lines ns ++ with_mark s (has_squares ns) place k (nodes_before_solution false ns) tree (proposed s (has_squares ns) place)
 game_marked place k tree ns (Err e) = fault_text k ns e ++ kept_text tree
