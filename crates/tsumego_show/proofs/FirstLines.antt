@@ -100,7 +100,9 @@ row_in_line : (size : Size) (n : ℕ) → InLine (decimal (row_number size n))
 row_in_line size n = digits_in_line (decimal (row_number size n)) (decimal_is_IsNumeral (row_number size n) (let low : size.rows - n < 2 ^ 64 = omega (arith, size.rows_in.1) in low)).0.1
 
 column_in_line : (n : ℕ) → IsInLine (editor_column_letter n)
-column_in_line n e = elim (cases_Bool (nat_lt n 8)) [ inl on ↦ (let h : upper_A + n ≡ newline = rw on at e in omega (arith, h)) | inr off ↦ (let h : upper_A + n + 1 ≡ newline = rw off at e in omega (arith, h)) ]
+column_in_line n e =
+    elim (cases_Bool (nat_lt n 8))
+    [ inl on ↦ (let h : upper_A + n ≡ newline = rw on at e in omega (arith, h)) | inr off ↦ (let h : upper_A + n + 1 ≡ newline = rw off at e in omega (arith, h)) ]
 
 names_in_line : (size : Size) (q : ℕ) → InLine (both_names size q)
 unfolding both_names
