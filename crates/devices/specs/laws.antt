@@ -1,2 +1,2 @@
 -- What crates above cite: laws of the definitions, with their proofs. Nobody has to believe these.
-pub mod PartLaws
+pub mod PrefixLaws

@@ -3,12 +3,12 @@
 ghost use Rattle.std.specs.Prelude.{◌≡◌, IfOk, IfSome, IsTrue};
 ghost use Rattle.std.specs.Arc.{arc_value};
 ghost use Rattle.tt_proof.specs.CertificateText.{certificate_text};
-ghost use Rattle.tt_proof.specs.Proven.{StandsAt};
+ghost use Rattle.tt_proof.specs.ProofClaim.{StandsAt};
 ghost use Rattle.library.specs.ValidCertificates.{IsValidCertificate};
 
 use std::alloc::Global;
 use std::sync::Arc;
-use tt_dfpn::{Visits, find_proof};
+use tt_dfpn::{VisitsLeft, find_proof};
 use tt_game::Line;
 use tt_proof::{CertFault, MOST_DEPTH, Proof, read_cert, replay, write_cert};
 use tt_search::{Limits, PrivateStore};
@@ -16,7 +16,7 @@ use tt_sgf::NoMemory;
 use tt_share::{Answer, solve_one};
 
 /// How many positions df-pn may visit.
-const POSITIONS: u32 = 100_000;
+const DFPN_POSITIONS: u32 = 100_000;
 
 /// How many nodes may be expanded after each first turn.
 const BUDGET: u32 = 100_000;
@@ -25,13 +25,15 @@ const BUDGET: u32 = 100_000;
 fn proof_by_dfpn(alloc: Global, line: &Line) -> Result<Option<Proof>, NoMemory>
     ensures { IfOk result (λ o. IfSome o (λ p. StandsAt p line.now.frame line.now.state)) }
 {
-    let mut visits = Visits { left: POSITIONS };
+    let mut visits = VisitsLeft {
+        left: DFPN_POSITIONS,
+    };
     let mut copy = line.try_clone()?;
     find_proof(alloc, &mut copy, MOST_DEPTH, &mut visits)
 }
 
 /// The same behind a handle, where memory suffices for it.
-fn found(alloc: Global, line: &Line) -> Option<Arc<Proof>>
+fn dfpn_proof_handle(alloc: Global, line: &Line) -> Option<Arc<Proof>>
     ensures { IfSome result (λ proof. StandsAt (arc_value proof) line.now.frame line.now.state) }
 {
     match proof_by_dfpn(alloc, line) {
@@ -45,13 +47,13 @@ fn found(alloc: Global, line: &Line) -> Option<Arc<Proof>>
 }
 
 /// A proof that stands at the line, where the limits and memory suffice for one and nobody has won yet.
-pub fn proof_at(alloc: Global, line: &Line) -> Option<Arc<Proof>>
+pub fn find_proof_at(alloc: Global, line: &Line) -> Option<Arc<Proof>>
     ensures { IfSome result (λ proof. StandsAt (arc_value proof) line.now.frame line.now.state) }
 {
     if line.winner().is_some() {
         return None;
     }
-    let known = found(alloc, line);
+    let known = dfpn_proof_handle(alloc, line);
     if known.is_some() {
         return known;
     }

@@ -7,17 +7,17 @@ use Rattle.devices.specs.declared.fault.RunFault.{RunFault}
 use Rattle.devices.specs.declared.fault.RunFault.TheVariants.{Input, Output, Memory}
 use Rattle.tt_text.specs.declared.outcome.TreeOutcome.{TreeOutcome}
 use Rattle.tt_sgf.specs.declared.nodes.Node.{Node}
-use Rattle.tt_text.specs.declared.finding.Finding.{Finding}
+use Rattle.tt_text.specs.declared.checking.CheckOutcome.{CheckOutcome}
 use Rattle.tt_text.specs.Checking.{Finds, IsCheckText, first_tree, no_tree}
 use Rattle.tt_text.specs.Checking as find
 use Rattle.tsumego.specs.declared.task.TreeTask.{TreeTask}
 use Rattle.tsumego.specs.Tasks.{MakesOutcome}
 use Rattle.tt_text.specs.Trees.{AreOutcomes, BeginsTreesText, EarlierTreesText, IsTreesText, all_lines, all_read, before_more, no_line, nothing, some_lines, stopped, too_long}
 use Rattle.devices.specs.Watching.{IsReadInput}
-use Rattle.devices.specs.laws.PartLaws.{cut_or_whole}
+use Rattle.devices.specs.laws.PrefixLaws.{prefix_is_whole_or_full}
 use Rattle.devices.specs.Faults.{is_output_fault}
 use Rattle.devices.specs.Writing.{HoldsForInput}
-use Rattle.tsumego.specs.Writing.{WritesFor}
+use Rattle.tsumego.specs.Writing.{WritesAnswer}
 
 module _ (allowed : List Node → TreeOutcome → Type 0) where
   -- outcomes for a part of the input that is too long as well are outcomes for the input
@@ -28,7 +28,7 @@ module _ (allowed : List Node → TreeOutcome → Type 0) where
 
   -- outcomes for the part up to the limit are outcomes for the input
   outcomes_whole : (input : List ℕ) (os : List TreeOutcome) → AreOutcomes allowed (take (MAX_BYTES + 1) input) os → AreOutcomes allowed input os
-  outcomes_whole input os h = elim (cut_or_whole (MAX_BYTES + 1) input) [
+  outcomes_whole input os h = elim (prefix_is_whole_or_full (MAX_BYTES + 1) input) [
     | inl e ↦ subst (λ (x : List ℕ). AreOutcomes allowed x os) e h
     | inr p ↦ long_outcomes input (take (MAX_BYTES + 1) input) os p.0 p.1 h
   ]
@@ -41,7 +41,7 @@ module _ (allowed : List Node → TreeOutcome → Type 0) where
   trees_begun : (input text : List ℕ) → BeginsTreesText allowed (take (MAX_BYTES + 1) input) text → BeginsTreesText allowed input text
   trees_begun input text no_line = no_line
   trees_begun input text (all_lines os h) = all_lines os (outcomes_whole input os h)
-  trees_begun input text (some_lines os rest small reads) = elim (cut_or_whole (MAX_BYTES + 1) input) [
+  trees_begun input text (some_lines os rest small reads) = elim (prefix_is_whole_or_full (MAX_BYTES + 1) input) [
     | inl e ↦ subst (λ (x : List ℕ). BeginsTreesText allowed x text) e (some_lines os rest small reads)
     | inr p ↦ absurd (omega (arith, p.0))
   ]
@@ -49,21 +49,21 @@ module _ (allowed : List Node → TreeOutcome → Type 0) where
   -- and so it is with an earlier part
   trees_earlier : (input text : List ℕ) → EarlierTreesText allowed (take (MAX_BYTES + 1) input) text → EarlierTreesText allowed input text
   trees_earlier input text nothing = nothing
-  trees_earlier input text (before_more os rest small reads more) = elim (cut_or_whole (MAX_BYTES + 1) input) [
+  trees_earlier input text (before_more os rest small reads more) = elim (prefix_is_whole_or_full (MAX_BYTES + 1) input) [
     | inl e ↦ subst (λ (x : List ℕ). EarlierTreesText allowed x text) e (before_more os rest small reads more)
     | inr p ↦ absurd (omega (arith, p.0))
   ]
 
 module _ (parts : Bool) where
   -- what is found on a part of the input that is too long as well is found on the input
-  long_found : (input part : List ℕ) (o : Finding) → length part ≡ MAX_BYTES + 1 → MAX_BYTES + 1 ≤ length input → Finds parts part o → Finds parts input o
+  long_found : (input part : List ℕ) (o : CheckOutcome) → length part ≡ MAX_BYTES + 1 → MAX_BYTES + 1 ≤ length input → Finds parts part o → Finds parts input o
   long_found input part o e le (find.too_long long) = find.too_long (omega arith)
   long_found input part o e le (no_tree small none) = absurd (omega arith)
   long_found input part o e le (first_tree count t o' small s h) = absurd (omega arith)
 
   -- what is found on the part up to the limit is found on the input
-  found_whole : (input : List ℕ) (o : Finding) → Finds parts (take (MAX_BYTES + 1) input) o → Finds parts input o
-  found_whole input o h = elim (cut_or_whole (MAX_BYTES + 1) input) [
+  found_whole : (input : List ℕ) (o : CheckOutcome) → Finds parts (take (MAX_BYTES + 1) input) o → Finds parts input o
+  found_whole input o h = elim (prefix_is_whole_or_full (MAX_BYTES + 1) input) [
     | inl e ↦ subst (λ (x : List ℕ). Finds parts x o) e h
     | inr p ↦ long_found input (take (MAX_BYTES + 1) input) o p.0 p.1 h
   ]
@@ -73,7 +73,7 @@ module _ (parts : Bool) where
   check_whole input text status h = record { finding = h.finding; finds = found_whole input h.finding h.finds; line = h.line; status_is = h.status_is }
 
   -- what is written on the part up to the limit is written on the input
-  writes_whole : (t : Option TreeTask) (input : List ℕ) (r : Result ℕ RunFault) (a b : Option (List ℕ)) → WritesFor parts t (take (MAX_BYTES + 1) input) r a b → WritesFor parts t input r a b
+  writes_whole : (t : Option TreeTask) (input : List ℕ) (r : Result ℕ RunFault) (a b : Option (List ℕ)) → WritesAnswer parts t (take (MAX_BYTES + 1) input) r a b → WritesAnswer parts t input r a b
   writes_whole (Some task) input (Ok status) a b w = (w.0, trees_whole (MakesOutcome task) input w.0 status w.1, w.2)
   writes_whole (Some task) input (Err Input) a b w = w
   writes_whole (Some task) input (Err Output) a b w = (w.0, w.1, trees_begun (MakesOutcome task) input w.0 w.2, w.3)
@@ -85,12 +85,12 @@ module _ (parts : Bool) where
 
   -- what is written on what was read up to the limit is written on what the reader had to give
   pub writes_read : (t : Option TreeTask) (told : Option (List ℕ)) (bytes : List ℕ) (r : Result ℕ RunFault) (a b : Option (List ℕ)) → IsReadInput (MAX_BYTES + 1) told bytes
-      → WritesFor parts t bytes r a b → HoldsForInput told (λ input. WritesFor parts t input r a b)
+      → WritesAnswer parts t bytes r a b → HoldsForInput told (λ input. WritesAnswer parts t input r a b)
   writes_read t None bytes r a b e w = (bytes, w)
-  writes_read t (Some input) bytes r a b e w = writes_whole t input r a b (subst (λ (x : List ℕ). WritesFor parts t x r a b) e w)
+  writes_read t (Some input) bytes r a b e w = writes_whole t input r a b (subst (λ (x : List ℕ). WritesAnswer parts t x r a b) e w)
 
   -- where memory or the input failed, a run may have written nothing
-  nothing_written : (t : Option TreeTask) (input : List ℕ) (e : RunFault) (a : Option (List ℕ)) → is_output_fault {A = ℕ} (Err e) ≡ false → WritesFor parts t input (Err e) a a
+  nothing_written : (t : Option TreeTask) (input : List ℕ) (e : RunFault) (a : Option (List ℕ)) → is_output_fault {A = ℕ} (Err e) ≡ false → WritesAnswer parts t input (Err e) a a
   nothing_written (Some task) input Input a quiet = Keeps-refl a
   nothing_written None input Input a quiet = Keeps-refl a
   nothing_written t input Output a quiet = let bad : true ≡ false = quiet in cc
@@ -99,6 +99,6 @@ module _ (parts : Bool) where
 
   -- so it may for what the reader had to give
   pub writes_nothing : (t : Option TreeTask) (told : Option (List ℕ)) (e : RunFault) (a : Option (List ℕ)) → is_output_fault {A = ℕ} (Err e) ≡ false
-      → HoldsForInput told (λ input. WritesFor parts t input (Err e) a a)
+      → HoldsForInput told (λ input. WritesAnswer parts t input (Err e) a a)
   writes_nothing t None e a quiet = ([], nothing_written t [] e a quiet)
   writes_nothing t (Some input) e a quiet = nothing_written t input e a quiet

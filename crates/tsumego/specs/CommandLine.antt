@@ -9,20 +9,20 @@ use Rattle.tt_dfpn.specs.declared.attempts.TheConstants.{MOST_POSITIONS}
 use Rattle.tt_proof.specs.declared.tree.TheConstants.{MOST_DEPTH}
 use Rattle.tt_search.specs.declared.limits.TheConstants.{MOST_EXPANDED}
 use Rattle.tt_share.specs.declared.capacity.TheConstants.{MOST_WORKERS}
-use Rattle.tt_text.specs.declared.options.TheConstants.{MOST_IN_ALL}
-use Rattle.tt_text.specs.declared.options.Cert.{Cert}
-use Rattle.tt_text.specs.declared.options.Cert.TheVariants.{Unasked, Plain, Shared}
+use Rattle.tt_text.specs.declared.options.TheConstants.{MOST_TOTAL}
+use Rattle.tt_text.specs.declared.options.CertKind.{CertKind}
+use Rattle.tt_text.specs.declared.options.CertKind.TheVariants.{Unasked, Plain, Shared}
 use Rattle.tsumego.specs.declared.request.Command.{Command}
 use Rattle.tsumego.specs.declared.request.Command.TheVariants.{Score, Check, Solve}
 use Rattle.tt_text.specs.declared.options.Options.{Options}
 
 -- a line without a subcommand is refused
-abbrev pub needing_subcommand : App → App
-needing_subcommand a = record a { top = record a.top { subcommand_required = true } }
+abbrev pub with_required_subcommand : App → App
+with_required_subcommand a = record a { top = record a.top { subcommand_required = true } }
 
 -- `--version` and `-V` ask for the version
-abbrev pub telling_version : App → App
-telling_version a = record a { top = record a.top { has_version = true } }
+abbrev pub with_version_flag : App → App
+with_version_flag a = record a { top = record a.top { has_version = true } }
 
 -- an option with a number from 1 to `most`
 abbrev pub number_rule : Text → ℕ → Text → Rule
@@ -34,8 +34,8 @@ number_rule name most default = record (new_rule name) {
 }
 
 -- one that may be left out
-abbrev pub optional_rule : Text → ℕ → Rule
-optional_rule name most = record (new_rule name) {
+abbrev pub optional_number_rule : Text → ℕ → Rule
+optional_number_rule name most = record (new_rule name) {
   long = Some name;
   value_names = 1;
   parser = Some (Signed (pos 1) (pos most));
@@ -49,8 +49,8 @@ unfoldable pub solve_app : App
 solve_app = with_rule (with_rule (with_rule (with_rule (with_rule (with_rule (with_rule (with_rule (with_rule (new_app (codes "solve"))
     (number_rule (codes "budget") MOST_EXPANDED (codes "100000")))
     (number_rule (codes "depth") MOST_DEPTH (codes "512")))
-    (optional_rule (codes "total") MOST_IN_ALL))
-    (optional_rule (codes "dfpn") MOST_POSITIONS))
+    (optional_number_rule (codes "total") MOST_TOTAL))
+    (optional_number_rule (codes "dfpn") MOST_POSITIONS))
     (number_rule (codes "workers") MOST_WORKERS (codes "1")))
     (flag_rule (codes "cert")))
     (flag_rule (codes "parts")))
@@ -62,9 +62,9 @@ unfoldable pub check_app : App
 check_app = with_rule (new_app (codes "check")) (flag_rule (codes "parts"))
 
 -- the program's commands and options, as the argument parser reads them
-unfoldable pub tool : App
-tool = with_subcommand (with_subcommand (with_subcommand
-    (needing_subcommand (telling_version (new_app (codes "tsumego"))))
+unfoldable pub tsumego_app : App
+tsumego_app = with_subcommand (with_subcommand (with_subcommand
+    (with_required_subcommand (with_version_flag (new_app (codes "tsumego"))))
     (new_app (codes "score")).top) check_app.top) solve_app.top
 
 -- the number that an option's text spells
@@ -73,42 +73,42 @@ HasNumber name rows n = (text : Text) × (one_of name rows ≡ Some text)
     × IsNumeral 10 (without_leading_plus text) × (n ≡ digits_value 10 (without_leading_plus text))
 
 -- the number that an option's text spells, where it was given
-abbrev pub GivesNumber : Text → List Row → Option ℕ → Type 0
-GivesNumber name rows None = one_of name rows ≡ None
-GivesNumber name rows (Some n) = HasNumber name rows n
+abbrev pub HasOptionalNumber : Text → List Row → Option ℕ → Type 0
+HasOptionalNumber name rows None = one_of name rows ≡ None
+HasOptionalNumber name rows (Some n) = HasNumber name rows n
 
 -- the flag was given, or not
 abbrev pub HasFlag : Text → List Row → Bool → Type 0
 HasFlag name rows b = one_of name rows ≡ Some (bool_text b)
 
 -- whether a certificate is written
-abbrev pub is_asked : Cert → Bool
-is_asked Unasked = false
-is_asked Plain = true
-is_asked Shared = true
+abbrev pub asks_for_certificate : CertKind → Bool
+asks_for_certificate Unasked = false
+asks_for_certificate Plain = true
+asks_for_certificate Shared = true
 
 -- whether it may share parts
-abbrev pub is_shared : Cert → Bool
-is_shared Unasked = false
-is_shared Plain = false
-is_shared Shared = true
+abbrev pub asks_for_shared_parts : CertKind → Bool
+asks_for_shared_parts Unasked = false
+asks_for_shared_parts Plain = false
+asks_for_shared_parts Shared = true
 
 -- the options of `solve` in these matches
 abbrev pub HasOptions : List Row → Options → Type 0
 HasOptions rows options = HasNumber (codes "budget") rows options.limits.budget × HasNumber (codes "depth") rows options.limits.depth
-    × GivesNumber (codes "total") rows options.total × GivesNumber (codes "dfpn") rows options.dfpn
-    × HasNumber (codes "workers") rows options.workers × HasFlag (codes "cert") rows (is_asked options.cert) × HasFlag (codes "parts") rows (is_shared options.cert)
+    × HasOptionalNumber (codes "total") rows options.total × HasOptionalNumber (codes "dfpn") rows options.dfpn
+    × HasNumber (codes "workers") rows options.workers × HasFlag (codes "cert") rows (asks_for_certificate options.cert) × HasFlag (codes "parts") rows (asks_for_shared_parts options.cert)
     × HasFlag (codes "turns") rows options.turns
 
 -- the subcommand that was met, with its matches, is this command
-abbrev pub Asks : Option (Text × List Row) → Command → Type 0
-Asks None c = ⊥
-Asks (Some p) Score = p.0 ≡ codes "score"
-Asks (Some p) (Check parts) = (p.0 ≡ codes "check") × HasFlag (codes "parts") p.1 parts
-Asks (Some p) (Solve options told) = (p.0 ≡ codes "solve") × HasOptions p.1 options × HasFlag (codes "progress") p.1 told
+abbrev pub AsksForCommand : Option (Text × List Row) → Command → Type 0
+AsksForCommand None c = ⊥
+AsksForCommand (Some p) Score = p.0 ≡ codes "score"
+AsksForCommand (Some p) (Check parts) = (p.0 ≡ codes "check") × HasFlag (codes "parts") p.1 parts
+AsksForCommand (Some p) (Solve options told) = (p.0 ≡ codes "solve") × HasOptions p.1 options × HasFlag (codes "progress") p.1 told
 
 -- flags were given that aren't taken together, or one without the one that it goes with
-abbrev pub Contradicts : Option (Text × List Row) → Type 0
-Contradicts None = ⊥
-Contradicts (Some p) = (HasFlag (codes "cert") p.1 true × HasFlag (codes "turns") p.1 true)
+abbrev pub HasContradictingFlags : Option (Text × List Row) → Type 0
+HasContradictingFlags None = ⊥
+HasContradictingFlags (Some p) = (HasFlag (codes "cert") p.1 true × HasFlag (codes "turns") p.1 true)
     ⊎ (HasFlag (codes "parts") p.1 true × HasFlag (codes "cert") p.1 false)

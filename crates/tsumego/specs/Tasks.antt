@@ -21,7 +21,7 @@ task_of (commands.Check parts) = None
 task_of (commands.Solve options told) = Some (Solve options)
 
 -- whether a certificate may share parts
-abbrev pub shares_parts : Command → Bool
-shares_parts commands.Score = false
-shares_parts (commands.Check parts) = parts
-shares_parts (commands.Solve options told) = false
+abbrev pub reads_shared_parts : Command → Bool
+reads_shared_parts commands.Score = false
+reads_shared_parts (commands.Check parts) = parts
+reads_shared_parts (commands.Solve options told) = false

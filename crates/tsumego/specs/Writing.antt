@@ -2,21 +2,21 @@
 use Rattle.std.specs.Prelude.{◌≡◌, ◌⊎◌, ℕ, Bool, List, [], Option, None, Some}
 use Rattle.std.specs.declared.result.Result.{Result}
 use Rattle.devices.specs.declared.fault.RunFault.{RunFault}
-use Rattle.devices.specs.Writing.{WritesOf}
+use Rattle.devices.specs.Writing.{RunWrites}
 use Rattle.tsumego.specs.declared.request.Command.{Command}
 use Rattle.tsumego.specs.declared.task.TreeTask.{TreeTask}
 use Rattle.tt_text.specs.Checking.{IsCheckText}
-use Rattle.tsumego.specs.Tasks.{MakesOutcome, shares_parts, task_of}
+use Rattle.tsumego.specs.Tasks.{MakesOutcome, reads_shared_parts, task_of}
 use Rattle.tt_text.specs.Trees.{BeginsTreesText, EarlierTreesText, IsTreesText}
 
 -- an answer to the input, or a beginning of one; and where memory was refused the whole lines on earlier trees alone. The flag says
 -- that a certificate may share parts.
-abbrev pub WritesFor : Bool → Option TreeTask → List ℕ → Result ℕ RunFault → Option (List ℕ) → Option (List ℕ) → Type 0
-WritesFor parts (Some task) input = WritesOf (IsTreesText (MakesOutcome task) input) (BeginsTreesText (MakesOutcome task) input)
+abbrev pub WritesAnswer : Bool → Option TreeTask → List ℕ → Result ℕ RunFault → Option (List ℕ) → Option (List ℕ) → Type 0
+WritesAnswer parts (Some task) input = RunWrites (IsTreesText (MakesOutcome task) input) (BeginsTreesText (MakesOutcome task) input)
     (EarlierTreesText (MakesOutcome task) input)
-WritesFor parts None input =
-    WritesOf (IsCheckText parts input) (λ text. (text ≡ []) ⊎ ((status : ℕ) × IsCheckText parts input text status)) (λ text. text ≡ [])
+WritesAnswer parts None input =
+    RunWrites (IsCheckText parts input) (λ text. (text ≡ []) ⊎ ((status : ℕ) × IsCheckText parts input text status)) (λ text. text ≡ [])
 
 -- what the command writes for the input
-abbrev pub Writes : Command → List ℕ → Result ℕ RunFault → Option (List ℕ) → Option (List ℕ) → Type 0
-Writes c = WritesFor (shares_parts c) (task_of c)
+abbrev pub CommandWrites : Command → List ℕ → Result ℕ RunFault → Option (List ℕ) → Option (List ℕ) → Type 0
+CommandWrites c = WritesAnswer (reads_shared_parts c) (task_of c)

@@ -4,9 +4,9 @@ ghost use Rattle.devices.specs.Faults.{is_input_fault, is_output_fault};
 ghost use Rattle.devices.specs.Watching.{TakesAtMost};
 ghost use Rattle.devices.specs.Writing.{HoldsForInput, WritesText};
 ghost use Rattle.tsumego.specs.inside.Lines.{WritesOutcome};
-ghost use Rattle.tsumego.specs.Tasks.{MakesOutcome, shares_parts, task_of};
-ghost use Rattle.tt_text.specs.Trees.{line_of};
-ghost use Rattle.tsumego.specs.Writing.{Writes, WritesFor};
+ghost use Rattle.tsumego.specs.Tasks.{MakesOutcome, reads_shared_parts, task_of};
+ghost use Rattle.tt_text.specs.Trees.{outcome_line};
+ghost use Rattle.tsumego.specs.Writing.{CommandWrites, WritesAnswer};
 
 use crate::progress::Progress;
 use crate::request::Command;
@@ -17,20 +17,20 @@ use std::io::{Eprint, Read, Write};
 use std::sync::Wait;
 use std::thread::Threads;
 use tt_sgf::{MAX_BYTES, MainLine, SgfFault, has_tree, read_tree};
-use tt_text::{TreeOutcome, find, line};
+use tt_text::{TreeOutcome, check_input, line};
 
 /// One byte more than the longest input whose trees are read.
 const MOST_READ: usize = MAX_BYTES + 1;
 
 /// Writes the line of one outcome.
-fn write_line<W: Write>(
+fn write_outcome_line<W: Write>(
     alloc: Global,
     writer: &mut Watched<W>,
     number: usize,
     outcome: &TreeOutcome,
 ) -> Result<(), RunFault>
     requires { writer.old.failed ≡ false }
-    ensures written { WritesText (line_of number outcome.now) result (W.contents writer.old.device) (W.contents writer.new.device) }
+    ensures written { WritesText (outcome_line number outcome.now) result (W.contents writer.old.device) (W.contents writer.new.device) }
     ensures failed { writer.new.failed ≡ is_output_fault result }
 {
     match line(alloc, number, outcome) {
@@ -55,31 +55,31 @@ fn answer_tree<X: Threads + Wait + Eprint + Sync, W: Write>(
     ensures written { WritesOutcome (MakesOutcome task.now) number main.now.nodes result (W.contents writer.old.device) (W.contents writer.new.device) }
     ensures failed { writer.new.failed ≡ is_output_fault result }
 {
-    let progress = Progress::begin(rt, alloc, told, number);
-    let made = task.outcome(rt, alloc, main, bytes, &progress);
-    progress.end();
+    let progress = Progress::start_telling(rt, alloc, told, number);
+    let made = task.perform(rt, alloc, main, bytes, &progress);
+    progress.wipe_line();
     let Ok(outcome) = made else {
         return Err(RunFault::Memory);
     };
-    match write_line(alloc, writer, number, &outcome) {
+    match write_outcome_line(alloc, writer, number, &outcome) {
         Ok(()) => Ok(outcome.is_refused()),
         Err(fault) => Err(fault),
     }
 }
 
 /// Refuses what is left of an input, and answers the status.
-fn refuse<W: Write>(
+fn write_refusal<W: Write>(
     alloc: Global,
     writer: &mut Watched<W>,
     number: usize,
     code: u8,
 ) -> Result<u8, RunFault>
     requires { writer.old.failed ≡ false }
-    ensures written { WritesText (line_of number (TreeOutcome.Refused code)) result (W.contents writer.old.device) (W.contents writer.new.device) }
+    ensures written { WritesText (outcome_line number (TreeOutcome.Refused code)) result (W.contents writer.old.device) (W.contents writer.new.device) }
     ensures status { IfOk result (λ status. status ≡ 1) }
     ensures failed { writer.new.failed ≡ is_output_fault result }
 {
-    match write_line(alloc, writer, number, &TreeOutcome::Refused(code)) {
+    match write_outcome_line(alloc, writer, number, &TreeOutcome::Refused(code)) {
         Ok(()) => Ok(1),
         Err(fault) => Err(fault),
     }
@@ -95,7 +95,7 @@ fn answer_trees<X: Threads + Wait + Eprint + Sync, W: Write>(
     writer: &mut Watched<W>,
 ) -> Result<u8, RunFault>
     requires { writer.old.failed ≡ false }
-    ensures written { WritesFor false (Some task.now) input.now result (W.contents writer.old.device) (W.contents writer.new.device) }
+    ensures written { WritesAnswer false (Some task.now) input.now result (W.contents writer.old.device) (W.contents writer.new.device) }
     ensures reading { is_input_fault result ≡ false }
     ensures failed { writer.new.failed ≡ is_output_fault result }
 {
@@ -112,8 +112,13 @@ fn answer_trees<X: Threads + Wait + Eprint + Sync, W: Write>(
                 }
                 number += 1;
             }
-            Err(SgfFault::Syntax) => return refuse(alloc, writer, number, SgfFault::Syntax.code()),
-            Err(SgfFault::TooLong) => return refuse(
+            Err(SgfFault::Syntax) => return write_refusal(
+                alloc,
+                writer,
+                number,
+                SgfFault::Syntax.code(),
+            ),
+            Err(SgfFault::TooLong) => return write_refusal(
                 alloc,
                 writer,
                 number,
@@ -126,18 +131,18 @@ fn answer_trees<X: Threads + Wait + Eprint + Sync, W: Write>(
 }
 
 /// Answers the certificate of an input, which may share parts where that is said.
-fn answer_certificate<W: Write>(
+fn answer_check<W: Write>(
     alloc: Global,
     parts: bool,
     input: &[u8],
     writer: &mut Watched<W>,
 ) -> Result<u8, RunFault>
     requires { writer.old.failed ≡ false }
-    ensures written { WritesFor parts None input.now result (W.contents writer.old.device) (W.contents writer.new.device) }
+    ensures written { WritesAnswer parts None input.now result (W.contents writer.old.device) (W.contents writer.new.device) }
     ensures reading { is_input_fault result ≡ false }
     ensures failed { writer.new.failed ≡ is_output_fault result }
 {
-    let Ok(finding) = find(alloc, parts, input) else {
+    let Ok(finding) = check_input(alloc, parts, input) else {
         return Err(RunFault::Memory);
     };
     let Ok(text) = finding.line(alloc) else {
@@ -161,8 +166,8 @@ fn task_of(command: &Command) -> Option<TreeTask>
 }
 
 /// Whether a certificate may share parts.
-fn shares_parts(command: &Command) -> bool
-    ensures { result ≡ shares_parts command.now }
+fn reads_shared_parts(command: &Command) -> bool
+    ensures { result ≡ reads_shared_parts command.now }
 {
     match command {
         Command::Score => false,
@@ -172,7 +177,7 @@ fn shares_parts(command: &Command) -> bool
 }
 
 /// Whether it is told how far a command is.
-fn is_told(command: &Command) -> bool {
+fn shows_progress(command: &Command) -> bool {
     match command {
         Command::Solve(_, told) => *told,
         Command::Score | Command::Check(_) => false,
@@ -188,13 +193,13 @@ fn answer<X: Threads + Wait + Eprint + Sync, W: Write>(
     writer: &mut Watched<W>,
 ) -> Result<u8, RunFault>
     requires { writer.old.failed ≡ false }
-    ensures written { Writes command.now input.now result (W.contents writer.old.device) (W.contents writer.new.device) }
+    ensures written { CommandWrites command.now input.now result (W.contents writer.old.device) (W.contents writer.new.device) }
     ensures reading { is_input_fault result ≡ false }
     ensures failed { writer.new.failed ≡ is_output_fault result }
 {
     match task_of(command) {
-        Some(task) => answer_trees(rt, alloc, &task, is_told(command), input, writer),
-        None => answer_certificate(alloc, shares_parts(command), input, writer),
+        Some(task) => answer_trees(rt, alloc, &task, shows_progress(command), input, writer),
+        None => answer_check(alloc, reads_shared_parts(command), input, writer),
     }
 }
 
@@ -214,7 +219,7 @@ pub fn run<X: Threads + Wait + Eprint + Sync, R: Read, W: Write>(
     requires reader { reader.old.failed ≡ false }
     requires writer { writer.old.failed ≡ false }
     ensures written { HoldsForInput (R.remaining reader.old.device) (λ input.
-        Writes command.now input result (W.contents writer.old.device) (W.contents writer.new.device)) }
+        CommandWrites command.now input result (W.contents writer.old.device) (W.contents writer.new.device)) }
     ensures taken { TakesAtMost MOST_READ (R.remaining reader.old.device) (R.remaining reader.new.device) }
     ensures input { reader.new.failed ≡ is_input_fault result }
     ensures output { writer.new.failed ≡ is_output_fault result }

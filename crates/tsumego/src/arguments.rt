@@ -2,7 +2,7 @@
 ghost use Rattle.std.specs.Prelude.{◌≡◌, ◌≢◌, ◌⊎◌, ◌≤◌, false, [], true, IfErr, IfOk, OnOk, IfSome, map, string_bytes};
 ghost use Rattle.clap.specs.Words.{app_of, subcommand_of, subcommand_rows_of, fault_of, takes, kind_of, new_app, rows_of, rule_of, found_of};
 ghost use Rattle.clap.specs.declared.builder.command.Command.TheViews.{out-Command};
-ghost use Rattle.tsumego.specs.CommandLine.{Asks, Contradicts, GivesNumber, HasFlag, HasNumber, HasOptions, check_app, flag_rule, is_asked, is_shared, number_rule, optional_rule, solve_app, tool};
+ghost use Rattle.tsumego.specs.CommandLine.{AsksForCommand, HasContradictingFlags, HasOptionalNumber, HasFlag, HasNumber, HasOptions, check_app, flag_rule, asks_for_certificate, asks_for_shared_parts, number_rule, optional_number_rule, solve_app, tsumego_app};
 
 use crate::request::Command;
 use clap::error::ErrorKind;
@@ -13,7 +13,7 @@ use tt_dfpn::MOST_POSITIONS;
 use tt_proof::MOST_DEPTH;
 use tt_search::{Limits, MOST_EXPANDED};
 use tt_share::MOST_WORKERS;
-use tt_text::{Cert, MOST_IN_ALL, Options};
+use tt_text::{CertKind, MOST_TOTAL, Options};
 
 /// Why a command line was refused: the parser's text, empty where memory was refused or the words couldn't be read.
 #[derive(Debug, Drop)]
@@ -42,13 +42,13 @@ const PROGRESS_HELP: &str = "Write on standard error how far the search is";
 const TURNS_HELP: &str = "Write a line for each legal turn: who wins after it";
 
 /// What is said where flags are given that aren't taken together.
-const APART: &str = "error: the argument '--turns' cannot be used with '--cert'
+const TURNS_WITH_CERT: &str = "error: the argument '--turns' cannot be used with '--cert'
 
 For more information, try 'tsumego solve --help'.
 ";
 
 /// What is said where a flag is given without the one that it goes with.
-const ALONE: &str = "error: the argument '--parts' cannot be used without '--cert'
+const PARTS_WITHOUT_CERT: &str = "error: the argument '--parts' cannot be used without '--cert'
 
 For more information, try 'tsumego solve --help'.
 ";
@@ -57,11 +57,11 @@ For more information, try 'tsumego solve --help'.
 const VERSION: &str = "0.1.0";
 
 /// What stands at the end of the program's help.
-const TOOL_END: &str = "Each command reads standard input to its end:
+const TOOL_AFTER_HELP: &str = "Each command reads standard input to its end:
   tsumego solve < problem.sgf
 Status: 0 all answered, 1 something refused or invalid, 2 these words or the run failed";
 
-const SOLVE_END: &str = "Reads problems from standard input:
+const SOLVE_AFTER_HELP: &str = "Reads problems from standard input:
   tsumego solve < problem.sgf
 A problem has triangles (TR) on the target stones and squares (SQ) where plays are allowed.
 Answers, where K counts the problems:
@@ -74,7 +74,7 @@ Answers, where K counts the problems:
 With --turns a line for each legal turn follows: the turn, and killed, lives or unsettled WHY
 Status: 0 all answered, 1 something refused, 2 these words or the run failed";
 
-const SCORE_END: &str = "Reads game records from standard input:
+const SCORE_AFTER_HELP: &str = "Reads game records from standard input:
   tsumego score < game.sgf
 Answers, where K counts the records:
   K black X white Y finished    area scores; every stone counts where it stands
@@ -82,7 +82,7 @@ Answers, where K counts the records:
   K refused N                   no record, for the reason with this number
 Status: 0 all answered, 1 something refused, 2 these words or the run failed";
 
-const CHECK_END: &str = "Reads a problem and the certificate behind it from standard input:
+const CHECK_AFTER_HELP: &str = "Reads a problem and the certificate behind it from standard input:
   cat problem.sgf certificate.txt | tsumego check
 Answers: valid, invalid or refused N
 Status: 0 valid, 1 invalid or refused, 2 these words or the run failed";
@@ -108,9 +108,9 @@ fn number_option<'a>(
 }
 
 /// An option with a number from 1 to `most` that may be left out.
-fn optional_number<'a>(alloc: Global, name: &'a str, most: u32, help: &'a str) -> Arg<'a>
+fn optional_number_option<'a>(alloc: Global, name: &'a str, most: u32, help: &'a str) -> Arg<'a>
     requires { 1 ≤ most }
-    ensures rule { rule_of result ≡ optional_rule name.entry.now most }
+    ensures rule { rule_of result ≡ optional_number_rule name.entry.now most }
     ensures local { result.global ≡ false }
 {
     Arg::new(alloc, name)
@@ -121,7 +121,7 @@ fn optional_number<'a>(alloc: Global, name: &'a str, most: u32, help: &'a str) -
 }
 
 /// A flag.
-fn flag<'a>(alloc: Global, name: &'a str, help: &'a str) -> Arg<'a>
+fn flag_option<'a>(alloc: Global, name: &'a str, help: &'a str) -> Arg<'a>
     ensures rule { rule_of result ≡ flag_rule name.entry.now }
     ensures local { result.global ≡ false }
 {
@@ -132,7 +132,7 @@ fn flag<'a>(alloc: Global, name: &'a str, help: &'a str) -> Arg<'a>
 }
 
 /// A parser without options, its text in the list of commands, and the end of its help.
-fn named<'a>(alloc: Global, name: &'a str, about: &'a str, end: &'a str) -> Parser<'a>
+fn bare_parser<'a>(alloc: Global, name: &'a str, about: &'a str, end: &'a str) -> Parser<'a>
     ensures app { app_of result ≡ new_app name.entry.now }
     ensures local { (out-Command result).has_globals ≡ false }
 {
@@ -145,14 +145,14 @@ fn solve_parser<'a>(alloc: Global) -> Result<Parser<'a>, AllocError>
 {
     let budget = number_option(alloc, "budget", MOST_EXPANDED, "100000", BUDGET_HELP);
     let depth = number_option(alloc, "depth", MOST_DEPTH as u32, "512", DEPTH_HELP);
-    let total = optional_number(alloc, "total", MOST_IN_ALL, TOTAL_HELP);
-    let dfpn = optional_number(alloc, "dfpn", MOST_POSITIONS, DFPN_HELP);
+    let total = optional_number_option(alloc, "total", MOST_TOTAL, TOTAL_HELP);
+    let dfpn = optional_number_option(alloc, "dfpn", MOST_POSITIONS, DFPN_HELP);
     let workers = number_option(alloc, "workers", MOST_WORKERS as u32, "1", WORKERS_HELP);
-    let cert = flag(alloc, "cert", CERT_HELP);
-    let parts = flag(alloc, "parts", SOLVE_PARTS_HELP);
-    let turns = flag(alloc, "turns", TURNS_HELP);
-    let progress = flag(alloc, "progress", PROGRESS_HELP);
-    let one = named(alloc, "solve", "Solve problems", SOLVE_END).arg(budget)?;
+    let cert = flag_option(alloc, "cert", CERT_HELP);
+    let parts = flag_option(alloc, "parts", SOLVE_PARTS_HELP);
+    let turns = flag_option(alloc, "turns", TURNS_HELP);
+    let progress = flag_option(alloc, "progress", PROGRESS_HELP);
+    let one = bare_parser(alloc, "solve", "Solve problems", SOLVE_AFTER_HELP).arg(budget)?;
     let two = one.arg(depth)?;
     let three = two.arg(total)?;
     let four = three.arg(dfpn)?;
@@ -168,24 +168,33 @@ fn check_parser<'a>(alloc: Global) -> Result<Parser<'a>, AllocError>
     ensures local { IfOk result (λ r. (out-Command r).has_globals ≡ false) }
 {
     let about = "Check the certificate behind a problem";
-    named(alloc, "check", about, CHECK_END).arg(flag(alloc, "parts", CHECK_PARTS_HELP))
+    bare_parser(alloc, "check", about, CHECK_AFTER_HELP).arg(flag_option(
+        alloc,
+        "parts",
+        CHECK_PARTS_HELP,
+    ))
 }
 
 fn parser<'a>(alloc: Global) -> Result<Parser<'a>, AllocError>
-    ensures { IfOk result (λ r. app_of r ≡ tool) }
+    ensures { IfOk result (λ r. app_of r ≡ tsumego_app) }
 {
-    let score = named(alloc, "score", "Score game records by area", SCORE_END);
+    let score = bare_parser(
+        alloc,
+        "score",
+        "Score game records by area",
+        SCORE_AFTER_HELP,
+    );
     let check = check_parser(alloc)?;
     let solve = solve_parser(alloc)?;
     let about = "Life-and-death problems of Go, read from standard input";
-    let plain = named(alloc, "tsumego", about, TOOL_END).version(VERSION);
+    let plain = bare_parser(alloc, "tsumego", about, TOOL_AFTER_HELP).version(VERSION);
     let top = plain.subcommand_required(true);
     let two = top.subcommand(score)?.subcommand(check)?;
     two.subcommand(solve)
 }
 
 /// The text of a refusal, empty where memory was refused.
-fn fault(alloc: Global, error: &Error) -> ArgFault
+fn to_arg_fault(alloc: Global, error: &Error) -> ArgFault
     ensures { kind_of error.now ≡ ErrorKind.OutOfMemory → string_bytes result.0 ≡ [] }
 {
     if error.kind() == ErrorKind::OutOfMemory {
@@ -206,7 +215,7 @@ fn number_of(matches: &ArgMatches<'_>, name: &str) -> Option<u32>
 
 /// The number of an option that may be left out: none where it was, and an error where it isn't a number.
 fn given_number(matches: &ArgMatches<'_>, name: &str) -> Result<Option<u32>, ParseIntError>
-    ensures { IfOk result (GivesNumber name.now (rows_of (found_of matches.now))) }
+    ensures { IfOk result (HasOptionalNumber name.now (rows_of (found_of matches.now))) }
 {
     matches.try_get_one::<u32>(name)
 }
@@ -219,7 +228,7 @@ fn flag_of(matches: &ArgMatches<'_>, name: &str) -> Option<bool>
 }
 
 /// Whether a number lies in the range from 1 to `most`, where one was given.
-fn is_within(given: Option<u32>, most: u32) -> bool
+fn is_in_range(given: Option<u32>, most: u32) -> bool
     ensures { result ≡ true → IfSome given (λ n. (1 ≤ n) × (n ≤ most)) }
 {
     match given {
@@ -229,20 +238,20 @@ fn is_within(given: Option<u32>, most: u32) -> bool
 }
 
 /// Which certificate the flags ask for, where they go together.
-fn cert_of(cert: bool, parts: bool, turns: bool) -> Option<Cert>
-    ensures flags { IfSome result (λ c. (cert ≡ is_asked c) × (parts ≡ is_shared c)) }
-    ensures apart { IfSome result (λ c. c ≢ Cert.Unasked → turns ≡ false) }
+fn cert_of(cert: bool, parts: bool, turns: bool) -> Option<CertKind>
+    ensures flags { IfSome result (λ c. (cert ≡ asks_for_certificate c) × (parts ≡ asks_for_shared_parts c)) }
+    ensures apart { IfSome result (λ c. c ≢ CertKind.Unasked → turns ≡ false) }
 {
     if !cert {
-        return if parts { None } else { Some(Cert::Unasked) };
+        return if parts { None } else { Some(CertKind::Unasked) };
     }
     if turns {
         return None;
     }
     if parts {
-        Some(Cert::Shared)
+        Some(CertKind::Shared)
     } else {
-        Some(Cert::Plain)
+        Some(CertKind::Plain)
     }
 }
 
@@ -261,8 +270,8 @@ fn options_of(matches: &ArgMatches<'_>) -> Option<Options>
         || depth > MOST_DEPTH as u32
         || workers < 1
         || workers > MOST_WORKERS as u32
-        || !is_within(total, MOST_IN_ALL)
-        || !is_within(dfpn, MOST_POSITIONS)
+        || !is_in_range(total, MOST_TOTAL)
+        || !is_in_range(dfpn, MOST_POSITIONS)
     {
         return None;
     }
@@ -278,8 +287,8 @@ fn options_of(matches: &ArgMatches<'_>) -> Option<Options>
 }
 
 /// The command that a parse met.
-fn asked(matches: &ArgMatches<'_>) -> Option<Command>
-    ensures { IfSome result (Asks (subcommand_rows_of matches.now)) }
+fn command_of(matches: &ArgMatches<'_>) -> Option<Command>
+    ensures { IfSome result (AsksForCommand (subcommand_rows_of matches.now)) }
 {
     match matches.subcommand() {
         Some(("score", _)) => Some(Command::Score),
@@ -293,17 +302,17 @@ fn asked(matches: &ArgMatches<'_>) -> Option<Command>
 }
 
 /// What is said of flags that were given and don't go together; nothing where they do.
-fn contradiction(matches: &ArgMatches<'_>) -> &'static str
-    ensures { (result.now ≡ []) ⊎ Contradicts (subcommand_rows_of matches.now) }
+fn contradiction_text(matches: &ArgMatches<'_>) -> &'static str
+    ensures { (result.now ≡ []) ⊎ HasContradictingFlags (subcommand_rows_of matches.now) }
 {
     match matches.subcommand() {
         Some(("solve", matches)) => {
             let cert = flag_of(matches, "cert");
             if cert == Some(true) && flag_of(matches, "turns") == Some(true) {
-                return APART;
+                return TURNS_WITH_CERT;
             }
             if cert == Some(false) && flag_of(matches, "parts") == Some(true) {
-                return ALONE;
+                return PARTS_WITHOUT_CERT;
             }
             ""
         }
@@ -312,10 +321,10 @@ fn contradiction(matches: &ArgMatches<'_>) -> &'static str
 }
 
 /// Why a parse met no command. The text is empty where memory was refused.
-fn no_command(alloc: Global, matches: &ArgMatches<'_>) -> ArgFault
-    ensures { (string_bytes result.0 ≡ []) ⊎ Contradicts (subcommand_rows_of matches.now) }
+fn no_command_fault(alloc: Global, matches: &ArgMatches<'_>) -> ArgFault
+    ensures { (string_bytes result.0 ≡ []) ⊎ HasContradictingFlags (subcommand_rows_of matches.now) }
 {
-    match String::from_str(alloc, contradiction(matches)) {
+    match String::from_str(alloc, contradiction_text(matches)) {
         Ok(text) => ArgFault(text),
         Err(AllocError) => ArgFault(String::new(alloc)),
     }
@@ -324,19 +333,19 @@ fn no_command(alloc: Global, matches: &ArgMatches<'_>) -> ArgFault
 /// Reads the command line. Its first word is the program's name; an empty line is read as that
 /// name alone.
 pub fn command(alloc: Global, words: &[String]) -> Result<Command, ArgFault>
-    ensures asked { IfOk result (Asks (subcommand_of tool (map string_bytes words.now))) }
-    ensures clean { OnOk result (fault_of tool (map string_bytes words.now) ≡ []) }
-    ensures taken { takes tool (map string_bytes words.now) ≡ true
-        → IfErr result (λ fault. (string_bytes fault.0 ≡ []) ⊎ Contradicts (subcommand_of tool (map string_bytes words.now))) }
+    ensures asked { IfOk result (AsksForCommand (subcommand_of tsumego_app (map string_bytes words.now))) }
+    ensures clean { OnOk result (fault_of tsumego_app (map string_bytes words.now) ≡ []) }
+    ensures taken { takes tsumego_app (map string_bytes words.now) ≡ true
+        → IfErr result (λ fault. (string_bytes fault.0 ≡ []) ⊎ HasContradictingFlags (subcommand_of tsumego_app (map string_bytes words.now))) }
 {
     let Ok(parser) = parser(alloc) else {
         return Err(ArgFault(String::new(alloc)));
     };
     match parser.try_get_matches_from(words) {
-        Ok(matches) => match asked(&matches) {
+        Ok(matches) => match command_of(&matches) {
             Some(command) => Ok(command),
-            None => Err(no_command(alloc, &matches)),
+            None => Err(no_command_fault(alloc, &matches)),
         },
-        Err(error) => Err(fault(alloc, &error)),
+        Err(error) => Err(to_arg_fault(alloc, &error)),
     }
 }

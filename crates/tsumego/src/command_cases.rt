@@ -80,7 +80,7 @@ scor|2|(;SZ[4:1]AW[ba][da]PL[B]TR[ba])|~\
 ";
 
 /// Rows that hold with any number of workers too.
-pub(crate) const SOLVED: &str = "\
+pub(crate) const SOLVE_CASES: &str = "\
 solve|0|(;SZ[2:1]AW[ba]PL[B]TR[ba])|1 killed aa\n~\
 solve|0|(;SZ[2:1]AW[ba]PL[W]TR[ba])|1 killed\n~\
 solve|0|(;SZ[3:1]AW[ba]PL[W]TR[ba])|1 lives pass\n~\
@@ -107,7 +107,7 @@ solve|0|(;SZ[7:1];B[ga];W[ea];B[ba]TR[ea])|1 killed\n~\
 ";
 
 /// Rows with a text behind the input: each proper beginning of it is answered so.
-pub(crate) const BEGINNINGS: &str = "\
+pub(crate) const PREFIX_CASES: &str = "\
 score|1||(;SZ[3:1](;B[aa])(;B[ba]))|1 refused 1\n~\
 score|1||(;C[a\\]b]GaMe[1]SiZe[1]X2[])|1 refused 1\n~\
 check|1|(;SZ[4:1]AW[ba][da]PL[B]TR[ba])|killed !ca?aa.--!aa.;|refused 30\n~\

@@ -2,7 +2,7 @@
 
 use crate::answer::run;
 use crate::arguments::command;
-use crate::command_cases::{BEGINNINGS, COMMAND_CASES, SOLVED};
+use crate::command_cases::{COMMAND_CASES, PREFIX_CASES, SOLVE_CASES};
 use devices::Watched;
 use std::alloc::{AllocError, Global};
 use std::io::Eprint;
@@ -11,7 +11,7 @@ use std::sync::Wait;
 use std::thread::Threads;
 
 /// What stands before the first such byte, and what behind it; where it doesn't stand there, the whole text and nothing.
-fn cut(text: &[u8], end: u8) -> (&[u8], &[u8]) {
+fn split_at_byte(text: &[u8], end: u8) -> (&[u8], &[u8]) {
     for i in 0..text.len() {
         if text[i] == end {
             return (&text[..i], &text[i + 1..]);
@@ -21,7 +21,7 @@ fn cut(text: &[u8], end: u8) -> (&[u8], &[u8]) {
 }
 
 /// The number that the digits write.
-fn number(digits: &[u8]) -> usize {
+fn parse_number(digits: &[u8]) -> usize {
     let mut number = 0_usize;
     for digit in digits {
         number = number
@@ -40,14 +40,14 @@ fn put_times(out: &mut Vec<u8>, times: usize, part: &[u8]) -> Result<(), AllocEr
 }
 
 /// Puts a text in which `<3*ab>` stands for `ababab`.
-fn put(out: &mut Vec<u8>, text: &[u8]) -> Result<(), AllocError> {
+fn put_expanded_text(out: &mut Vec<u8>, text: &[u8]) -> Result<(), AllocError> {
     let mut rest = text;
     for _ in 0..text.len() {
-        let (plain, behind) = cut(rest, b'<');
-        let (times, more) = cut(behind, b'*');
-        let (part, end) = cut(more, b'>');
+        let (plain, behind) = split_at_byte(rest, b'<');
+        let (times, more) = split_at_byte(behind, b'*');
+        let (part, end) = split_at_byte(more, b'>');
         out.extend_from_slice(plain)?;
-        put_times(out, number(times), part)?;
+        put_times(out, parse_number(times), part)?;
         rest = end;
     }
     Ok(())
@@ -57,7 +57,7 @@ fn put(out: &mut Vec<u8>, text: &[u8]) -> Result<(), AllocError> {
 fn put_words(alloc: Global, out: &mut Vec<String>, line: &[u8]) -> Result<(), AllocError> {
     let mut rest = line;
     for _ in 0..line.len() {
-        let (word, behind) = cut(rest, b' ');
+        let (word, behind) = split_at_byte(rest, b' ');
         if !word.is_empty() {
             out.push(String::from_str(alloc, from_utf8(word).unwrap_or("?"))?)?;
         }
@@ -95,11 +95,11 @@ fn answers<X: Threads + Wait + Eprint + Sync>(
 ) -> bool {
     let mut out = Vec::new(alloc);
     let got = put_answer(rt, alloc, words, input, &mut out);
-    usize::from(got) == number(status) && out.as_slice() == want
+    usize::from(got) == parse_number(status) && out.as_slice() == want
 }
 
 /// Puts the program's name, the words of two lines, and an input of a text and its end. False where there is no memory.
-fn is_put(
+fn put_command_and_input(
     alloc: Global,
     words: &mut Vec<String>,
     input: &mut Vec<u8>,
@@ -109,12 +109,12 @@ fn is_put(
     put_words(alloc, words, b"tsumego").is_ok()
         && put_words(alloc, words, line).is_ok()
         && put_words(alloc, words, more).is_ok()
-        && put(input, text).is_ok()
+        && put_expanded_text(input, text).is_ok()
         && input.extend_from_slice(end).is_ok()
 }
 
 /// Whether the words of two lines answer a text and its end so.
-fn line_answers<X: Threads + Wait + Eprint + Sync>(
+fn command_answers<X: Threads + Wait + Eprint + Sync>(
     rt: &X,
     alloc: Global,
     line: (&[u8], &[u8]),
@@ -123,25 +123,25 @@ fn line_answers<X: Threads + Wait + Eprint + Sync>(
 ) -> bool {
     let mut words = Vec::new(alloc);
     let mut input = Vec::new(alloc);
-    let put = is_put(alloc, &mut words, &mut input, line, text);
+    let put = put_command_and_input(alloc, &mut words, &mut input, line, text);
     put && answers(rt, alloc, words.as_slice(), input.as_slice(), want)
 }
 
 /// Whether a row holds with more words: its words, the status, the input, and the answer.
-fn holds<X: Threads + Wait + Eprint + Sync>(
+fn case_holds<X: Threads + Wait + Eprint + Sync>(
     rt: &X,
     alloc: Global,
     row: &[u8],
     more: &[u8],
 ) -> bool {
-    let (line, rest) = cut(row, b'|');
-    let (status, rest) = cut(rest, b'|');
-    let (input, want) = cut(rest, b'|');
-    line_answers(rt, alloc, (line, more), (input, b""), (status, want))
+    let (line, rest) = split_at_byte(row, b'|');
+    let (status, rest) = split_at_byte(rest, b'|');
+    let (input, want) = split_at_byte(rest, b'|');
+    command_answers(rt, alloc, (line, more), (input, b""), (status, want))
 }
 
 /// How many rows hold with more words before the first that doesn't: all, where each does. A tilde ends each.
-fn holding<X: Threads + Wait + Eprint + Sync>(
+fn cases_holding<X: Threads + Wait + Eprint + Sync>(
     rt: &X,
     alloc: Global,
     table: &str,
@@ -149,8 +149,8 @@ fn holding<X: Threads + Wait + Eprint + Sync>(
 ) -> usize {
     let mut rest = table.as_bytes();
     for row in 0..table.len() {
-        let (line, behind) = cut(rest, b'~');
-        if rest.is_empty() || !holds(rt, alloc, line, more) {
+        let (line, behind) = split_at_byte(rest, b'~');
+        if rest.is_empty() || !case_holds(rt, alloc, line, more) {
             return row;
         }
         rest = behind;
@@ -160,13 +160,13 @@ fn holding<X: Threads + Wait + Eprint + Sync>(
 
 /// Whether each proper beginning of a text is answered so: a row has words, status, what stands in front, the text, and the
 /// answer.
-fn beginnings_hold<X: Threads + Wait + Eprint + Sync>(rt: &X, alloc: Global, row: &[u8]) -> bool {
-    let (line, rest) = cut(row, b'|');
-    let (status, rest) = cut(rest, b'|');
-    let (front, rest) = cut(rest, b'|');
-    let (text, want) = cut(rest, b'|');
+fn prefixes_hold<X: Threads + Wait + Eprint + Sync>(rt: &X, alloc: Global, row: &[u8]) -> bool {
+    let (line, rest) = split_at_byte(row, b'|');
+    let (status, rest) = split_at_byte(rest, b'|');
+    let (front, rest) = split_at_byte(rest, b'|');
+    let (text, want) = split_at_byte(rest, b'|');
     for end in 0..text.len() {
-        if !line_answers(
+        if !command_answers(
             rt,
             alloc,
             (line, b""),
@@ -180,11 +180,11 @@ fn beginnings_hold<X: Threads + Wait + Eprint + Sync>(rt: &X, alloc: Global, row
 }
 
 /// For how many rows each beginning is answered so before the first for which one isn't.
-fn holding_beginnings<X: Threads + Wait + Eprint + Sync>(rt: &X, alloc: Global) -> usize {
-    let mut rest = BEGINNINGS.as_bytes();
-    for row in 0..BEGINNINGS.len() {
-        let (line, behind) = cut(rest, b'~');
-        if rest.is_empty() || !beginnings_hold(rt, alloc, line) {
+fn prefix_cases_holding<X: Threads + Wait + Eprint + Sync>(rt: &X, alloc: Global) -> usize {
+    let mut rest = PREFIX_CASES.as_bytes();
+    for row in 0..PREFIX_CASES.len() {
+        let (line, behind) = split_at_byte(rest, b'~');
+        if rest.is_empty() || !prefixes_hold(rt, alloc, line) {
             return row;
         }
         rest = behind;
@@ -193,20 +193,20 @@ fn holding_beginnings<X: Threads + Wait + Eprint + Sync>(rt: &X, alloc: Global) 
 }
 
 #[test]
-fn rows(rt: HostRuntime) {
-    assert_eq!(&rt; holding(&rt, rt.alloc(), COMMAND_CASES, b""), 74);
+fn command_cases_hold(rt: HostRuntime) {
+    assert_eq!(&rt; cases_holding(&rt, rt.alloc(), COMMAND_CASES, b""), 74);
 }
 
 #[test]
-fn rows_of_solve(rt: HostRuntime) {
+fn solve_cases_hold(rt: HostRuntime) {
     let alloc = rt.alloc();
-    assert_eq!(&rt; holding(&rt, alloc, SOLVED, b""), 23);
-    assert_eq!(&rt; holding(&rt, alloc, SOLVED, b"--workers 1"), 23);
-    assert_eq!(&rt; holding(&rt, alloc, SOLVED, b"--workers 2"), 23);
-    assert_eq!(&rt; holding(&rt, alloc, SOLVED, b"--workers 64"), 23);
+    assert_eq!(&rt; cases_holding(&rt, alloc, SOLVE_CASES, b""), 23);
+    assert_eq!(&rt; cases_holding(&rt, alloc, SOLVE_CASES, b"--workers 1"), 23);
+    assert_eq!(&rt; cases_holding(&rt, alloc, SOLVE_CASES, b"--workers 2"), 23);
+    assert_eq!(&rt; cases_holding(&rt, alloc, SOLVE_CASES, b"--workers 64"), 23);
 }
 
 #[test]
-fn beginnings(rt: HostRuntime) {
-    assert_eq!(&rt; holding_beginnings(&rt, rt.alloc()), 3);
+fn prefix_cases_hold(rt: HostRuntime) {
+    assert_eq!(&rt; prefix_cases_holding(&rt, rt.alloc()), 3);
 }

@@ -20,7 +20,7 @@ use std::io::IsTerminal;
 use std::process::ExitCode;
 use std::{env, io};
 
-fn words_of(rt: &HostRuntime) -> Result<Vec<String>, ArgFault> {
+fn command_line_words(rt: &HostRuntime) -> Result<Vec<String>, ArgFault> {
     let alloc = rt.alloc();
     match env::args(rt) {
         Ok(words) => match words.collect(alloc) {
@@ -32,7 +32,7 @@ fn words_of(rt: &HostRuntime) -> Result<Vec<String>, ArgFault> {
 }
 
 /// Writes the text of a refusal on standard error, which ends its last line itself; an empty line where there is none.
-fn tell(rt: &HostRuntime, text: &str) -> io::Result<()> {
+fn print_fault(rt: &HostRuntime, text: &str) -> io::Result<()> {
     if text.is_empty() {
         return rt.eprintln("");
     }
@@ -48,14 +48,14 @@ fn with_progress(command: Command, terminal: bool) -> Command {
 }
 
 fn main(rt: HostRuntime) -> ExitCode {
-    let asked = match words_of(&rt) {
+    let asked = match command_line_words(&rt) {
         Ok(words) => command(rt.alloc(), words.as_slice()),
         Err(fault) => Err(fault),
     };
     let command = match asked {
         Ok(command) => command,
         Err(fault) => {
-            let _ = tell(&rt, fault.0.as_str());
+            let _ = print_fault(&rt, fault.0.as_str());
             return ExitCode::from(2);
         }
     };

@@ -16,7 +16,7 @@ pub struct Progress<'a, X> {
 
 impl<'a, X: Eprint> Progress<'a, X> {
     /// Of the problem with this number, which begins now.
-    pub fn begin(rt: &'a X, alloc: Global, told: bool, number: usize) -> Progress<'a, X> {
+    pub fn start_telling(rt: &'a X, alloc: Global, told: bool, number: usize) -> Progress<'a, X> {
         let progress = Progress {
             rt,
             alloc,
@@ -47,7 +47,7 @@ impl<'a, X: Eprint> Progress<'a, X> {
     }
 
     /// Wipes the line.
-    pub fn end(&self) {
+    pub fn wipe_line(&self) {
         if self.told {
             let _ = self.rt.eprint("\r\u{1b}[K");
         }

@@ -4,27 +4,27 @@ use Rattle.tt_sgf.specs.declared.nodes.Node.{Node}
 use Rattle.tt_sgf.specs.declared.trees.TheConstants.{MAX_BYTES}
 use Rattle.tt_sgf.specs.Grammar.{GameTree, FirstTreeEndsAt, main_line}
 use Rattle.tt_text.specs.declared.outcome.TreeOutcome.{TreeOutcome}
-use Rattle.tt_text.specs.Trees.{AreOutcomes, all_read, line_of, stopped}
+use Rattle.tt_text.specs.Trees.{AreOutcomes, all_read, outcome_line, stopped}
 use Rattle.tt_text.specs.Trees as trees
-use Rattle.tsumego_c.specs.First.{IsAlone, IsFirstOutcome, IsWholeText, first_tree, no_tree, too_long}
+use Rattle.tsumego_c.specs.First.{HasNoSecondTree, IsFirstTreeOutcome, FirstTextIsWholeText, first_tree, no_tree, too_long}
 
 module _ (allowed : List Node → TreeOutcome → Type 0) where
   -- the outcome of the tree that was read
   pub outcome_read : (input : List ℕ) (count : ℕ) (t : GameTree) (nodes : List Node) (o : TreeOutcome) → length input ≤ MAX_BYTES → FirstTreeEndsAt input count t
-      → nodes ≡ main_line t → allowed nodes o → IsFirstOutcome allowed input o
+      → nodes ≡ main_line t → allowed nodes o → IsFirstTreeOutcome allowed input o
   outcome_read input count t nodes o small s same ok = first_tree count t o small s (subst (λ (x : List Node). allowed x o) same ok)
 
   -- the outcome of the first tree is the only one
-  only_outcome : (input : List ℕ) (o : TreeOutcome) → IsAlone input → IsFirstOutcome allowed input o → AreOutcomes allowed input (o ∷ [])
+  only_outcome : (input : List ℕ) (o : TreeOutcome) → HasNoSecondTree input → IsFirstTreeOutcome allowed input o → AreOutcomes allowed input (o ∷ [])
   only_outcome input o alone (too_long long) = trees.too_long long
   only_outcome input o alone (no_tree small none) = stopped [] input small refl (inl refl) none
   only_outcome input o alone (first_tree count t o' small s ok) =
       all_read (o' ∷ []) (drop count input) small (count, t, s, ok, refl) (λ e. let bad : o' ∷ [] ≡ [] = e in cc) (alone count t s)
 
-  pub whole_text : IsWholeText allowed
+  pub whole_text : FirstTextIsWholeText allowed
   whole_text input text status alone h = record {
     outcomes = h.outcome ∷ [];
     are = only_outcome input h.outcome alone h.becomes;
-    lines = h.line ∙ sym (append-nil (line_of 1 h.outcome));
+    lines = h.line ∙ sym (append-nil (outcome_line 1 h.outcome));
     status_is = h.status_is;
   }

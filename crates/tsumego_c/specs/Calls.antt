@@ -2,16 +2,16 @@
 use Rattle.std.specs.Prelude.{◌≡◌, ◌<◌, ◌≤◌, ℕ, List, ◌++◌, length, drop}
 
 -- nothing is written
-abbrev pub Leaves : List ℕ → List ℕ → ℕ → Type 0
-Leaves before after count = (after ≡ before) × (count ≡ 0)
+abbrev pub WritesNothing : List ℕ → List ℕ → ℕ → Type 0
+WritesNothing before after count = (after ≡ before) × (count ≡ 0)
 
 -- A call that is to write such a text with such a status ends like this, where so many bytes are said to be taken.
-pub data Ends (is_text : List ℕ → ℕ → Type 0) (before after : List ℕ) (count : ℕ) : ℕ → Type 0 where
+pub data CallEnds (is_text : List ℕ → ℕ → Type 0) (before after : List ℕ) (count : ℕ) : ℕ → Type 0 where
   -- the text stands at the front, and behind it all is as it was
   written : (text : List ℕ) (status : ℕ) → is_text text status → count ≡ length text → count ≤ length before
-      → after ≡ text ++ drop count before → Ends is_text before after count status
+      → after ≡ text ++ drop count before → CallEnds is_text before after count status
   -- it has no room there
   no_room : (text : List ℕ) (status : ℕ) → is_text text status → count ≡ length text → length before < count
-      → after ≡ before → Ends is_text before after count 3
+      → after ≡ before → CallEnds is_text before after count 3
   -- memory was refused
-  no_memory : Leaves before after count → Ends is_text before after count 2
+  no_memory : WritesNothing before after count → CallEnds is_text before after count 2

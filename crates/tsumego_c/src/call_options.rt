@@ -6,7 +6,7 @@ ghost use Rattle.tsumego_c.specs.Options.{MeansOptions, AreInRange, cert_unless_
 
 use tt_dfpn::MOST_POSITIONS;
 use tt_search::Limits;
-use tt_text::{Cert, MOST_IN_ALL, Options};
+use tt_text::{CertKind, MOST_TOTAL, Options};
 
 /// What a caller asks for, in plain numbers. A total, df-pn's positions and a certificate are asked for by a number that isn't 0.
 #[repr(C)]
@@ -34,10 +34,14 @@ fn unless_zero(n: u32, most: u32) -> Option<u32>
 }
 
 /// The certificate, where it is asked for.
-fn cert_unless_zero(n: u32) -> Cert
+fn cert_unless_zero(n: u32) -> CertKind
     ensures { result ≡ cert_unless_zero n }
 {
-    if n == 0 { Cert::Unasked } else { Cert::Plain }
+    if n == 0 {
+        CertKind::Unasked
+    } else {
+        CertKind::Plain
+    }
 }
 
 /// The limits, where budget and depth lie in their ranges.
@@ -56,13 +60,13 @@ pub fn options_of(numbers: &CallOptions) -> Option<Options>
     ensures in_range { IsSome result ↔ AreInRange numbers.now }
     ensures asked { IfSome result (MeansOptions numbers.now) }
 {
-    if numbers.total > MOST_IN_ALL || numbers.dfpn > MOST_POSITIONS {
+    if numbers.total > MOST_TOTAL || numbers.dfpn > MOST_POSITIONS {
         return None;
     }
     let limits = limits_of(numbers.budget, numbers.depth)?;
     Some(Options {
         limits,
-        total: unless_zero(numbers.total, MOST_IN_ALL),
+        total: unless_zero(numbers.total, MOST_TOTAL),
         dfpn: unless_zero(numbers.dfpn, MOST_POSITIONS),
         workers: 1,
         cert: cert_unless_zero(numbers.cert),

@@ -2,10 +2,10 @@
 ghost use Rattle.tt_text.specs.declared.options.Options.{Options};
 ghost use Rattle.tt_text.specs.Scoring.{Scores};
 ghost use Rattle.tt_text.specs.Solving.{Solves};
-ghost use Rattle.tsumego_c.specs.First.{IsWholeText};
+ghost use Rattle.tsumego_c.specs.First.{FirstTextIsWholeText};
 
 /// Where no other tree follows, the line on the first one, with its status, is what a run of the program answers to the input.
-pub fn first_is_all()
-    ensures score { IsWholeText Scores }
-    ensures solve { (options : Options) → IsWholeText (Solves options) }
+pub fn first_text_is_whole_text()
+    ensures score { FirstTextIsWholeText Scores }
+    ensures solve { (options : Options) → FirstTextIsWholeText (Solves options) }
 {}

@@ -2,23 +2,23 @@
 //! keeps nothing. `c/tsumego.h` says what callers owe; `c/tsumego.c` refuses null before it comes here.
 #![tactic(auto)]
 
-mod by_caller;
 mod call_options;
-mod handing;
+mod caller_buffer;
+mod first_tree_text;
+mod in_caller_thread;
 pub mod laws;
-mod lines;
 
 ghost use Rattle.std.specs.Prelude.{◌≡◌, ◌≢◌};
 ghost use Rattle.tt_text.specs.Checking.{IsCheckText};
 ghost use Rattle.tt_text.specs.Scoring.{Scores};
-ghost use Rattle.tsumego_c.specs.Calls.{Ends, Leaves};
-ghost use Rattle.tsumego_c.specs.First.{IsFirstText};
+ghost use Rattle.tsumego_c.specs.Calls.{CallEnds, WritesNothing};
+ghost use Rattle.tsumego_c.specs.First.{IsFirstTreeText};
 ghost use Rattle.tsumego_c.specs.Options.{AreInRange, IsSolveText};
 
 pub use call_options::CallOptions;
 use call_options::options_of;
-use handing::hand_over;
-use lines::{check_text, score_text, solve_text};
+use caller_buffer::hand_over;
+use first_tree_text::{check_text, score_text, solve_text};
 use std::alloc::Global;
 
 /// The status where an option is out of its range.
@@ -32,7 +32,7 @@ pub extern "C" fn tsumego_c_score(
     out: &mut [u8],
     taken: &mut usize,
 ) -> u32
-    ensures { Ends (IsFirstText Scores sgf.now) out.old out.new taken.new result }
+    ensures { CallEnds (IsFirstTreeText Scores sgf.now) out.old out.new taken.new result }
 {
     let made = score_text(alloc, sgf);
     hand_over(&made, out, taken)
@@ -47,7 +47,7 @@ pub extern "C" fn tsumego_c_check(
     out: &mut [u8],
     taken: &mut usize,
 ) -> u32
-    ensures { Ends (IsCheckText parts sgf.now) out.old out.new taken.new result }
+    ensures { CallEnds (IsCheckText parts sgf.now) out.old out.new taken.new result }
 {
     let made = check_text(alloc, parts, sgf);
     hand_over(&made, out, taken)
@@ -62,8 +62,8 @@ pub extern "C" fn tsumego_c_solve(
     out: &mut [u8],
     taken: &mut usize,
 ) -> u32
-    ensures solved { AreInRange options.now → Ends (IsSolveText options.now sgf.now) out.old out.new taken.new result }
-    ensures refused { ¬ AreInRange options.now → (result ≡ BAD_OPTION) × Leaves out.old out.new taken.new }
+    ensures solved { AreInRange options.now → CallEnds (IsSolveText options.now sgf.now) out.old out.new taken.new result }
+    ensures refused { ¬ AreInRange options.now → (result ≡ BAD_OPTION) × WritesNothing out.old out.new taken.new }
 {
     match options_of(options) {
         Some(options) => {

@@ -7,8 +7,8 @@ use Rattle.tt_board.specs.declared.Colour.{Colour}
 use Rattle.tt_board.specs.Play.{other}
 use Rattle.tt_game.specs.declared.turns.Turn.{Turn}
 use Rattle.tt_proof.specs.declared.tree.Tree.{Tree}
-use Rattle.tt_proof.specs.Strategy.{AreInOrder, IsInOrder, IsOnBoard, entries_of_list, number_on, strategy_of}
-use Rattle.tsumego_show.specs.Drawing.{deeper, entries_lines, first_lines, tree_lines, turn_line}
+use Rattle.tt_proof.specs.Strategy.{AreInOrder, IsInOrder, IsOnBoard, entries_of_reply, number_on, strategy_of}
+use Rattle.tsumego_show.specs.StrategyListing.{next_indentation, entries_lines, first_lines, tree_lines, turn_line}
 use Rattle.tsumego_show.specs.inside.Lines.{Goes, with_lines}
 use Rattle.tsumego_show.proofs.FirstLines.{both_go}
 
@@ -20,10 +20,10 @@ turn_goes (Err e) more new mid old left a b h g = g
 
 module _ (size : Size) (own : Colour) (level : ℕ) where
   abbrev one : Turn × Tree → List ℕ
-  one e = turn_line size level (other own) e.0 ++ tree_lines size own (deeper level) (strategy_of e.1)
+  one e = turn_line size level (other own) e.0 ++ tree_lines size own (next_indentation level) (strategy_of e.1)
 
   abbrev all : List (Turn × Tree) → List ℕ
-  all list = entries_lines size own level (entries_of_list list)
+  all list = entries_lines size own level (entries_of_reply list)
 
   -- what is to come behind this item is what is to come now
   abbrev pub GoesOn : Option ℕ → List ℕ → List ℕ → ℕ → List (Turn × Tree) → List (Turn × Tree) → Type 0
@@ -32,7 +32,7 @@ module _ (size : Size) (own : Colour) (level : ℕ) where
   step : (e : Turn × Tree) (behind : List (Turn × Tree)) (rest : List ℕ) → one e ++ (all behind ++ rest) ≡ all (e ∷ behind) ++ rest
   step e behind rest =
       sym (append_assoc (one e) (all behind) rest)
-      ∙ ap (λ (x : List ℕ). x ++ rest) (append_assoc (turn_line size level (other own) e.0) (tree_lines size own (deeper level) (strategy_of e.1)) (all behind))
+      ∙ ap (λ (x : List ℕ). x ++ rest) (append_assoc (turn_line size level (other own) e.0) (tree_lines size own (next_indentation level) (strategy_of e.1)) (all behind))
 
   module _ (list : List (Turn × Tree)) (n : ℕ) (e : Turn × Tree) (mid new old : List ℕ) (more left : ℕ) (within : n < length list) (is : e ≡ get_or list n e)
       (so_far : GoesOn (Some more) mid old left (drop n list) list) where
@@ -46,10 +46,10 @@ module _ (size : Size) (own : Colour) (level : ℕ) where
         ∙ ap (λ (x : List ℕ). mid ++ first_lines more x) (step e (drop (n + 1) list) rest ∙ ap (λ (x : List (Turn × Tree)). all x ++ rest) (sym rest_is)) ∙ so_far rest
 
   pub order_next : (list : List (Turn × Tree)) (n : ℕ) (e : Turn × Tree) (least : ℕ) → n < length list → e ≡ get_or list n e
-      → AreInOrder size least (entries_of_list (drop n list))
-      → IsOnBoard size e.0 × IsInOrder size (strategy_of e.1) × ((more : ℕ) × AreInOrder size more (entries_of_list (drop (n + 1) list)))
+      → AreInOrder size least (entries_of_reply (drop n list))
+      → IsOnBoard size e.0 × IsInOrder size (strategy_of e.1) × ((more : ℕ) × AreInOrder size more (entries_of_reply (drop (n + 1) list)))
   order_next list n e least within is h =
-      let k = subst (λ (x : List (Turn × Tree)). AreInOrder size least (entries_of_list x))
+      let k = subst (λ (x : List (Turn × Tree)). AreInOrder size least (entries_of_reply x))
       (drop-cons list n e within ∙ ap (λ m. get_or list n e ∷ drop m list) (sym (add-one n)) ∙ ap (λ x. x ∷ drop (n + 1) list) (sym is)) h in
       (k.1, k.2, (number_on size e.0 + 1, k.3))
 

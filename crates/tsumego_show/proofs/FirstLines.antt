@@ -20,11 +20,11 @@ use Rattle.tt_proof.specs.declared.certificate_read.CertFault.{CertFault}
 use Rattle.tt_proof.specs.declared.certificate_read.CertFault.TheVariants.{Syntax, TooDeep}
 use Rattle.tt_proof.specs.CertificateText.{IsTooDeep, turn_text}
 use Rattle.tt_proof.specs.Strategy.{Strategy}
-use Rattle.tsumego_show.specs.Drawing.{both_turn_names, DrawsCertificate, DrawsFirst, drawn, deep_drawn, deep_line, first_lines, heading, most_lines, none_drawn, none_line, strategy_text, tree_lines, turn_line}
-use Rattle.tsumego_show.specs.Found.{IsCertificateFor}
+use Rattle.tsumego_show.specs.StrategyListing.{both_turn_names, IsCertificateListing, IsFirstTurnAndBoard, drawn, deep_drawn, too_deep_line, first_lines, heading, most_lines, none_drawn, no_certificate_line, strategy_text, tree_lines, turn_line}
+use Rattle.tsumego_show.specs.FollowingStrategy.{IsCertificateFor}
 use Rattle.tsumego_show.specs.inside.Lines.{Goes}
 use Rattle.tsumego_show.specs.inside.Trees.{IsReadFault}
-use Rattle.tsumego_show.specs.Hints.{both_names}
+use Rattle.tsumego_show.specs.Hints.{both_point_names}
 use Rattle.tsumego_show.specs.Picture.{colour_name, editor_column_letter, row_number}
 
 abbrev IsInLine : ℕ → Type 0
@@ -104,8 +104,8 @@ column_in_line n e =
     elim (cases_Bool (nat_lt n 8))
     [ inl on ↦ (let h : upper_A + n ≡ newline = rw on at e in omega (arith, h)) | inr off ↦ (let h : upper_A + n + 1 ≡ newline = rw off at e in omega (arith, h)) ]
 
-names_in_line : (size : Size) (q : ℕ) → InLine (both_names size q)
-unfolding both_names
+names_in_line : (size : Size) (q : ℕ) → InLine (both_point_names size q)
+unfolding both_point_names
 names_in_line size q = (
   column_in_line (q % size.columns),
   both_in_line (decimal (row_number size (q / size.columns))) (codes "=" ++ turn_text size (Play q)) (row_in_line size (q / size.columns))
@@ -167,24 +167,24 @@ strategy_written p side u f own r new mid old same is head goes =
 module _ (p : LineWithUndo) (f : Frame) (bytes : List ℕ) (same : f ≡ p.frame) where
   -- what is drawn of a certificate on the frame's board is drawn at the problem
   pub drawn_at : {A E : Type 0} (r : Result A E) (old new : List ℕ) (side : Side) (u : Strategy) → IsCertificateFor f.size bytes side u × (IsTooDeep f.size bytes → ⊥)
-      → OnOk r ((first : List ℕ) × DrawsFirst p side u first × (new ≡ old ++ (first ++ strategy_text p side u))) → OnOk r ((x : List ℕ) × DrawsCertificate p bytes x × (new ≡ old ++ x))
+      → OnOk r ((first : List ℕ) × IsFirstTurnAndBoard p side u first × (new ≡ old ++ (first ++ strategy_text p side u))) → OnOk r ((x : List ℕ) × IsCertificateListing p bytes x × (new ≡ old ++ x))
   drawn_at (Ok y) old new side u h e =
       let k = subst (λ (g : Frame). IsCertificateFor g.size bytes side u × (IsTooDeep g.size bytes → ⊥)) same h in
       (e.0 ++ strategy_text p side u, drawn side u e.0 k.0 k.1 e.1, e.2)
   drawn_at (Err y) old new side u h e = e
 
   -- so is what is said where bytes are no certificate
-  pub none_at : {A E : Type 0} (r : Result A E) (old new : List ℕ) (e : CertFault) → e ≡ Syntax → IsReadFault f.size bytes e → OnOk r (new ≡ old ++ none_line bytes)
-      → OnOk r ((x : List ℕ) × DrawsCertificate p bytes x × (new ≡ old ++ x))
+  pub none_at : {A E : Type 0} (r : Result A E) (old new : List ℕ) (e : CertFault) → e ≡ Syntax → IsReadFault f.size bytes e → OnOk r (new ≡ old ++ no_certificate_line bytes)
+      → OnOk r ((x : List ℕ) × IsCertificateListing p bytes x × (new ≡ old ++ x))
   none_at (Ok y) old new e is h w =
       let k : IsReadFault p.frame.size bytes Syntax = subst (λ (g : Frame). IsReadFault g.size bytes Syntax) same (subst (λ (x : CertFault). IsReadFault f.size bytes x) is h) in
-      (none_line bytes, none_drawn k.0 k.1, w)
+      (no_certificate_line bytes, none_drawn k.0 k.1, w)
   none_at (Err y) old new e is h w = w
 
   -- and where they go too deep
-  pub deep_at : {A E : Type 0} (r : Result A E) (old new : List ℕ) (e : CertFault) → e ≡ TooDeep → IsReadFault f.size bytes e → OnOk r (new ≡ old ++ deep_line)
-      → OnOk r ((x : List ℕ) × DrawsCertificate p bytes x × (new ≡ old ++ x))
+  pub deep_at : {A E : Type 0} (r : Result A E) (old new : List ℕ) (e : CertFault) → e ≡ TooDeep → IsReadFault f.size bytes e → OnOk r (new ≡ old ++ too_deep_line)
+      → OnOk r ((x : List ℕ) × IsCertificateListing p bytes x × (new ≡ old ++ x))
   deep_at (Ok y) old new e is h w =
       let k : IsReadFault p.frame.size bytes TooDeep = subst (λ (g : Frame). IsReadFault g.size bytes TooDeep) same (subst (λ (x : CertFault). IsReadFault f.size bytes x) is h) in
-      (deep_line, deep_drawn k, w)
+      (too_deep_line, deep_drawn k, w)
   deep_at (Err y) old new e is h w = w

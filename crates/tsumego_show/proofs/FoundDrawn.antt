@@ -4,36 +4,36 @@ use Rattle.std.specs.declared.result.Result.{Result}
 use Rattle.tt_sgf.specs.declared.nodes.Node.{Node}
 use Rattle.tt_game.specs.declared.frame.Frame.{Frame}
 use Rattle.tt_game.specs.Line.{LineWithUndo}
-use Rattle.tsumego_show.specs.declared.form.Form.TheVariants.{Marks, Variations}
+use Rattle.tsumego_show.specs.declared.mode.Mode.TheVariants.{Marks, Variations}
 use Rattle.tsumego_show.specs.Diagram.{svg_text}
-use Rattle.tsumego_show.specs.Found.{Found, StandsBehind}
-use Rattle.tsumego_show.specs.declared.form.Place.{Place}
-use Rattle.tsumego_show.specs.Marking.{problem_kept}
-use Rattle.tsumego_show.specs.Shown.{IsDiagram, IsProblemText, one_of_several_line, without_strategy}
-use Rattle.tsumego_show.specs.Solution.{solution}
+use Rattle.tsumego_show.specs.FollowingStrategy.{FollowingStrategy, IsFollowingStrategy}
+use Rattle.tsumego_show.specs.declared.mode.StonePlace.{StonePlace}
+use Rattle.tsumego_show.specs.Marking.{kept_problem_text}
+use Rattle.tsumego_show.specs.Shown.{IsDiagram, IsProblemText, not_drawn_line, no_strategy_words}
+use Rattle.tsumego_show.specs.NumberedPlays.{numbered_plays}
 use Rattle.tsumego_show.specs.Variations.{sgf_text}
 
-pub found_drawn : {A E : Type 0} (r : Result A E) (p : LineWithUndo) (f : Frame) (behind old new plays : List ℕ) (b : Found) → f ≡ p.frame
-    → StandsBehind f.size behind b → plays ≡ solution p b → OnOk r (new ≡ old ++ svg_text p plays)
+pub found_drawn : {A E : Type 0} (r : Result A E) (p : LineWithUndo) (f : Frame) (behind old new plays : List ℕ) (b : FollowingStrategy) → f ≡ p.frame
+    → IsFollowingStrategy f.size behind b → plays ≡ numbered_plays p b → OnOk r (new ≡ old ++ svg_text p plays)
     → (k : ℕ) → OnOk r ((x : List ℕ) × IsDiagram true k p behind x × (new ≡ old ++ x))
 found_drawn (Ok y) p f behind old new plays b same h is w k =
-    (svg_text p plays, (b, subst (λ (g : Frame). StandsBehind g.size behind b) same h, ap (λ x. svg_text p x) is), w)
+    (svg_text p plays, (b, subst (λ (g : Frame). IsFollowingStrategy g.size behind b) same h, ap (λ x. svg_text p x) is), w)
 found_drawn (Err y) p f behind old new plays b same h is w k = w
 
-pub found_written : {A E : Type 0} (r : Result A E) (p : LineWithUndo) (f : Frame) (behind old new : List ℕ) (b : Found) → f ≡ p.frame → StandsBehind f.size behind b
-    → (depth : ℕ) → OnOk r (new ≡ old ++ sgf_text p depth (without_strategy behind) b)
+pub found_written : {A E : Type 0} (r : Result A E) (p : LineWithUndo) (f : Frame) (behind old new : List ℕ) (b : FollowingStrategy) → f ≡ p.frame → IsFollowingStrategy f.size behind b
+    → (depth : ℕ) → OnOk r (new ≡ old ++ sgf_text p depth (no_strategy_words behind) b)
     → (k : ℕ) (tree : List ℕ) (ns : List Node) → OnOk r ((x : List ℕ) × IsProblemText (Variations depth) k tree ns p behind x × (new ≡ old ++ x))
-found_written (Ok y) p f behind old new b same h depth w k tree ns = (sgf_text p depth (without_strategy behind) b, (b, subst (λ (g : Frame). StandsBehind g.size behind b) same h, refl), w)
+found_written (Ok y) p f behind old new b same h depth w k tree ns = (sgf_text p depth (no_strategy_words behind) b, (b, subst (λ (g : Frame). IsFollowingStrategy g.size behind b) same h, refl), w)
 found_written (Err y) p f behind old new b same h depth w k tree ns = w
 
 -- or that it isn't
-pub several_said : {A E : Type 0} (r : Result A E) (k : ℕ) (p : LineWithUndo) (behind old new : List ℕ) → OnOk r (new ≡ old ++ one_of_several_line k)
+pub several_said : {A E : Type 0} (r : Result A E) (k : ℕ) (p : LineWithUndo) (behind old new : List ℕ) → OnOk r (new ≡ old ++ not_drawn_line k)
     → OnOk r ((x : List ℕ) × IsDiagram false k p behind x × (new ≡ old ++ x))
-several_said (Ok y) k p behind old new w = (one_of_several_line k, refl, w)
+several_said (Ok y) k p behind old new w = (not_drawn_line k, refl, w)
 several_said (Err y) k p behind old new w = w
 
 -- and a tree as it was
-pub kept_drawn : {A E : Type 0} (r : Result A E) (k : ℕ) (tree : List ℕ) (ns : List Node) (p : LineWithUndo) (old new : List ℕ) → OnOk r (new ≡ old ++ problem_kept k tree ns)
-    → (place : Option Place) (behind : List ℕ) → OnOk r ((x : List ℕ) × IsProblemText (Marks place) k tree ns p behind x × (new ≡ old ++ x))
-kept_drawn (Ok y) k tree ns p old new w place behind = (problem_kept k tree ns, refl, w)
+pub kept_drawn : {A E : Type 0} (r : Result A E) (k : ℕ) (tree : List ℕ) (ns : List Node) (p : LineWithUndo) (old new : List ℕ) → OnOk r (new ≡ old ++ kept_problem_text k tree ns)
+    → (place : Option StonePlace) (behind : List ℕ) → OnOk r ((x : List ℕ) × IsProblemText (Marks place) k tree ns p behind x × (new ≡ old ++ x))
+kept_drawn (Ok y) k tree ns p old new w place behind = (kept_problem_text k tree ns, refl, w)
 kept_drawn (Err y) k tree ns p old new w place behind = w

@@ -6,50 +6,50 @@ use Rattle.tt_sgf.specs.declared.trees.TheConstants.{MAX_BYTES}
 use Rattle.devices.specs.declared.fault.RunFault.{RunFault}
 use Rattle.devices.specs.declared.fault.RunFault.TheVariants.{Input, Output, Memory}
 use Rattle.std.specs.Io.KnownBytes.{Appends, Keeps}
-use Rattle.devices.specs.laws.PartLaws.{cut_or_whole}
+use Rattle.devices.specs.laws.PrefixLaws.{prefix_is_whole_or_full}
 use Rattle.devices.specs.Faults.{is_output_fault}
 use Rattle.devices.specs.Watching.{IsReadInput}
-use Rattle.devices.specs.Writing.{Breaks, HoldsForInput}
-use Rattle.tsumego_show.specs.declared.form.Form.{Form}
+use Rattle.devices.specs.Writing.{WritesUntilFault, HoldsForInput}
+use Rattle.tsumego_show.specs.declared.mode.Mode.{Mode}
 use Rattle.tsumego_show.specs.Shown.{IsShown, IsInputText, too_long, trees}
 use Rattle.tsumego_show.specs.Writing.{WritesShown}
 
 -- what is told of a part that is too long is told of the input
-long_told : (form : Form) (input part text : List ℕ) (refused : Bool) → length part ≡ MAX_BYTES + 1 → MAX_BYTES + 1 ≤ length input → IsInputText form part text refused
-    → IsInputText form input text refused
-long_told form input part text refused e le (too_long long) = too_long (omega arith)
-long_told form input part text refused e le (trees text' refused' small h) = absurd (omega arith)
+long_told : (mode : Mode) (input part text : List ℕ) (refused : Bool) → length part ≡ MAX_BYTES + 1 → MAX_BYTES + 1 ≤ length input → IsInputText mode part text refused
+    → IsInputText mode input text refused
+long_told mode input part text refused e le (too_long long) = too_long (omega arith)
+long_told mode input part text refused e le (trees text' refused' small h) = absurd (omega arith)
 
 -- what is shown of the part up to the limit is shown of the input
-shown_whole : (form : Form) (input text : List ℕ) (status : ℕ) → IsShown form (take (MAX_BYTES + 1) input) text status → IsShown form input text status
-shown_whole form input text status h = elim (cut_or_whole (MAX_BYTES + 1) input) [
-  | inl e ↦ subst (λ (x : List ℕ). IsShown form x text status) e h
-  | inr p ↦ (h.0, long_told form input (take (MAX_BYTES + 1) input) text h.0 p.0 p.1 h.1, h.2)
+shown_whole : (mode : Mode) (input text : List ℕ) (status : ℕ) → IsShown mode (take (MAX_BYTES + 1) input) text status → IsShown mode input text status
+shown_whole mode input text status h = elim (prefix_is_whole_or_full (MAX_BYTES + 1) input) [
+  | inl e ↦ subst (λ (x : List ℕ). IsShown mode x text status) e h
+  | inr p ↦ (h.0, long_told mode input (take (MAX_BYTES + 1) input) text h.0 p.0 p.1 h.1, h.2)
 ]
 
 -- and what is written of it is written of the input
-writes_whole : (form : Form) (input : List ℕ) (r : Result ℕ RunFault) (a b : Option (List ℕ)) → WritesShown form (take (MAX_BYTES + 1) input) r a b → WritesShown form input r a b
-writes_whole form input (Ok status) a b w = (w.0, shown_whole form input w.0 status w.1, w.2)
-writes_whole form input (Err Input) a b w = w
-writes_whole form input (Err Output) a b w = (w.0, w.1, (w.2.0, shown_whole form input w.0 w.2.0 w.2.1), w.3)
-writes_whole form input (Err Memory) a b w = w
+writes_whole : (mode : Mode) (input : List ℕ) (r : Result ℕ RunFault) (a b : Option (List ℕ)) → WritesShown mode (take (MAX_BYTES + 1) input) r a b → WritesShown mode input r a b
+writes_whole mode input (Ok status) a b w = (w.0, shown_whole mode input w.0 status w.1, w.2)
+writes_whole mode input (Err Input) a b w = w
+writes_whole mode input (Err Output) a b w = (w.0, w.1, (w.2.0, shown_whole mode input w.0 w.2.0 w.2.1), w.3)
+writes_whole mode input (Err Memory) a b w = w
 
 -- what is written on the part up to the limit is written on the input
-pub writes_read : (form : Form) (told : Option (List ℕ)) (bytes : List ℕ) (r : Result ℕ RunFault) (a b : Option (List ℕ)) → IsReadInput (MAX_BYTES + 1) told bytes → WritesShown form bytes r a b
-    → HoldsForInput told (λ input. WritesShown form input r a b)
-writes_read form None bytes r a b e w = (bytes, w)
-writes_read form (Some input) bytes r a b e w = writes_whole form input r a b (subst (λ (x : List ℕ). WritesShown form x r a b) e w)
+pub writes_read : (mode : Mode) (told : Option (List ℕ)) (bytes : List ℕ) (r : Result ℕ RunFault) (a b : Option (List ℕ)) → IsReadInput (MAX_BYTES + 1) told bytes → WritesShown mode bytes r a b
+    → HoldsForInput told (λ input. WritesShown mode input r a b)
+writes_read mode None bytes r a b e w = (bytes, w)
+writes_read mode (Some input) bytes r a b e w = writes_whole mode input r a b (subst (λ (x : List ℕ). WritesShown mode x r a b) e w)
 
 -- nothing is written where nothing was read
-nothing_written : (form : Form) (input : List ℕ) (e : RunFault) (a : Option (List ℕ)) → is_output_fault {A = ℕ} (Err e) ≡ false → WritesShown form input (Err e) a a
-nothing_written form input Input a quiet = Keeps-refl a
-nothing_written form input Output a quiet = let bad : true ≡ false = quiet in cc
-nothing_written form input Memory a quiet = ([], refl, Appends-nil a)
+nothing_written : (mode : Mode) (input : List ℕ) (e : RunFault) (a : Option (List ℕ)) → is_output_fault {A = ℕ} (Err e) ≡ false → WritesShown mode input (Err e) a a
+nothing_written mode input Input a quiet = Keeps-refl a
+nothing_written mode input Output a quiet = let bad : true ≡ false = quiet in cc
+nothing_written mode input Memory a quiet = ([], refl, Appends-nil a)
 
 -- so it is where the reader tells what it had to give
-pub writes_nothing : (form : Form) (told : Option (List ℕ)) (e : RunFault) (a : Option (List ℕ)) → is_output_fault {A = ℕ} (Err e) ≡ false → HoldsForInput told (λ input. WritesShown form input (Err e) a a)
-writes_nothing form None e a quiet = ([], nothing_written form [] e a quiet)
-writes_nothing form (Some input) e a quiet = nothing_written form input e a quiet
+pub writes_nothing : (mode : Mode) (told : Option (List ℕ)) (e : RunFault) (a : Option (List ℕ)) → is_output_fault {A = ℕ} (Err e) ≡ false → HoldsForInput told (λ input. WritesShown mode input (Err e) a a)
+writes_nothing mode None e a quiet = ([], nothing_written mode [] e a quiet)
+writes_nothing mode (Some input) e a quiet = nothing_written mode input e a quiet
 
 -- what is kept has grown by nothing
 kept_whole : (a b : Option (List ℕ)) → Keeps a b → Appends a b []
@@ -58,7 +58,7 @@ kept_whole (Some x) None w = absurd w
 kept_whole (Some x) (Some y) w = w ∙ sym (append-nil x)
 
 -- a fault came where a text was to be written
-pub text_breaks : (form : Form) (input text : List ℕ) (status : ℕ) (e : RunFault) (a b : Option (List ℕ)) → IsShown form input text status → Breaks text e a b → WritesShown form input (Err e) a b
-text_breaks form input text status Input a b h w = absurd w
-text_breaks form input text status Output a b h w = (text, w.0, (status, h), w.1)
-text_breaks form input text status Memory a b h w = ([], refl, kept_whole a b w)
+pub text_breaks : (mode : Mode) (input text : List ℕ) (status : ℕ) (e : RunFault) (a b : Option (List ℕ)) → IsShown mode input text status → WritesUntilFault text e a b → WritesShown mode input (Err e) a b
+text_breaks mode input text status Input a b h w = absurd w
+text_breaks mode input text status Output a b h w = (text, w.0, (status, h), w.1)
+text_breaks mode input text status Memory a b h w = ([], refl, kept_whole a b w)

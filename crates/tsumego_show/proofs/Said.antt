@@ -4,35 +4,35 @@ use Rattle.std.specs.List.{starts_with}
 use Rattle.tt_sgf.specs.Bytes.{close_value}
 use Rattle.tt_sgf.specs.declared.nodes.Node.{Node}
 use Rattle.tt_game.specs.Nodes.{SQ, TR, has}
-use Rattle.tsumego_show.specs.Hints.{is_left_open, is_mover_said, is_said_behind}
-use Rattle.tsumego_show.specs.Marking.{node_without_squares}
+use Rattle.tsumego_show.specs.Hints.{is_left_open, is_side_to_move_given, is_side_to_move_given_after}
+use Rattle.tsumego_show.specs.Marking.{unsquared_triangle_node}
 
-pub said_none : (before : Bool) → is_mover_said before [] ≡ before
-unfolding is_mover_said
+pub said_none : (before : Bool) → is_side_to_move_given before [] ≡ before
+unfolding is_side_to_move_given
 said_none before = refl
 
-pub said_here : (before : Bool) (n : Node) (ns : List Node) → has TR n ≡ true → is_mover_said before (n ∷ ns) ≡ is_said_behind before n
-unfolding is_mover_said
+pub said_here : (before : Bool) (n : Node) (ns : List Node) → has TR n ≡ true → is_side_to_move_given before (n ∷ ns) ≡ is_side_to_move_given_after before n
+unfolding is_side_to_move_given
 said_here before n ns h = rw h refl
 
-pub said_further : (before : Bool) (n : Node) (ns : List Node) → has TR n ≡ false → is_mover_said before (n ∷ ns) ≡ is_mover_said (is_said_behind before n) ns
-unfolding is_mover_said
+pub said_further : (before : Bool) (n : Node) (ns : List Node) → has TR n ≡ false → is_side_to_move_given before (n ∷ ns) ≡ is_side_to_move_given (is_side_to_move_given_after before n) ns
+unfolding is_side_to_move_given
 said_further before n ns h = rw h refl
 
-pub without_none : (k : ℕ) → node_without_squares k [] ≡ None
-unfolding node_without_squares
+pub without_none : (k : ℕ) → unsquared_triangle_node k [] ≡ None
+unfolding unsquared_triangle_node
 without_none k = refl
 
-pub without_here : (k : ℕ) (n : Node) (ns : List Node) → has TR n ≡ true → has SQ n ≡ false → node_without_squares k (n ∷ ns) ≡ Some (k + 1)
-unfolding node_without_squares
+pub without_here : (k : ℕ) (n : Node) (ns : List Node) → has TR n ≡ true → has SQ n ≡ false → unsquared_triangle_node k (n ∷ ns) ≡ Some (k + 1)
+unfolding unsquared_triangle_node
 without_here k n ns h none = rw (h, none) refl
 
-pub without_squared : (k : ℕ) (n : Node) (ns : List Node) → has TR n ≡ true → has SQ n ≡ true → node_without_squares k (n ∷ ns) ≡ None
-unfolding node_without_squares
+pub without_squared : (k : ℕ) (n : Node) (ns : List Node) → has TR n ≡ true → has SQ n ≡ true → unsquared_triangle_node k (n ∷ ns) ≡ None
+unfolding unsquared_triangle_node
 without_squared k n ns h some = rw (h, some) refl
 
-pub without_further : (k : ℕ) (n : Node) (ns : List Node) → has TR n ≡ false → node_without_squares k (n ∷ ns) ≡ node_without_squares (k + 1) ns
-unfolding node_without_squares
+pub without_further : (k : ℕ) (n : Node) (ns : List Node) → has TR n ≡ false → unsquared_triangle_node k (n ∷ ns) ≡ unsquared_triangle_node (k + 1) ns
+unfolding unsquared_triangle_node
 without_further k n ns h = rw h refl
 
 pub left_none : (name : List ℕ) (before : Bool) → is_left_open name before [] ≡ before

@@ -14,8 +14,8 @@ use Rattle.tt_board.specs.Position.{Colouring}
 use Rattle.tt_board.specs.Play.{other}
 use Rattle.tt_board.specs.Reach.{entry_at}
 use Rattle.tt_game.specs.Games.{GameState}
-use Rattle.tsumego_show.specs.Marking.{closed_at, fewer_points, fewest, least_open, open_at}
-use Rattle.tsumego_show.specs.Regions.{inside, near, reached_in, stones, untaken, wall_after}
+use Rattle.tsumego_show.specs.Marking.{proposal_if_closed, smaller_nonempty_set, fewest_squares_proposal, least_open, open_at}
+use Rattle.tsumego_show.specs.Regions.{reached_within_wall, adjacent_points, reached_in_steps, stones, chains_with_liberty_outside, wall_after}
 
 -- no number yet
 pub none_passed : (f : ℕ → Bool) → passing f 0 ≡ set.empty
@@ -32,28 +32,28 @@ unfolding passing
 one_out f n h = ap (passing f) (let e : n + 1 ≡ suc n = omega arith in e) ∙ rw h refl
 
 -- no step yet, and one more
-pub no_step : (size : Size) (free s : Points) → reached_in size free 0 s ≡ s
-unfolding reached_in
+pub no_step : (size : Size) (free s : Points) → reached_in_steps size free 0 s ≡ s
+unfolding reached_in_steps
 no_step size free s = refl
 
 pub one_step : (size : Size) (free : Points) (n : ℕ) (s : Points)
-    → reached_in size free (n + 1) s ≡ set.union (reached_in size free n s) (set.intersection free (near size (reached_in size free n s)))
-unfolding reached_in
-one_step size free n s = ap (λ k. reached_in size free k s) (let e : n + 1 ≡ suc n = omega arith in e)
+    → reached_in_steps size free (n + 1) s ≡ set.union (reached_in_steps size free n s) (set.intersection free (adjacent_points size (reached_in_steps size free n s)))
+unfolding reached_in_steps
+one_step size free n s = ap (λ k. reached_in_steps size free k s) (let e : n + 1 ≡ suc n = omega arith in e)
 
 -- a step that reaches nothing more is followed by none that does
 no_more : (size : Size) (free : Points) (n : ℕ) (s : Points)
-    → set.union (reached_in size free n s) (set.intersection free (near size (reached_in size free n s))) ≡ reached_in size free n s
-    → (d : ℕ) → reached_in size free (n + d) s ≡ reached_in size free n s
-unfolding reached_in
-no_more size free n s h zero = ap (λ k. reached_in size free k s) (let e : n + 0 ≡ n = omega arith in e)
-no_more size free n s h (suc d) = ap (λ k. reached_in size free k s) (let e : n + suc d ≡ suc (n + d) = omega arith in e)
-    ∙ ap (λ (x : Points). set.union x (set.intersection free (near size x))) (no_more size free n s h d) ∙ h
+    → set.union (reached_in_steps size free n s) (set.intersection free (adjacent_points size (reached_in_steps size free n s))) ≡ reached_in_steps size free n s
+    → (d : ℕ) → reached_in_steps size free (n + d) s ≡ reached_in_steps size free n s
+unfolding reached_in_steps
+no_more size free n s h zero = ap (λ k. reached_in_steps size free k s) (let e : n + 0 ≡ n = omega arith in e)
+no_more size free n s h (suc d) = ap (λ k. reached_in_steps size free k s) (let e : n + suc d ≡ suc (n + d) = omega arith in e)
+    ∙ ap (λ (x : Points). set.union x (set.intersection free (adjacent_points size x))) (no_more size free n s h d) ∙ h
 
-pub all_reached : (size : Size) (free found : Points) (n m : ℕ) (s : Points) → found ≡ reached_in size free n s
-    → set.union found (set.intersection free (near size found)) ≡ found → n ≤ m → found ≡ reached_in size free m s
+pub all_reached : (size : Size) (free found : Points) (n m : ℕ) (s : Points) → found ≡ reached_in_steps size free n s
+    → set.union found (set.intersection free (adjacent_points size found)) ≡ found → n ≤ m → found ≡ reached_in_steps size free m s
 all_reached size free found n m s e same h = let e2 : m ≡ n + (m - n) = omega arith in
-    e ∙ sym (ap (λ k. reached_in size free k s) e2 ∙ no_more size free n s (subst (λ (x : Points). set.union x (set.intersection free (near size x)) ≡ x) e same) (m - n))
+    e ∙ sym (ap (λ k. reached_in_steps size free k s) e2 ∙ no_more size free n s (subst (λ (x : Points). set.union x (set.intersection free (adjacent_points size x)) ≡ x) e same) (m - n))
 
 -- the row of a point is on the board
 pub row_on_board : (size : Size) (q : ℕ) → q < point_count size → q / size.columns < size.rows
@@ -65,33 +65,33 @@ right_on_board size q h after =
     omega (arith, div-add-mod' q size.columns, mul-add-lt (q / size.columns) size.columns (q % size.columns + 1) size.rows (row_on_board size q h) after)
 
 module _ (size : Size) (c : Colouring) (k : Colour) (q : ℕ) where
-  pub first_wall : (n : ℕ) → wall_after size c k q (n + 1) ≡ untaken size c k (inside size q (wall_after size c k q n))
+  pub first_wall : (n : ℕ) → wall_after size c k q (n + 1) ≡ chains_with_liberty_outside size c k (reached_within_wall size q (wall_after size c k q n))
   unfolding wall_after
   first_wall n = ap (λ j. wall_after size c k q j) (let e : n + 1 ≡ suc n = omega arith in e)
 
   -- a wall that stays once stays
-  same_wall : (n : ℕ) → untaken size c k (inside size q (wall_after size c k q n)) ≡ wall_after size c k q n
+  same_wall : (n : ℕ) → chains_with_liberty_outside size c k (reached_within_wall size q (wall_after size c k q n)) ≡ wall_after size c k q n
       → (d : ℕ) → wall_after size c k q (n + d) ≡ wall_after size c k q n
   unfolding wall_after
   same_wall n h zero = ap (λ j. wall_after size c k q j) (let e : n + 0 ≡ n = omega arith in e)
   same_wall n h (suc d) = ap (λ j. wall_after size c k q j) (let e : n + suc d ≡ suc (n + d) = omega arith in e)
-      ∙ ap (λ (w : Points). untaken size c k (inside size q w)) (same_wall n h d) ∙ h
+      ∙ ap (λ (w : Points). chains_with_liberty_outside size c k (reached_within_wall size q w)) (same_wall n h d) ∙ h
 
-  pub wall_stays : (found : Points) (n m : ℕ) → found ≡ wall_after size c k q n → untaken size c k (inside size q found) ≡ found → n ≤ m
+  pub wall_stays : (found : Points) (n m : ℕ) → found ≡ wall_after size c k q n → chains_with_liberty_outside size c k (reached_within_wall size q found) ≡ found → n ≤ m
       → found ≡ wall_after size c k q m
   wall_stays found n m e same h = let e2 : m ≡ n + (m - n) = omega arith in
-      e ∙ sym (ap (λ j. wall_after size c k q j) e2 ∙ same_wall n (subst (λ (w : Points). untaken size c k (inside size q w) ≡ w) e same) (m - n))
+      e ∙ sym (ap (λ j. wall_after size c k q j) e2 ∙ same_wall n (subst (λ (w : Points). chains_with_liberty_outside size c k (reached_within_wall size q w) ≡ w) e same) (m - n))
 
 -- one more stone
-pub fewest_more : (s : GameState) (n : ℕ) → fewest s (n + 1) ≡ fewer_points (fewest s n) (closed_at s false n (entry_at s.present n))
-unfolding fewest
-fewest_more s n = ap (fewest s) (let e : n + 1 ≡ suc n = omega arith in e)
+pub fewest_more : (s : GameState) (n : ℕ) → fewest_squares_proposal s (n + 1) ≡ smaller_nonempty_set (fewest_squares_proposal s n) (proposal_if_closed s false n (entry_at s.present n))
+unfolding fewest_squares_proposal
+fewest_more s n = ap (fewest_squares_proposal s) (let e : n + 1 ≡ suc n = omega arith in e)
 
-pub fewest_none : (s : GameState) → fewest s 0 ≡ None
-unfolding fewest
+pub fewest_none : (s : GameState) → fewest_squares_proposal s 0 ≡ None
+unfolding fewest_squares_proposal
 fewest_none s = refl
 
-pub open_more : (s : GameState) (n : ℕ) → least_open s (n + 1) ≡ fewer_points (least_open s n) (open_at s n (entry_at s.present n))
+pub open_more : (s : GameState) (n : ℕ) → least_open s (n + 1) ≡ smaller_nonempty_set (least_open s n) (open_at s n (entry_at s.present n))
 unfolding least_open
 open_more s n = ap (least_open s) (let e : n + 1 ≡ suc n = omega arith in e)
 

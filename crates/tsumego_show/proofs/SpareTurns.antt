@@ -4,8 +4,8 @@ use Rattle.std.proofs.Common.{arith, rules, get_or, length, drop, drop-cons, add
 use Rattle.std.proofs.Math.ListN.{drop_of_length-le}
 use Rattle.tt_game.specs.declared.turns.Turn.{Turn}
 use Rattle.tt_proof.specs.declared.tree.Tree.{Tree}
-use Rattle.tt_proof.specs.Strategy.{Strategy, Entries, done, pick, reply, strategy_of, entries_of_list}
-use Rattle.tsumego_show.specs.Diagram.{greatest}
+use Rattle.tt_proof.specs.Strategy.{Strategy, Entries, done, pick, reply, strategy_of, entries_of_reply}
+use Rattle.tsumego_show.specs.Diagram.{last_below}
 use Rattle.tsumego_show.specs.Variations.{entries_turns, turns_within}
 
 -- so many of n may be written, and r are left; or too many have to be
@@ -52,22 +52,22 @@ drop_none (x ∷ xs) = refl
 module _ (list : List (Turn × Tree)) (depth : ℕ) where
   -- the turns from the n-th entry on
   abbrev rest_turns : ℕ → ℕ
-  rest_turns n = entries_turns (entries_of_list (drop n list)) depth
+  rest_turns n = entries_turns (entries_of_reply (drop n list)) depth
 
   abbrev all_turns : ℕ
-  all_turns = entries_turns (entries_of_list list) depth
+  all_turns = entries_turns (entries_of_reply list) depth
 
   -- what was taken off so far, and what the rest takes, is what all take
   abbrev pub SpareSoFar : ℕ → ℕ → ℕ → Type 0
   SpareSoFar n more left = left + rest_turns n ≡ more + all_turns
 
   pub spare_start : (left : ℕ) → SpareSoFar 0 left left
-  spare_start left = ap (λ (x : List (Turn × Tree)). left + entries_turns (entries_of_list x) depth) (drop_none list)
+  spare_start left = ap (λ (x : List (Turn × Tree)). left + entries_turns (entries_of_reply x) depth) (drop_none list)
 
   module _ (n : ℕ) (e : Turn × Tree) (more left : ℕ) (within : n < length list) (is : e ≡ get_or list n e) (so_far : SpareSoFar n more left) where
     here : rest_turns n ≡ suc (turns_within (strategy_of e.1) depth) + rest_turns (n + 1)
     here =
-        ap (λ (x : List (Turn × Tree)). entries_turns (entries_of_list x) depth)
+        ap (λ (x : List (Turn × Tree)). entries_turns (entries_of_reply x) depth)
         (drop-cons list n e within ∙ ap (λ m. get_or list n e ∷ drop m list) (sym (add-one n)) ∙ ap (λ x. x ∷ drop (n + 1) list) (sym is))
 
     pub spare_used : more ≡ 0 → left < all_turns
@@ -81,7 +81,7 @@ module _ (list : List (Turn × Tree)) (depth : ℕ) where
 
   pub spare_done : (n more left : ℕ) → length list ≤ n → SpareSoFar n more left → all_turns + more ≡ left
   spare_done n more left le so_far =
-      let none : rest_turns n ≡ 0 = ap (λ (x : List (Turn × Tree)). entries_turns (entries_of_list x) depth) (drop_of_length-le list le) in
+      let none : rest_turns n ≡ 0 = ap (λ (x : List (Turn × Tree)). entries_turns (entries_of_reply x) depth) (drop_of_length-le list le) in
       omega (arith, none, so_far)
 
 -- whether they may be written
@@ -91,19 +91,19 @@ written_is n left (Some x) b e h = let le : n ≤ left = omega (arith, h) in let
 
 -- ---- the depth
 
-module _ (so : ℕ → Bool) (n top : ℕ) (h : greatest so (n + 1) ≡ greatest so (top + 1)) where
-  step : greatest so (n + 1) ≡ (if so n then n else greatest so n)
-  step = ap (greatest so) (let e : n + 1 ≡ suc n = omega arith in e)
+module _ (so : ℕ → Bool) (n top : ℕ) (h : last_below so (n + 1) ≡ last_below so (top + 1)) where
+  step : last_below so (n + 1) ≡ (if so n then n else last_below so n)
+  step = ap (last_below so) (let e : n + 1 ≡ suc n = omega arith in e)
 
-  pub depth_found : so n ≡ true → n ≡ greatest so (top + 1)
-  depth_found on = sym (step ∙ ap (λ (b : Bool). if b then n else greatest so n) on) ∙ h
+  pub depth_found : so n ≡ true → n ≡ last_below so (top + 1)
+  depth_found on = sym (step ∙ ap (λ (b : Bool). if b then n else last_below so n) on) ∙ h
 
-  pub depth_less : 0 < n → so n ≡ false → greatest so ((n - 1) + 1) ≡ greatest so (top + 1)
+  pub depth_less : 0 < n → so n ≡ false → last_below so ((n - 1) + 1) ≡ last_below so (top + 1)
   depth_less some off =
-      ap (greatest so) (let e : (n - 1) + 1 ≡ n = omega (arith, some) in e)
-      ∙ sym (step ∙ ap (λ (b : Bool). if b then n else greatest so n) off) ∙ h
+      ap (last_below so) (let e : (n - 1) + 1 ≡ n = omega (arith, some) in e)
+      ∙ sym (step ∙ ap (λ (b : Bool). if b then n else last_below so n) off) ∙ h
 
-pub depth_none : (so : ℕ → Bool) (n top : ℕ) → n ≡ 0 → greatest so (n + 1) ≡ greatest so (top + 1) → 0 ≡ greatest so (top + 1)
+pub depth_none : (so : ℕ → Bool) (n top : ℕ) → n ≡ 0 → last_below so (n + 1) ≡ last_below so (top + 1) → 0 ≡ last_below so (top + 1)
 depth_none so zero top e h = sym (either (so zero) zero refl) ∙ h
   where
     either : (b : Bool) (n : ℕ) → n ≡ zero → (if b then n else n) ≡ zero

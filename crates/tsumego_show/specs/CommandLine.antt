@@ -5,10 +5,10 @@ use Rattle.std.specs.Char.{to_ascii_uppercase}
 use Rattle.tt_sgf.specs.Bytes.{lower_a, upper_A}
 use Rattle.tt_sgf.specs.Values.{number_of}
 use Rattle.tt_proof.specs.declared.tree.TheConstants.{MOST_DEPTH}
-use Rattle.tsumego_show.specs.declared.form.Form.{Form}
-use Rattle.tsumego_show.specs.declared.form.Form.TheVariants.{Diagram, Marks, Picture, Variations}
-use Rattle.tsumego_show.specs.declared.form.Place.{Place}
-use Rattle.tsumego_show.specs.declared.form.Place.TheVariants.{FromAbove, FromBelow}
+use Rattle.tsumego_show.specs.declared.mode.Mode.{Mode}
+use Rattle.tsumego_show.specs.declared.mode.Mode.TheVariants.{Diagram, Marks, Picture, Variations}
+use Rattle.tsumego_show.specs.declared.mode.StonePlace.{StonePlace}
+use Rattle.tsumego_show.specs.declared.mode.StonePlace.TheVariants.{FromAbove, FromBelow}
 
 -- ---- points
 
@@ -25,74 +25,74 @@ abbrev pub upper_T : ℕ
 upper_T = 84
 
 -- the column that a capital letter names in editors, who leave out I
-abbrev pub column_of : ℕ → Option ℕ
-column_of b =
+abbrev pub column_of_editor_letter : ℕ → Option ℕ
+column_of_editor_letter b =
     if nat_le upper_A b && nat_le b upper_H then Some (b - upper_A) else (if nat_le upper_J b && nat_le b upper_T then Some (b - upper_A - 1) else None)
 
 -- the column or row that a letter names in SGF
-abbrev pub count_of : ℕ → Option ℕ
-count_of b = if nat_le lower_a b && nat_le b lower_s then Some (b - lower_a) else None
+abbrev pub coordinate_of_sgf_letter : ℕ → Option ℕ
+coordinate_of_sgf_letter b = if nat_le lower_a b && nat_le b lower_s then Some (b - lower_a) else None
 
 -- the row of SGF, where one letter names it
-abbrev pub row_of : List ℕ → Option ℕ
-row_of [] = None
-row_of (b ∷ []) = count_of b
-row_of (b ∷ c ∷ bs) = None
+abbrev pub sgf_row : List ℕ → Option ℕ
+sgf_row [] = None
+sgf_row (b ∷ []) = coordinate_of_sgf_letter b
+sgf_row (b ∷ c ∷ bs) = None
 
-abbrev pub from_above : Option ℕ → ℕ → Option Place
-from_above None row = None
-from_above (Some column) row = Some (FromAbove column row)
+abbrev pub sgf_place : Option ℕ → ℕ → Option StonePlace
+sgf_place None row = None
+sgf_place (Some column) row = Some (FromAbove column row)
 
 -- the number of a row is 1 to 19
-abbrev pub from_below : Option ℕ → Option ℕ → Option Place
-from_below column None = None
-from_below None (Some row) = None
-from_below (Some column) (Some row) = if nat_le 1 row && nat_le row 19 then Some (FromBelow column row) else None
+abbrev pub editor_place : Option ℕ → Option ℕ → Option StonePlace
+editor_place column None = None
+editor_place None (Some row) = None
+editor_place (Some column) (Some row) = if nat_le 1 row && nat_le row 19 then Some (FromBelow column row) else None
 
-abbrev pub place_with : ℕ → List ℕ → Option ℕ → Option Place
-place_with b bs None = from_below (column_of (to_ascii_uppercase b)) (number_of bs)
-place_with b bs (Some row) = from_above (count_of b) row
+abbrev pub sgf_or_editor_place : ℕ → List ℕ → Option ℕ → Option StonePlace
+sgf_or_editor_place b bs None = editor_place (column_of_editor_letter (to_ascii_uppercase b)) (number_of bs)
+sgf_or_editor_place b bs (Some row) = sgf_place (coordinate_of_sgf_letter b) row
 
 -- the place that a word names: `cb` as SGF does, `C18` or `c18` as editors do
-abbrev pub point_of_word : List ℕ → Option Place
-point_of_word [] = None
-point_of_word (b ∷ bs) = place_with b bs (row_of bs)
+abbrev pub place_of_word : List ℕ → Option StonePlace
+place_of_word [] = None
+place_of_word (b ∷ bs) = sgf_or_editor_place b bs (sgf_row bs)
 
 -- ---- words
 
-abbrev pub marks_in : Option Place → Option Form
-marks_in None = None
-marks_in (Some place) = Some (Marks (Some place))
+abbrev pub mark_mode_at : Option StonePlace → Option Mode
+mark_mode_at None = None
+mark_mode_at (Some place) = Some (Marks (Some place))
 
 -- behind `--mark`
-abbrev pub marks_by : List (List ℕ) → Option Form
-marks_by [] = Some (Marks None)
-marks_by (w ∷ []) = marks_in (point_of_word w)
-marks_by (w ∷ v ∷ ws) = None
+abbrev pub mark_mode : List (List ℕ) → Option Mode
+mark_mode [] = Some (Marks None)
+mark_mode (w ∷ []) = mark_mode_at (place_of_word w)
+mark_mode (w ∷ v ∷ ws) = None
 
 -- how many turns deep variations go where no word says so
 abbrev pub default_depth : ℕ
 default_depth = 20
 
-abbrev pub variations_to : Option ℕ → Option Form
-variations_to None = None
-variations_to (Some n) = if nat_le 1 n && nat_le n MOST_DEPTH then Some (Variations n) else None
+abbrev pub sgf_mode_to_depth : Option ℕ → Option Mode
+sgf_mode_to_depth None = None
+sgf_mode_to_depth (Some n) = if nat_le 1 n && nat_le n MOST_DEPTH then Some (Variations n) else None
 
 -- behind `--sgf`
-abbrev pub variations_by : List (List ℕ) → Option Form
-variations_by [] = Some (Variations default_depth)
-variations_by (w ∷ []) = None
-variations_by (w ∷ v ∷ []) = if pointwise ◌==◌ w (codes "--depth") then variations_to (number_of v) else None
-variations_by (w ∷ v ∷ u ∷ ws) = None
+abbrev pub sgf_mode : List (List ℕ) → Option Mode
+sgf_mode [] = Some (Variations default_depth)
+sgf_mode (w ∷ []) = None
+sgf_mode (w ∷ v ∷ []) = if pointwise ◌==◌ w (codes "--depth") then sgf_mode_to_depth (number_of v) else None
+sgf_mode (w ∷ v ∷ u ∷ ws) = None
 
 -- behind `--svg`
-abbrev pub diagram_by : List (List ℕ) → Option Form
-diagram_by [] = Some Diagram
-diagram_by (w ∷ ws) = None
+abbrev pub svg_mode : List (List ℕ) → Option Mode
+svg_mode [] = Some Diagram
+svg_mode (w ∷ ws) = None
 
 -- what all words ask for; none where they are no words of the program
-abbrev pub form_of : List (List ℕ) → Option Form
-form_of [] = Some Picture
-form_of (w ∷ ws) =
-    if pointwise ◌==◌ w (codes "--svg") then diagram_by ws else (if pointwise ◌==◌ w (codes "--mark") then marks_by ws
-    else (if pointwise ◌==◌ w (codes "--sgf") then variations_by ws else None))
+abbrev pub mode_of_words : List (List ℕ) → Option Mode
+mode_of_words [] = Some Picture
+mode_of_words (w ∷ ws) =
+    if pointwise ◌==◌ w (codes "--svg") then svg_mode ws else (if pointwise ◌==◌ w (codes "--mark") then mark_mode ws
+    else (if pointwise ◌==◌ w (codes "--sgf") then sgf_mode ws else None))

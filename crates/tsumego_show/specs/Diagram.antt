@@ -11,11 +11,11 @@ use Rattle.tt_board.specs.Play.{is_empty, other}
 use Rattle.tt_board.specs.Reach.{entry_at}
 use Rattle.tt_game.specs.Game.{opponent, side_colour}
 use Rattle.tt_game.specs.Line.{LineWithUndo}
-use Rattle.tsumego_show.specs.declared.windows.Along.{Along}
-use Rattle.tsumego_show.specs.declared.windows.Along.TheVariants.{Columns, Rows}
+use Rattle.tsumego_show.specs.declared.windows.Axis.{Axis}
+use Rattle.tsumego_show.specs.declared.windows.Axis.TheVariants.{Columns, Rows}
 use Rattle.tsumego_show.specs.declared.windows.Window.{Window}
 use Rattle.tsumego_show.specs.Picture.{colour_name, editor_column_letter, row_number}
-use Rattle.tsumego_show.specs.Regions.{near}
+use Rattle.tsumego_show.specs.Regions.{adjacent_points}
 
 -- ---- what matters: the columns and rows with a target, a point of the region or a stone beside one, and one more on each side
 
@@ -25,36 +25,36 @@ any_below so zero = false
 any_below so (suc n) = so n || any_below so n
 
 -- the greatest number below n that is so, or 0
-abbrev pub greatest : (ℕ → Bool) → ℕ → ℕ
-greatest so zero = zero
-greatest so (suc n) = if so n then n else greatest so n
+abbrev pub last_below : (ℕ → Bool) → ℕ → ℕ
+last_below so zero = zero
+last_below so (suc n) = if so n then n else last_below so n
 
 -- the least number from k on, of n numbers, that is so, or the one behind them
-abbrev pub least_from : (ℕ → Bool) → ℕ → ℕ → ℕ
-least_from so k zero = k
-least_from so k (suc n) = if so k then k else least_from so (k + 1) n
+abbrev pub first_at_or_after : (ℕ → Bool) → ℕ → ℕ → ℕ
+first_at_or_after so k zero = k
+first_at_or_after so k (suc n) = if so k then k else first_at_or_after so (k + 1) n
 
 -- of n columns or rows the first that is drawn, and the last
 abbrev pub first_shown : (ℕ → Bool) → ℕ → ℕ
-first_shown so n = least_from so 0 (n - 1) - 1
+first_shown so n = first_at_or_after so 0 (n - 1) - 1
 
 abbrev pub last_shown : (ℕ → Bool) → ℕ → ℕ
-last_shown so n = max (first_shown so n) (min (greatest so n + 1) (n - 1))
+last_shown so n = max (first_shown so n) (min (last_below so n + 1) (n - 1))
 
 module _ (p : LineWithUndo) where
   -- both sides may play on q
-  abbrev pub is_inside : ℕ → Bool
-  is_inside q = set.contains p.frame.region q
+  abbrev pub is_in_region : ℕ → Bool
+  is_in_region q = set.contains p.frame.region q
 
   abbrev pub is_target : ℕ → Bool
   is_target q = set.contains p.frame.targets q
 
   -- a stone beside the region
-  abbrev pub is_beside : ℕ → Bool
-  is_beside q = not (is_empty (entry_at p.state.present q)) && set.contains (near p.frame.size p.frame.region) q
+  abbrev pub is_stone_beside_region : ℕ → Bool
+  is_stone_beside_region q = not (is_empty (entry_at p.state.present q)) && set.contains (adjacent_points p.frame.size p.frame.region) q
 
   abbrev pub matters : ℕ → Bool
-  matters q = is_target q || (is_inside q || is_beside q)
+  matters q = is_target q || (is_in_region q || is_stone_beside_region q)
 
   unfoldable pub column_matters : ℕ → Bool
   column_matters column = any_below (λ row. matters (row * p.frame.size.columns + column)) p.frame.size.rows
@@ -63,7 +63,7 @@ module _ (p : LineWithUndo) where
   row_matters row = any_below (λ column. matters (row * p.frame.size.columns + column)) p.frame.size.columns
 
   -- what is asked of columns, or of rows
-  abbrev pub matters_along : Along → ℕ → Bool
+  abbrev pub matters_along : Axis → ℕ → Bool
   matters_along Columns = column_matters
   matters_along Rows = row_matters
 
@@ -75,15 +75,15 @@ module _ (p : LineWithUndo) where
     bottom = last_shown (matters_along Rows) p.frame.size.rows;
   }
 
-abbrev pub count_along : Size → Along → ℕ
+abbrev pub count_along : Size → Axis → ℕ
 count_along size Columns = size.columns
 count_along size Rows = size.rows
 
 -- ---- shapes, by the middle of their cell
 
 -- the middle of the cell with this number
-abbrev pub middle : ℕ → ℕ
-middle n = 24 * n + 36
+abbrev pub cell_middle : ℕ → ℕ
+cell_middle n = 24 * n + 36
 
 abbrev pub fill_colour : Colour → List ℕ
 fill_colour Black = codes "black"
@@ -95,15 +95,15 @@ stone_head x y = codes "<circle cx='" ++ (decimal x ++ (codes "' cy='" ++ (decim
 unfoldable pub stone_text : ℕ → ℕ → Colour → List ℕ
 stone_text x y k = stone_head x y ++ (fill_colour k ++ codes "'/>\n")
 
--- the fill_colour of a mark on this entry
+-- the colour of a mark on this entry
 abbrev pub mark_colour : Option Colour → List ℕ
 mark_colour None = fill_colour Black
 mark_colour (Some k) = fill_colour (other k)
 
 -- what is behind a mark on this entry
-abbrev pub mark_ground : Option Colour → List ℕ
-mark_ground None = codes "white"
-mark_ground (Some k) = codes "none"
+abbrev pub square_fill : Option Colour → List ℕ
+square_fill None = codes "white"
+square_fill (Some k) = codes "none"
 
 unfoldable pub triangle_head : ℕ → ℕ → List ℕ
 triangle_head x top = codes "<path d='M" ++ (decimal x ++ (codes " " ++ (decimal top ++ codes "l6 11h-12z' stroke-width='1.5' fill='none' stroke='")))
@@ -114,7 +114,7 @@ triangle_text x y e = triangle_head x (y - 7) ++ (mark_colour e ++ codes "'/>\n"
 abbrev pub square_text : ℕ → ℕ → Option Colour → List ℕ
 square_text x y e =
     codes "<rect x='" ++ (decimal (x - 4) ++ (codes "' y='" ++ (decimal (y - 4) ++ (codes "' width='8' height='8' fill='"
-    ++ (mark_ground e ++ (codes "' stroke='" ++ (mark_colour e ++ codes "'/>\n")))))))
+    ++ (square_fill e ++ (codes "' stroke='" ++ (mark_colour e ++ codes "'/>\n")))))))
 
 -- a stone with a number
 unfoldable pub number_head : ℕ → ℕ → List ℕ
@@ -123,36 +123,36 @@ number_head x below = codes "<text x='" ++ (decimal x ++ (codes "' y='" ++ (deci
 unfoldable pub number_end : ℕ → List ℕ
 number_end n = codes "'>" ++ (decimal n ++ codes "</text>\n")
 
-unfoldable pub digits_text : ℕ → ℕ → Colour → ℕ → List ℕ
-digits_text x below k n = number_head x below ++ (mark_colour (Some k) ++ number_end n)
+unfoldable pub stone_number_text : ℕ → ℕ → Colour → ℕ → List ℕ
+stone_number_text x below k n = number_head x below ++ (mark_colour (Some k) ++ number_end n)
 
 abbrev pub numbered_stone : ℕ → ℕ → Colour → ℕ → List ℕ
-numbered_stone x y k n = stone_text x y k ++ digits_text x (y + 5) k n
+numbered_stone x y k n = stone_text x y k ++ stone_number_text x (y + 5) k n
 
 -- ---- points
 
 -- the number of q in a line of plays whose first one has number n, if it is one of them
-abbrev pub number_in : ℕ → List ℕ → ℕ → Option ℕ
-number_in n [] q = None
-number_in n (r ∷ rs) q = if nat_eq r q then Some n else number_in (n + 1) rs q
+abbrev pub number_of_play : ℕ → List ℕ → ℕ → Option ℕ
+number_of_play n [] q = None
+number_of_play n (r ∷ rs) q = if nat_eq r q then Some n else number_of_play (n + 1) rs q
 
-abbrev pub entry_text : ℕ → ℕ → Option Colour → List ℕ
-entry_text x y None = []
-entry_text x y (Some k) = stone_text x y k
+abbrev pub stone_if_any_text : ℕ → ℕ → Option Colour → List ℕ
+stone_if_any_text x y None = []
+stone_if_any_text x y (Some k) = stone_text x y k
 
 module _ (p : LineWithUndo) where
   -- the side to move has the odd numbers
-  abbrev pub colour_of : ℕ → Colour
-  colour_of n = side_colour p.frame (if nat_eq (n % 2) 1 then p.state.to_move else opponent p.state.to_move)
+  abbrev pub numbered_stone_colour : ℕ → Colour
+  numbered_stone_colour n = side_colour p.frame (if nat_eq (n % 2) 1 then p.state.to_move else opponent p.state.to_move)
 
-  abbrev pub numbered_text : ℕ → ℕ → Option ℕ → List ℕ
-  numbered_text x y None = []
-  numbered_text x y (Some n) = numbered_stone x y (colour_of n) n
+  abbrev pub numbered_stone_if_any : ℕ → ℕ → Option ℕ → List ℕ
+  numbered_stone_if_any x y None = []
+  numbered_stone_if_any x y (Some n) = numbered_stone x y (numbered_stone_colour n) n
 
 module _ (p : LineWithUndo) (plays : List ℕ) where
   -- a point of a region that isn't the whole board, where no number stands
   abbrev pub has_square : ℕ → Bool
-  has_square q = is_inside p q && (is_none (number_in 1 plays q) && not (nat_eq (set.len p.frame.region) (point_count p.frame.size)))
+  has_square q = is_in_region p q && (is_none (number_of_play 1 plays q) && not (nat_eq (set.len p.frame.region) (point_count p.frame.size)))
 
   abbrev pub mark_text : ℕ → ℕ → ℕ → List ℕ
   mark_text x y q =
@@ -160,41 +160,41 @@ module _ (p : LineWithUndo) (plays : List ℕ) where
 
   -- the stone, the mark and the number on q
   unfoldable pub point_shapes : ℕ → ℕ → ℕ → List ℕ
-  point_shapes x y q = entry_text x y (entry_at p.state.present q) ++ (mark_text x y q ++ numbered_text p x y (number_in 1 plays q))
+  point_shapes x y q = stone_if_any_text x y (entry_at p.state.present q) ++ (mark_text x y q ++ numbered_stone_if_any p x y (number_of_play 1 plays q))
 
 -- ---- the board, by the number of the column or row in the window
 
 -- half a cell further, where the board goes on
-abbrev pub further : Bool → ℕ
-further goes_on = if goes_on then 12 else 0
+abbrev pub grid_overhang : Bool → ℕ
+grid_overhang goes_on = if goes_on then 12 else 0
 
 module _ (w : Window) where
-  abbrev pub columns_shown : ℕ
-  columns_shown = w.right + 1 - w.left
+  abbrev pub shown_column_count : ℕ
+  shown_column_count = w.right + 1 - w.left
 
-  abbrev pub rows_shown : ℕ
-  rows_shown = w.bottom + 1 - w.top
+  abbrev pub shown_row_count : ℕ
+  shown_row_count = w.bottom + 1 - w.top
 
   -- where the lines of the board begin
-  abbrev pub left_end : ℕ
-  left_end = 36 - further (nat_lt 0 w.left)
+  abbrev pub grid_left : ℕ
+  grid_left = 36 - grid_overhang (nat_lt 0 w.left)
 
-  abbrev pub top_end : ℕ
-  top_end = 36 - further (nat_lt 0 w.top)
+  abbrev pub grid_top : ℕ
+  grid_top = 36 - grid_overhang (nat_lt 0 w.top)
 
   -- the middle of the document, which has room for the line below the board
-  abbrev pub centre : ℕ
-  centre = max 42 (12 * (w.right - w.left) + 30)
+  abbrev pub document_centre : ℕ
+  document_centre = max 42 (12 * (w.right - w.left) + 30)
 
   abbrev pub width : ℕ
-  width = 2 * centre
+  width = 2 * document_centre
 
   abbrev pub height : ℕ
   height = 24 * (w.bottom - w.top) + 84
 
   -- where that line stands
-  abbrev pub caption_below : ℕ
-  caption_below = 24 * (w.bottom - w.top) + 72
+  abbrev pub caption_baseline : ℕ
+  caption_baseline = 24 * (w.bottom - w.top) + 72
 
 -- the beginning of a document of this width and height, and its white ground
 unfoldable pub svg_head : ℕ → ℕ → List ℕ
@@ -204,51 +204,51 @@ svg_head width height =
     ++ codes "' fill='white'/>\n")))))))
 
 -- a column's line, and the beginning of its letter
-unfoldable pub column_stroke : ℕ → ℕ → ℕ → List ℕ
-column_stroke x top bottom =
+unfoldable pub column_head : ℕ → ℕ → ℕ → List ℕ
+column_head x top bottom =
     codes "<path d='M" ++ (decimal x ++ (codes " " ++ (decimal top ++ (codes "V" ++ (decimal bottom ++ (codes "' stroke='black'/>\n<text x='" ++ (decimal x ++ codes "' y='17'>")))))))
 
 -- a row's line, and its number
-unfoldable pub row_stroke : ℕ → ℕ → ℕ → ℕ → ℕ → List ℕ
-row_stroke left y right below number =
+unfoldable pub row_elements : ℕ → ℕ → ℕ → ℕ → ℕ → List ℕ
+row_elements left y right below number =
     codes "<path d='M" ++ (decimal left ++ (codes " " ++ (decimal y ++ (codes "H" ++ (decimal right ++ (codes "' stroke='black'/>\n<text x='12' y='"
     ++ (decimal below ++ (codes "'>" ++ (decimal number ++ codes "</text>\n")))))))))
 
 module _ (size : Size) (w : Window) where
   -- and where they end
-  abbrev pub right_end : ℕ
-  right_end = 24 * (w.right - w.left) + 36 + further (nat_lt (w.right + 1) size.columns)
+  abbrev pub grid_right : ℕ
+  grid_right = 24 * (w.right - w.left) + 36 + grid_overhang (nat_lt (w.right + 1) size.columns)
 
-  abbrev pub bottom_end : ℕ
-  bottom_end = 24 * (w.bottom - w.top) + 36 + further (nat_lt (w.bottom + 1) size.rows)
+  abbrev pub grid_bottom : ℕ
+  grid_bottom = 24 * (w.bottom - w.top) + 36 + grid_overhang (nat_lt (w.bottom + 1) size.rows)
 
   -- a column's line and letter
-  unfoldable pub column_shapes : ℕ → List ℕ
-  column_shapes i = column_stroke (middle i) (top_end w) bottom_end ++ (editor_column_letter (w.left + i) ∷ codes "</text>\n")
+  unfoldable pub column_line_and_letter : ℕ → List ℕ
+  column_line_and_letter i = column_head (cell_middle i) (grid_top w) grid_bottom ++ (editor_column_letter (w.left + i) ∷ codes "</text>\n")
 
   -- a row's line and number
-  unfoldable pub row_shapes : ℕ → List ℕ
-  row_shapes j = row_stroke (left_end w) (middle j) right_end (middle j + 4) (row_number size (w.top + j))
+  unfoldable pub row_line_and_number : ℕ → List ℕ
+  row_line_and_number j = row_elements (grid_left w) (cell_middle j) grid_right (cell_middle j + 4) (row_number size (w.top + j))
 
 module _ (p : LineWithUndo) (w : Window) where
   -- `Black to play`, as books have it below a diagram
   unfoldable pub caption : List ℕ
   caption =
-      codes "<text x='" ++ (decimal (centre w) ++ (codes "' y='" ++ (decimal (caption_below w)
+      codes "<text x='" ++ (decimal (document_centre w) ++ (codes "' y='" ++ (decimal (caption_baseline w)
       ++ (codes "'>" ++ (colour_name (side_colour p.frame p.state.to_move) ++ codes " to play</text>\n")))))
 
 module _ (p : LineWithUndo) (plays : List ℕ) (w : Window) where
   -- the shapes on the points of a row
   unfoldable pub cell_shapes : ℕ → ℕ → List ℕ
-  cell_shapes j i = point_shapes p plays (middle i) (middle j) ((w.top + j) * p.frame.size.columns + (w.left + i))
+  cell_shapes j i = point_shapes p plays (cell_middle i) (cell_middle j) ((w.top + j) * p.frame.size.columns + (w.left + i))
 
-  abbrev pub points_shapes : ℕ → List ℕ
-  points_shapes j = flat_map (cell_shapes j) (range_with_len 0 (columns_shown w))
+  abbrev pub row_points_shapes : ℕ → List ℕ
+  row_points_shapes j = flat_map (cell_shapes j) (range_with_len 0 (shown_column_count w))
 
-  abbrev pub drawing : List ℕ
-  drawing = svg_head (width w) (height w) ++ (flat_map (column_shapes p.frame.size w) (range_with_len 0 (columns_shown w)) ++ (flat_map (row_shapes p.frame.size w) (range_with_len 0 (rows_shown w))
-      ++ (flat_map points_shapes (range_with_len 0 (rows_shown w)) ++ (caption p w ++ codes "</svg>\n"))))
+  abbrev pub svg_of_window : List ℕ
+  svg_of_window = svg_head (width w) (height w) ++ (flat_map (column_line_and_letter p.frame.size w) (range_with_len 0 (shown_column_count w)) ++ (flat_map (row_line_and_number p.frame.size w) (range_with_len 0 (shown_row_count w))
+      ++ (flat_map row_points_shapes (range_with_len 0 (shown_row_count w)) ++ (caption p w ++ codes "</svg>\n"))))
 
 -- the problem with these plays, numbered from 1 on
 abbrev pub svg_text : LineWithUndo → List ℕ → List ℕ
-svg_text p plays = drawing p plays (window p)
+svg_text p plays = svg_of_window p plays (window p)

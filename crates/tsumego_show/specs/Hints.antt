@@ -16,114 +16,114 @@ use Rattle.tt_game.specs.Line.{LineWithUndo}
 use Rattle.tt_game.specs.Nodes.{B, PL, TR, W, has, is_setup}
 use Rattle.tt_proof.specs.CertificateText.{turn_text}
 use Rattle.tsumego_show.specs.Picture.{editor_column_letter, row_number}
-use Rattle.tsumego_show.specs.Regions.{empties, near, reached, stones, untaken}
+use Rattle.tsumego_show.specs.Regions.{empties, adjacent_points, reached, stones, chains_with_liberty_outside}
 
 -- ---- points by their names
 
 module _ (size : Size) where
   -- the name of a point as editors have it
-  abbrev pub editor_name : ℕ → List ℕ
-  editor_name q = editor_column_letter (q % size.columns) ∷ decimal (row_number size (q / size.columns))
+  abbrev pub editor_point_name : ℕ → List ℕ
+  editor_point_name q = editor_column_letter (q % size.columns) ∷ decimal (row_number size (q / size.columns))
 
   -- both names of a point, as `C18=cb`
-  unfoldable pub both_names : ℕ → List ℕ
-  both_names q = editor_name q ++ (codes "=" ++ turn_text size (Play q))
+  unfoldable pub both_point_names : ℕ → List ℕ
+  both_point_names q = editor_point_name q ++ (codes "=" ++ turn_text size (Play q))
 
   -- a blank and the names of a point, where the set has it
   unfoldable pub member_name : Points → ℕ → List ℕ
-  member_name points q = if set.contains points q then space ∷ both_names q else []
+  member_name points q = if set.contains points q then space ∷ both_point_names q else []
 
   -- the names of the points of a set, row by row
-  abbrev pub names_text : Points → List ℕ
-  names_text points = flat_map (member_name points) (range_with_len 0 (point_count size))
+  abbrev pub point_names_text : Points → List ℕ
+  point_names_text points = flat_map (member_name points) (range_with_len 0 (point_count size))
 
   -- a newline ends them
-  abbrev pub members_text : Points → List ℕ
-  members_text points = names_text points ++ newline ∷ []
+  abbrev pub point_names_line : Points → List ℕ
+  point_names_line points = point_names_text points ++ newline ∷ []
 
   -- the words and the points, where there are points
-  abbrev pub listed : List ℕ → Points → List ℕ
-  listed words points = if nat_eq (set.len points) 0 then [] else words ++ members_text points
+  abbrev pub points_line_if_any : List ℕ → Points → List ℕ
+  points_line_if_any words points = if nat_eq (set.len points) 0 then [] else words ++ point_names_line points
 
 module _ (p : LineWithUndo) where
   -- ---- stones and chains
 
   -- the stones of the defender, and of the attacker
-  unfoldable pub defenders : Points
-  defenders = stones p.frame.size p.state.present p.frame.defender
+  unfoldable pub defender_stones : Points
+  defender_stones = stones p.frame.size p.state.present p.frame.defender
 
-  unfoldable pub attackers : Points
-  attackers = stones p.frame.size p.state.present (other p.frame.defender)
+  unfoldable pub attacker_stones : Points
+  attacker_stones = stones p.frame.size p.state.present (other p.frame.defender)
 
   -- the chains of the targets
   unfoldable pub target_chains : Points
-  target_chains = reached p.frame.size defenders p.frame.targets
+  target_chains = reached p.frame.size defender_stones p.frame.targets
 
   -- and with them those of the defender's stones in the region
-  unfoldable pub held_chains : Points
-  held_chains = reached p.frame.size defenders (set.union p.frame.targets (set.intersection p.frame.region defenders))
+  unfoldable pub defending_chains : Points
+  defending_chains = reached p.frame.size defender_stones (set.union p.frame.targets (set.intersection p.frame.region defender_stones))
 
   -- the empty points that nobody can fill
-  unfoldable pub unfillables : Points
-  unfillables = set.difference (empties p.frame.size p.state.present) p.frame.region
+  unfoldable pub unfillable_points : Points
+  unfillable_points = set.difference (empties p.frame.size p.state.present) p.frame.region
 
   -- ---- hints
 
   -- the empty points of the region, and those chains: what has no liberty outside where the region is closed
-  unfoldable pub enclosed : Points
-  enclosed = set.union (set.intersection p.frame.region (empties p.frame.size p.state.present)) held_chains
+  unfoldable pub enclosed_points : Points
+  enclosed_points = set.union (set.intersection p.frame.region (empties p.frame.size p.state.present)) defending_chains
 
   -- the empty points that nobody can fill, beside those
   unfoldable pub leaks : Points
-  leaks = set.intersection unfillables (near p.frame.size enclosed)
+  leaks = set.intersection unfillable_points (adjacent_points p.frame.size enclosed_points)
 
   -- the attacker's stones outside the region, whose chains have all their liberties in it
-  unfoldable pub takeables : Points
-  takeables = set.difference (set.difference attackers p.frame.region) (untaken p.frame.size p.state.present p.frame.defender p.frame.region)
+  unfoldable pub capturable_stones : Points
+  capturable_stones = set.difference (set.difference attacker_stones p.frame.region) (chains_with_liberty_outside p.frame.size p.state.present p.frame.defender p.frame.region)
 
   -- the defender's stones in or beside the region, of other chains than the targets'
-  unfoldable pub strangers : Points
-  strangers = set.intersection (set.difference defenders target_chains) (set.union p.frame.region (near p.frame.size p.frame.region))
+  unfoldable pub other_defender_stones : Points
+  other_defender_stones = set.intersection (set.difference defender_stones target_chains) (set.union p.frame.region (adjacent_points p.frame.size p.frame.region))
 
   -- the most points of a board that may well be a region as a whole
-  abbrev pub most_points : ℕ
-  most_points = 10
+  abbrev pub most_small_board_points : ℕ
+  most_small_board_points = 10
 
   -- the region is all of a larger board
-  abbrev pub is_wide : Bool
-  is_wide = nat_lt most_points (point_count p.frame.size) && nat_eq (set.len p.frame.region) (point_count p.frame.size)
+  abbrev pub is_region_too_wide : Bool
+  is_region_too_wide = nat_lt most_small_board_points (point_count p.frame.size) && nat_eq (set.len p.frame.region) (point_count p.frame.size)
 
   -- ---- their lines; a newline ends each
 
   abbrev pub leaks_line : List ℕ
-  leaks_line = listed p.frame.size (codes "hint: empty and not in the region, so that nobody can fill them:") leaks
+  leaks_line = points_line_if_any p.frame.size (codes "hint: empty and not in the region, so that nobody can fill them:") leaks
 
-  abbrev pub takeables_line : List ℕ
-  takeables_line = listed p.frame.size (codes "hint: unlike T and not in the region, and can be taken by plays in it:") takeables
+  abbrev pub capturable_stones_line : List ℕ
+  capturable_stones_line = points_line_if_any p.frame.size (codes "hint: unlike T and not in the region, and can be taken by plays in it:") capturable_stones
 
-  abbrev pub strangers_line : List ℕ
-  strangers_line = listed p.frame.size (codes "hint: stones like T in or beside the region, of other chains:") strangers
+  abbrev pub other_defender_stones_line : List ℕ
+  other_defender_stones_line = points_line_if_any p.frame.size (codes "hint: stones like T in or beside the region, of other chains:") other_defender_stones
 
-  abbrev pub wide_line : List ℕ
-  wide_line = if is_wide then codes "hint: the region is the whole board" ++ newline ∷ [] else []
+  abbrev pub wide_region_line : List ℕ
+  wide_region_line = if is_region_too_wide then codes "hint: the region is the whole board" ++ newline ∷ [] else []
 
   abbrev pub hints : List ℕ
-  hints = leaks_line ++ (takeables_line ++ (strangers_line ++ wide_line))
+  hints = leaks_line ++ (capturable_stones_line ++ (other_defender_stones_line ++ wide_region_line))
 
 -- ---- who moves
 
 -- whether it is said behind a node who moves: a setup says it by PL, and a move says it; behind other nodes it is as before
-abbrev pub is_said_behind : Bool → Node → Bool
-is_said_behind before n = if is_setup n then has PL n else (has B n || (has W n || before))
+abbrev pub is_side_to_move_given_after : Bool → Node → Bool
+is_side_to_move_given_after before n = if is_setup n then has PL n else (has B n || (has W n || before))
 
 -- and at the first of these nodes that has TR, where the problem stands
-unfoldable pub is_mover_said : Bool → List Node → Bool
-is_mover_said before [] = before
-is_mover_said before (n ∷ ns) = if has TR n then is_said_behind before n else is_mover_said (is_said_behind before n) ns
+unfoldable pub is_side_to_move_given : Bool → List Node → Bool
+is_side_to_move_given before [] = before
+is_side_to_move_given before (n ∷ ns) = if has TR n then is_side_to_move_given_after before n else is_side_to_move_given (is_side_to_move_given_after before n) ns
 
 -- where nobody says who moves, Black does
-abbrev pub mover_line : List Node → List ℕ
-mover_line ns = if is_mover_said false ns then [] else codes "hint: the setup has no PL, so Black is to move" ++ newline ∷ []
+abbrev pub missing_mover_line : List Node → List ℕ
+missing_mover_line ns = if is_side_to_move_given false ns then [] else codes "hint: the setup has no PL, so Black is to move" ++ newline ∷ []
 
 -- ---- comments that go on too far
 

@@ -1,16 +1,16 @@
 -- What public contracts cite.
 pub mod CommandLine
 pub mod Diagram
-pub mod Drawing
+pub mod StrategyListing
 pub mod FaultDetails
-pub mod Found
+pub mod FollowingStrategy
 pub mod Hints
 pub mod Marking
 pub mod Picture
 pub mod Refusals
 pub mod Regions
 pub mod Shown
-pub mod Solution
+pub mod NumberedPlays
 pub mod TreeBytes
 pub mod Variations
 pub mod Writing

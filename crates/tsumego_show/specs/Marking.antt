@@ -19,85 +19,85 @@ use Rattle.tt_game.specs.Games.{GameState}
 use Rattle.tt_game.specs.Line.{LineWithUndo}
 use Rattle.tt_game.specs.Nodes.{SQ, TR, has}
 use Rattle.tt_sgf.specs.Bytes.{newline}
-use Rattle.tt_game.specs.Problems.{nodes_before_solution, game_of, posed}
-use Rattle.tsumego_show.specs.declared.form.Place.{Place}
-use Rattle.tsumego_show.specs.declared.form.Place.TheVariants.{FromAbove, FromBelow}
-use Rattle.tsumego_show.specs.declared.proposals.StoneWithPoints.{StoneWithPoints}
+use Rattle.tt_game.specs.Problems.{nodes_before_solution, game_of, posed_problem}
+use Rattle.tsumego_show.specs.declared.mode.StonePlace.{StonePlace}
+use Rattle.tsumego_show.specs.declared.mode.StonePlace.TheVariants.{FromAbove, FromBelow}
+use Rattle.tsumego_show.specs.declared.mark_proposals.StoneWithPoints.{StoneWithPoints}
 use Rattle.tsumego_show.specs.declared.tree_bytes.LexicalState.TheVariants.{Outside}
-use Rattle.tsumego_show.specs.declared.variations.PointList.TheVariants.{Squares, Triangles}
-use Rattle.tsumego_show.specs.Hints.{both_names, comment_lines, hints, members_text}
+use Rattle.tsumego_show.specs.declared.variations.RootPointProperty.TheVariants.{Squares, Triangles}
+use Rattle.tsumego_show.specs.Hints.{both_point_names, comment_lines, hints, point_names_line}
 use Rattle.tsumego_show.specs.Picture.{colour_name}
 use Rattle.tsumego_show.specs.Refusals.{fault_text, refusal_line}
-use Rattle.tsumego_show.specs.Regions.{around, is_closed, is_inner, region, stones, ways_out}
-use Rattle.tsumego_show.specs.TreeBytes.{behind_semicolon, from_open, kept_text}
-use Rattle.tsumego_show.specs.Variations.{list_text}
+use Rattle.tsumego_show.specs.Regions.{nearby_empties, is_closed, is_inner, proposed_region, stones, ways_out}
+use Rattle.tsumego_show.specs.TreeBytes.{semicolon_end, from_first_parenthesis, tree_as_given}
+use Rattle.tsumego_show.specs.Variations.{point_list_property}
 
 -- ---- which marks are there
 
 -- the nodes up to where a main line asks
-abbrev pub asked_nodes : List Node → List Node
-asked_nodes ns = take (nodes_before_solution false ns) ns
+abbrev pub problem_nodes : List Node → List Node
+problem_nodes ns = take (nodes_before_solution false ns) ns
 
 -- one of them has triangles
 abbrev pub has_triangles : List Node → Bool
-has_triangles ns = list_any (has TR) (asked_nodes ns)
+has_triangles ns = list_any (has TR) (problem_nodes ns)
 
-abbrev pub has_in : List ℕ → Option Node → Bool
-has_in name None = false
-has_in name (Some n) = has name n
+abbrev pub is_some_with_property : List ℕ → Option Node → Bool
+is_some_with_property name None = false
+is_some_with_property name (Some n) = has name n
 
 -- the last of them, which is to get the marks, has squares
-abbrev pub has_squares : List Node → Bool
-has_squares ns = has_in SQ (slice_get (asked_nodes ns) (length (asked_nodes ns) - 1))
+abbrev pub is_last_node_squared : List Node → Bool
+is_last_node_squared ns = is_some_with_property SQ (slice_get (problem_nodes ns) (length (problem_nodes ns) - 1))
 
 -- ---- which stone
 
 -- the point of this column and row, where the board has it
-abbrev pub point_of_coordinates : Size → ℕ → ℕ → Option ℕ
-point_of_coordinates size column row = if nat_lt column size.columns && nat_lt row size.rows then Some (row * size.columns + column) else None
+abbrev pub point_if_on_board : Size → ℕ → ℕ → Option ℕ
+point_if_on_board size column row = if nat_lt column size.columns && nat_lt row size.rows then Some (row * size.columns + column) else None
 
 -- the point of a place; rows count from above, or from 1 below
-abbrev pub placed_point : Size → Place → Option ℕ
-placed_point size (FromAbove column row) = point_of_coordinates size column row
-placed_point size (FromBelow column number) = if nat_lt 0 number && nat_le number size.rows then point_of_coordinates size column (size.rows - number) else None
+abbrev pub point_of_place : Size → StonePlace → Option ℕ
+point_of_place size (FromAbove column row) = point_if_on_board size column row
+point_of_place size (FromBelow column number) = if nat_lt 0 number && nat_le number size.rows then point_if_on_board size column (size.rows - number) else None
 
 -- ---- which marks
 
 -- the one with the fewer points, and of two with as many the first
-abbrev pub fewer_points : Option StoneWithPoints → Option StoneWithPoints → Option StoneWithPoints
-fewer_points a None = a
-fewer_points None (Some b) = Some b
-fewer_points (Some a) (Some b) = if nat_lt (set.len b.points) (set.len a.points) then Some b else Some a
+abbrev pub smaller_nonempty_set : Option StoneWithPoints → Option StoneWithPoints → Option StoneWithPoints
+smaller_nonempty_set a None = a
+smaller_nonempty_set None (Some b) = Some b
+smaller_nonempty_set (Some a) (Some b) = if nat_lt (set.len b.points) (set.len a.points) then Some b else Some a
 
 module _ (s : GameState) where
   -- the stone on q with its region, where a stone is there, and the region is closed and, where nobody named the stone, an inner one
-  abbrev pub closed_at : Bool → ℕ → Option Colour → Option StoneWithPoints
-  closed_at is_named q None = None
-  closed_at is_named q (Some k) =
-      if is_closed s.size s.present k q && (is_named || is_inner s.size s.present k q) then Some (record { stone = q; colour = k; points = region s.size s.present k q }) else None
+  abbrev pub proposal_if_closed : Bool → ℕ → Option Colour → Option StoneWithPoints
+  proposal_if_closed is_named q None = None
+  proposal_if_closed is_named q (Some k) =
+      if is_closed s.size s.present k q && (is_named || is_inner s.size s.present k q) then Some (record { stone = q; colour = k; points = proposed_region s.size s.present k q }) else None
 
   -- of the stones on the first n points the one with the fewest squares
-  unfoldable pub fewest : ℕ → Option StoneWithPoints
-  fewest zero = None
-  fewest (suc n) = fewer_points (fewest n) (closed_at false n (entry_at s.present n))
+  unfoldable pub fewest_squares_proposal : ℕ → Option StoneWithPoints
+  fewest_squares_proposal zero = None
+  fewest_squares_proposal (suc n) = smaller_nonempty_set (fewest_squares_proposal n) (proposal_if_closed false n (entry_at s.present n))
 
   -- that on the point, where the board has it
-  abbrev pub closed_on : Option ℕ → Option StoneWithPoints
-  closed_on None = None
-  closed_on (Some q) = closed_at true q (entry_at s.present q)
+  abbrev pub proposal_for_point : Option ℕ → Option StoneWithPoints
+  proposal_for_point None = None
+  proposal_for_point (Some q) = proposal_if_closed true q (entry_at s.present q)
 
   -- that in a place, or on any point
-  abbrev pub chosen : Option Place → Option StoneWithPoints
-  chosen None = fewest (point_count s.size)
-  chosen (Some place) = closed_on (placed_point s.size place)
+  abbrev pub proposal_for_place : Option StonePlace → Option StoneWithPoints
+  proposal_for_place None = fewest_squares_proposal (point_count s.size)
+  proposal_for_place (Some place) = proposal_for_point (point_of_place s.size place)
 
   -- where there are squares none is proposed: two regions would be one
-  abbrev pub proposed : Bool → Option Place → Option StoneWithPoints
-  proposed is_squared place = if is_squared then None else chosen place
+  abbrev pub proposal_unless_squared : Bool → Option StonePlace → Option StoneWithPoints
+  proposal_unless_squared is_squared place = if is_squared then None else proposal_for_place place
 
   -- the problem with a triangle on the stone, and squares on its region
-  abbrev pub marked : StoneWithPoints → LineWithUndo
-  marked m = posed s m.points (set.insert set.empty m.stone) m.colour
+  abbrev pub problem_with_proposal : StoneWithPoints → LineWithUndo
+  problem_with_proposal m = posed_problem s m.points (set.insert set.empty m.stone) m.colour
 
 -- ---- which group is open least
 
@@ -111,7 +111,7 @@ module _ (s : GameState) where
   -- of the stones on the first n points the one with the fewest ways out
   unfoldable pub least_open : ℕ → Option StoneWithPoints
   least_open zero = None
-  least_open (suc n) = fewer_points (least_open n) (open_at n (entry_at s.present n))
+  least_open (suc n) = smaller_nonempty_set (least_open n) (open_at n (entry_at s.present n))
 
   abbrev pub has_stones : Colour → Bool
   has_stones k = nat_lt 0 (set.len (stones s.size s.present k))
@@ -120,41 +120,41 @@ module _ (s : GameState) where
 
 -- the triangles and squares of a problem
 abbrev pub marks_text : LineWithUndo → List ℕ
-marks_text p = list_text p Triangles ++ list_text p Squares
+marks_text p = point_list_property p Triangles ++ point_list_property p Squares
 
 -- a tree with them at the head of the node of this number
-abbrev pub with_marks : ℕ → LineWithUndo → List ℕ → List ℕ
-with_marks n p tree = take (behind_semicolon Outside n tree) tree ++ (marks_text p ++ (drop (behind_semicolon Outside n tree) tree ++ newline ∷ []))
+abbrev pub tree_with_marks : ℕ → LineWithUndo → List ℕ → List ℕ
+tree_with_marks n p tree = take (semicolon_end Outside n tree) tree ++ (marks_text p ++ (drop (semicolon_end Outside n tree) tree ++ newline ∷ []))
 
 -- what the hints have against a problem, and its tree with the marks
-unfoldable pub marked_text : ℕ → LineWithUndo → List ℕ → List ℕ
-marked_text n p tree = hints p ++ with_marks n p (from_open tree)
+unfoldable pub hints_and_marked_tree : ℕ → LineWithUndo → List ℕ → List ℕ
+hints_and_marked_tree n p tree = hints p ++ tree_with_marks n p (from_first_parenthesis tree)
 
 -- ---- why nothing is marked
 
-abbrev pub squared_line : List ℕ
-squared_line = codes "squares stand there already: put a triangle on a stone of the group, or take SQ out\n"
+abbrev pub already_squared_line : List ℕ
+already_squared_line = codes "squares stand there already: put a triangle on a stone of the group, or take SQ out\n"
 
 -- a chain by its colour and a stone: `the White chain of C5=ce`
 unfoldable pub chain_name : Size → Colour → ℕ → List ℕ
-chain_name size k q = codes "the " ++ (colour_name k ++ (codes " chain of " ++ both_names size q))
+chain_name size k q = codes "the " ++ (colour_name k ++ (codes " chain of " ++ both_point_names size q))
 
 -- the ways out, or where there are none other empty points
 unfoldable pub openings : Size → Points → Points → List ℕ
 openings size ways others =
-    if nat_eq (set.len ways) 0 then codes "put stones of the wall on some of these, or mark by hand:" ++ members_text size others
-    else codes "it gets out at" ++ members_text size ways
+    if nat_eq (set.len ways) 0 then codes "put stones of the wall on some of these, or mark by hand:" ++ point_names_line size others
+    else codes "it gets out at" ++ point_names_line size ways
 
 -- where a chain is open
 unfoldable pub open_text : Size → Colour → ℕ → Points → Points → List ℕ
 open_text size k q ways others = chain_name size k q ++ (codes " is not enclosed with 2 to 40 points: " ++ openings size ways others)
 
-abbrev pub open_line : Size → Colouring → Colour → ℕ → List ℕ
-open_line size c k q = open_text size k q (ways_out size c k q) (around size c k q)
+abbrev pub open_group_line : Size → Colouring → Colour → ℕ → List ℕ
+open_group_line size c k q = open_text size k q (ways_out size c k q) (nearby_empties size c k q)
 
 -- a chain, and its ways out
 unfoldable pub ways_text : Size → StoneWithPoints → List ℕ
-ways_text size m = chain_name size m.colour m.stone ++ (codes ", which gets out at" ++ members_text size m.points)
+ways_text size m = chain_name size m.colour m.stone ++ (codes ", which gets out at" ++ point_names_line size m.points)
 
 -- the chain that is open least, where one is
 abbrev pub least_open_text : Size → Option StoneWithPoints → List ℕ
@@ -167,67 +167,67 @@ off_board_line size = codes "the board has no such point: it is " ++ (decimal si
 
 module _ (s : GameState) where
   -- where there are black stones, and white ones: no group is enclosed; without both there is no wall
-  abbrev pub unenclosed_text : Bool → Bool → List ℕ
-  unenclosed_text true true = least_open_text s.size (least_open s (point_count s.size))
-  unenclosed_text true false = codes "no White stone is on the board, so there is no wall\n"
-  unenclosed_text false true = codes "no Black stone is on the board, so there is no wall\n"
-  unenclosed_text false false = codes "no stone is on the board\n"
+  abbrev pub why_no_group_enclosed : Bool → Bool → List ℕ
+  why_no_group_enclosed true true = least_open_text s.size (least_open s (point_count s.size))
+  why_no_group_enclosed true false = codes "no White stone is on the board, so there is no wall\n"
+  why_no_group_enclosed false true = codes "no Black stone is on the board, so there is no wall\n"
+  why_no_group_enclosed false false = codes "no stone is on the board\n"
 
-  abbrev pub why_at : ℕ → Option Colour → List ℕ
-  why_at q None = codes "no stone stands there\n"
-  why_at q (Some k) = open_line s.size s.present k q
+  abbrev pub why_unmarked_at_point : ℕ → Option Colour → List ℕ
+  why_unmarked_at_point q None = codes "no stone stands there\n"
+  why_unmarked_at_point q (Some k) = open_group_line s.size s.present k q
 
-  abbrev pub why_on : Option ℕ → List ℕ
-  why_on None = off_board_line s.size
-  why_on (Some q) = why_at q (entry_at s.present q)
+  abbrev pub why_unmarked_or_off_board : Option ℕ → List ℕ
+  why_unmarked_or_off_board None = off_board_line s.size
+  why_unmarked_or_off_board (Some q) = why_unmarked_at_point q (entry_at s.present q)
 
-  abbrev pub why_not : Option Place → List ℕ
-  why_not None = unenclosed_text (has_stones s Black) (has_stones s White)
-  why_not (Some place) = why_on (placed_point s.size place)
+  abbrev pub why_unmarked_at_place : Option StonePlace → List ℕ
+  why_unmarked_at_place None = why_no_group_enclosed (has_stones s Black) (has_stones s White)
+  why_unmarked_at_place (Some place) = why_unmarked_or_off_board (point_of_place s.size place)
 
-  abbrev pub why_left : Bool → Option Place → List ℕ
-  why_left is_squared place = if is_squared then squared_line else why_not place
+  abbrev pub why_unmarked : Bool → Option StonePlace → List ℕ
+  why_unmarked is_squared place = if is_squared then already_squared_line else why_unmarked_at_place place
 
   -- ---- tree number k
 
   -- what is written of the game with this mark in the node of this number, or without one
-  abbrev pub with_mark : Bool → Option Place → ℕ → ℕ → List ℕ → Option StoneWithPoints → List ℕ
-  with_mark is_squared place k n tree None = refusal_line k (code_of NoTarget) ++ (codes "why: " ++ (why_left is_squared place ++ kept_text tree))
-  with_mark is_squared place k n tree (Some m) = marked_text n (marked s m) tree
+  abbrev pub proposal_or_reason : Bool → Option StonePlace → ℕ → ℕ → List ℕ → Option StoneWithPoints → List ℕ
+  proposal_or_reason is_squared place k n tree None = refusal_line k (code_of NoTarget) ++ (codes "why: " ++ (why_unmarked is_squared place ++ tree_as_given tree))
+  proposal_or_reason is_squared place k n tree (Some m) = hints_and_marked_tree n (problem_with_proposal s m) tree
 
 -- what is written of a main line without triangles: up to where it asks it comes to a game, and comments may go on too far; or it is refused
-abbrev pub game_marked : Option Place → ℕ → List ℕ → List Node → Result GameState GameFault → List ℕ
-game_marked place k tree ns (Ok s) = comment_lines ns ++ with_mark s (has_squares ns) place k (nodes_before_solution false ns) tree (proposed s (has_squares ns) place)
-game_marked place k tree ns (Err e) = fault_text k ns e ++ kept_text tree
+abbrev pub game_marked_or_kept : Option StonePlace → ℕ → List ℕ → List Node → Result GameState GameFault → List ℕ
+game_marked_or_kept place k tree ns (Ok s) = comment_lines ns ++ proposal_or_reason s (is_last_node_squared ns) place k (nodes_before_solution false ns) tree (proposal_unless_squared s (is_last_node_squared ns) place)
+game_marked_or_kept place k tree ns (Err e) = fault_text k ns e ++ tree_as_given tree
 
 -- what is written of a main line that is no problem, by this fault: where nothing is proposed, the tree as it was stands behind the lines
-abbrev pub line_marked : Option Place → ℕ → List ℕ → List Node → GameFault → List ℕ
-line_marked place k tree ns e = if has_triangles ns then fault_text k ns e ++ kept_text tree else game_marked place k tree ns (game_of ns)
+abbrev pub tree_marked_or_kept : Option StonePlace → ℕ → List ℕ → List Node → GameFault → List ℕ
+tree_marked_or_kept place k tree ns e = if has_triangles ns then fault_text k ns e ++ tree_as_given tree else game_marked_or_kept place k tree ns (game_of ns)
 
 -- and whether it is refused
 abbrev pub is_proposal_missing : Option StoneWithPoints → Bool
 is_proposal_missing None = true
 is_proposal_missing (Some m) = false
 
-abbrev pub is_game_left : Bool → Option Place → Result GameState GameFault → Bool
-is_game_left is_squared place (Ok s) = is_proposal_missing (proposed s is_squared place)
-is_game_left is_squared place (Err e) = true
+abbrev pub is_game_left_unmarked : Bool → Option StonePlace → Result GameState GameFault → Bool
+is_game_left_unmarked is_squared place (Ok s) = is_proposal_missing (proposal_unless_squared s is_squared place)
+is_game_left_unmarked is_squared place (Err e) = true
 
-abbrev pub is_left : Option Place → List Node → Bool
-is_left place ns = if has_triangles ns then true else is_game_left (has_squares ns) place (game_of ns)
+abbrev pub is_left_unmarked : Option StonePlace → List Node → Bool
+is_left_unmarked place ns = if has_triangles ns then true else is_game_left_unmarked (is_last_node_squared ns) place (game_of ns)
 
 -- ---- trees that are problems
 
 -- the number of the first node with triangles, where it has no squares; n nodes stand in front of these, and nodes count from 1
-unfoldable pub node_without_squares : ℕ → List Node → Option ℕ
-node_without_squares n [] = None
-node_without_squares n (m ∷ ms) = if has TR m then (if has SQ m then None else Some (n + 1)) else node_without_squares (n + 1) ms
+unfoldable pub unsquared_triangle_node : ℕ → List Node → Option ℕ
+unsquared_triangle_node n [] = None
+unsquared_triangle_node n (m ∷ ms) = if has TR m then (if has SQ m then None else Some (n + 1)) else unsquared_triangle_node (n + 1) ms
 
 -- that squares are wanting there
-abbrev pub without_squares_line : ℕ → Option ℕ → List ℕ
-without_squares_line k None = []
-without_squares_line k (Some n) = decimal k ++ (codes " not marked: a triangle stands in node " ++ (decimal n ++ codes ", without squares: put SQ there, or take TR out\n"))
+abbrev pub unsquared_node_line : ℕ → Option ℕ → List ℕ
+unsquared_node_line k None = []
+unsquared_node_line k (Some n) = decimal k ++ (codes " not marked: a triangle stands in node " ++ (decimal n ++ codes ", without squares: put SQ there, or take TR out\n"))
 
 -- what is written of tree number k with this main line, which is a problem
-abbrev pub problem_kept : ℕ → List ℕ → List Node → List ℕ
-problem_kept k tree ns = without_squares_line k (node_without_squares 0 ns) ++ kept_text tree
+abbrev pub kept_problem_text : ℕ → List ℕ → List Node → List ℕ
+kept_problem_text k tree ns = unsquared_node_line k (unsquared_triangle_node 0 ns) ++ tree_as_given tree

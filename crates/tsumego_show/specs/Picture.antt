@@ -19,34 +19,34 @@ stone_symbol false Black = 88
 stone_symbol false White = 79
 
 -- the small letter of such a symbol, for a stone on a point of the region
-abbrev pub lowercase_symbol : Bool → Colour → ℕ
-lowercase_symbol true k = 116
-lowercase_symbol false Black = 120
-lowercase_symbol false White = 111
+abbrev pub region_stone_symbol : Bool → Colour → ℕ
+region_stone_symbol true k = 116
+region_stone_symbol false Black = 120
+region_stone_symbol false White = 111
 
 -- what is shown of a point, where `target` and `region` say whether it is one of them: + is an empty point of the region,
 -- and . another one
-abbrev pub shown_of : Bool → Bool → Option Colour → ℕ
-shown_of target region None = if region then 43 else 46
-shown_of target region (Some k) = if region then lowercase_symbol target k else stone_symbol target k
+abbrev pub symbol_of_entry : Bool → Bool → Option Colour → ℕ
+symbol_of_entry target region None = if region then 43 else 46
+symbol_of_entry target region (Some k) = if region then region_stone_symbol target k else stone_symbol target k
 
 -- what is shown of the point with this number
-abbrev pub shown_at : LineWithUndo → ℕ → ℕ
-shown_at p n = shown_of (set.contains p.frame.targets n) (set.contains p.frame.region n) (entry_at p.state.present n)
+abbrev pub point_symbol : LineWithUndo → ℕ → ℕ
+point_symbol p n = symbol_of_entry (set.contains p.frame.targets n) (set.contains p.frame.region n) (entry_at p.state.present n)
 
 -- ---- lines; a newline ends each
 
 -- what is shown in each of so many columns, with a blank in front
-abbrev pub columns_text : (ℕ → ℕ) → ℕ → List ℕ
-columns_text shown columns = flat_map (λ column. space ∷ shown column ∷ []) (range_with_len 0 columns)
+abbrev pub spaced_columns_text : (ℕ → ℕ) → ℕ → List ℕ
+spaced_columns_text shown columns = flat_map (λ column. space ∷ shown column ∷ []) (range_with_len 0 columns)
 
 -- the letter of a column or a row: a is the first
-abbrev pub letter : ℕ → ℕ
-letter n = lower_a + n
+abbrev pub sgf_letter : ℕ → ℕ
+sgf_letter n = lower_a + n
 
 -- the letters of the columns
-abbrev pub letters_line : Size → List ℕ
-letters_line size = space ∷ (columns_text letter size.columns ++ newline ∷ [])
+abbrev pub sgf_letters_line : Size → List ℕ
+sgf_letters_line size = space ∷ (spaced_columns_text sgf_letter size.columns ++ newline ∷ [])
 
 -- the letter of a column as editors have it, who leave out I: A is the first
 abbrev pub editor_column_letter : ℕ → ℕ
@@ -57,21 +57,21 @@ abbrev pub row_number : Size → ℕ → ℕ
 row_number size row = size.rows - row
 
 -- the editors' letters of the columns
-abbrev pub column_letters_line : Size → List ℕ
-column_letters_line size = space ∷ (columns_text editor_column_letter size.columns ++ newline ∷ [])
+abbrev pub editor_letters_line : Size → List ℕ
+editor_letters_line size = space ∷ (spaced_columns_text editor_column_letter size.columns ++ newline ∷ [])
 
 -- what is shown of the points of a row, column by column
-abbrev pub shown_in : LineWithUndo → ℕ → ℕ → ℕ
-shown_in p row column = shown_at p (row * p.frame.size.columns + column)
+abbrev pub row_symbol : LineWithUndo → ℕ → ℕ → ℕ
+row_symbol p row column = point_symbol p (row * p.frame.size.columns + column)
 
 -- the letter of a row, what is shown of its points, and its number
 abbrev pub row_line : LineWithUndo → ℕ → List ℕ
 row_line p row =
-    letter row ∷ (columns_text (shown_in p row) p.frame.size.columns ++ (space ∷ (decimal (row_number p.frame.size row) ++ newline ∷ [])))
+    sgf_letter row ∷ (spaced_columns_text (row_symbol p row) p.frame.size.columns ++ (space ∷ (decimal (row_number p.frame.size row) ++ newline ∷ [])))
 
 -- the rows between both lines of letters
 abbrev pub board_text : LineWithUndo → List ℕ
-board_text p = letters_line p.frame.size ++ (flat_map (row_line p) (range_with_len 0 p.frame.size.rows) ++ column_letters_line p.frame.size)
+board_text p = sgf_letters_line p.frame.size ++ (flat_map (row_line p) (range_with_len 0 p.frame.size.rows) ++ editor_letters_line p.frame.size)
 
 -- ---- who moves
 
@@ -82,18 +82,18 @@ colour_name White = codes "White"
 abbrev pub mover_text : LineWithUndo → List ℕ
 mover_text p = colour_name (side_colour p.frame p.state.to_move) ++ codes " to move, "
 
-abbrev pub target_text : LineWithUndo → List ℕ
-target_text p = codes "T is " ++ colour_name p.frame.defender
+abbrev pub target_colour_text : LineWithUndo → List ℕ
+target_colour_text p = codes "T is " ++ colour_name p.frame.defender
 
 -- how many positions came before, which no play may make again
-abbrev pub earlier_text : ℕ → List ℕ
-earlier_text n =
+abbrev pub earlier_positions_text : ℕ → List ℕ
+earlier_positions_text n =
     if nat_eq n 0 then [] else (if nat_eq n 1 then codes ", after 1 earlier position" else codes ", after " ++ (decimal n ++ codes " earlier positions"))
 
 -- `Black to move, T is White, after 1 earlier position`
-abbrev pub asked_line : LineWithUndo → List ℕ
-asked_line p = mover_text p ++ (target_text p ++ (earlier_text (length p.state.earlier) ++ newline ∷ []))
+abbrev pub mover_and_target_line : LineWithUndo → List ℕ
+mover_and_target_line p = mover_text p ++ (target_colour_text p ++ (earlier_positions_text (length p.state.earlier) ++ newline ∷ []))
 
 -- the picture of a problem
 abbrev pub picture : LineWithUndo → List ℕ
-picture p = asked_line p ++ board_text p
+picture p = mover_and_target_line p ++ board_text p

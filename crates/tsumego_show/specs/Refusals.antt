@@ -9,9 +9,9 @@ use Rattle.tt_game.specs.declared.faults.GameFault.TheVariants.{TooManyTurns, No
 use Rattle.tt_game.specs.Faults.{code_of}
 use Rattle.tt_game.specs.Line.{LineWithUndo}
 use Rattle.tt_game.specs.Problems.{problem_of}
-use Rattle.tsumego_show.specs.FaultDetails.{look_line}
+use Rattle.tsumego_show.specs.FaultDetails.{look_at_line}
 use Rattle.tsumego_show.specs.Hints.{comment_lines}
-use Rattle.tsumego_show.specs.TreeBytes.{from_open}
+use Rattle.tsumego_show.specs.TreeBytes.{from_first_parenthesis}
 
 -- the line on a refusal of tree number k, which a newline ends
 abbrev pub refusal_line : ℕ → ℕ → List ℕ
@@ -42,9 +42,9 @@ is_refused_with code (Ok p) = false
 is_refused_with code (Err e) = nat_eq (code_of e) code
 
 -- of the first n nodes so many are needed for the refusal: the last of them is the node that is refused
-unfoldable pub needed : ℕ → List Node → ℕ → ℕ
-needed code ns zero = zero
-needed code ns (suc n) = if is_refused_with code (problem_of (take n ns)) then needed code ns n else suc n
+unfoldable pub needed_nodes : ℕ → List Node → ℕ → ℕ
+needed_nodes code ns zero = zero
+needed_nodes code ns (suc n) = if is_refused_with code (problem_of (take n ns)) then needed_nodes code ns n else suc n
 
 -- the last of the first n nodes
 unfoldable pub nth_node : ℕ → List Node → Option Node
@@ -54,49 +54,49 @@ nth_node (suc zero) (m ∷ ms) = Some m
 nth_node (suc (suc n)) (m ∷ ms) = nth_node (suc n) ms
 
 -- the most nodes of a main line in which the refused one is named
-abbrev pub most_nodes : ℕ
-most_nodes = 1000
+abbrev pub most_nodes_to_locate_fault : ℕ
+most_nodes_to_locate_fault = 1000
 
 -- `node 3: `, and what is wrong there, with those nodes in front; nodes count from 1
-abbrev pub named_fault : GameFault → ℕ → List Node → Node → List ℕ
-named_fault e k front n = codes "node " ++ (decimal k ++ (codes ": " ++ (meaning e ++ look_line e front n)))
+abbrev pub fault_at_node : GameFault → ℕ → List Node → Node → List ℕ
+fault_at_node e k front n = codes "node " ++ (decimal k ++ (codes ": " ++ (meaning e ++ look_at_line e front n)))
 
-abbrev pub maybe_named : GameFault → ℕ → List Node → Option Node → List ℕ
-maybe_named e k front None = meaning e
-maybe_named e k front (Some n) = named_fault e k front n
+abbrev pub fault_at_node_if_any : GameFault → ℕ → List Node → Option Node → List ℕ
+fault_at_node_if_any e k front None = meaning e
+fault_at_node_if_any e k front (Some n) = fault_at_node e k front n
 
 -- and at which node of a main line, where one is
-abbrev pub at_node : GameFault → List Node → List ℕ
-at_node e ns = maybe_named e (needed (code_of e) ns (length ns)) (take (needed (code_of e) ns (length ns) - 1) ns) (nth_node (needed (code_of e) ns (length ns)) ns)
+abbrev pub located_fault : GameFault → List Node → List ℕ
+located_fault e ns = fault_at_node_if_any e (needed_nodes (code_of e) ns (length ns)) (take (needed_nodes (code_of e) ns (length ns) - 1) ns) (nth_node (needed_nodes (code_of e) ns (length ns)) ns)
 
 -- why a main line is refused so: where no node has TR, comments may hold it; else, where it isn't too long, the node is looked for
-abbrev pub why_text : GameFault → List Node → List ℕ
-why_text e ns = if nat_eq (code_of e) (code_of NoTarget) then meaning e ++ comment_lines ns else (if nat_lt most_nodes (length ns) then meaning e else at_node e ns)
+abbrev pub why_refused_text : GameFault → List Node → List ℕ
+why_refused_text e ns = if nat_eq (code_of e) (code_of NoTarget) then meaning e ++ comment_lines ns else (if nat_lt most_nodes_to_locate_fault (length ns) then meaning e else located_fault e ns)
 
 -- the lines on a main line that is refused so
 abbrev pub fault_text : ℕ → List Node → GameFault → List ℕ
-fault_text k ns e = refusal_line k (code_of e) ++ (codes "why: " ++ why_text e ns)
+fault_text k ns e = refusal_line k (code_of e) ++ (codes "why: " ++ why_refused_text e ns)
 
 -- ---- inputs that are no game trees
 
-unfoldable pub newlines : List ℕ → ℕ
-newlines [] = 0
-newlines (b ∷ bs) = if nat_eq b newline then suc (newlines bs) else newlines bs
+unfoldable pub newline_count : List ℕ → ℕ
+newline_count [] = 0
+newline_count (b ∷ bs) = if nat_eq b newline then suc (newline_count bs) else newline_count bs
 
 -- a tree that can't be read stands behind these bytes; bytes and lines count from 1
-abbrev pub unread_line : List ℕ → List ℕ
-unread_line front =
-    codes "the tree that begins at byte " ++ (decimal (length front + 1) ++ (codes " in line " ++ (decimal (newlines front + 1)
+abbrev pub unreadable_tree_line : List ℕ → List ℕ
+unreadable_tree_line front =
+    codes "the tree that begins at byte " ++ (decimal (length front + 1) ++ (codes " in line " ++ (decimal (newline_count front + 1)
     ++ codes " can't be read: a bracket is missing, or the ] of a value; later trees weren't read\n")))
 
 -- why no tree can be read in the rest of an input, of which this begins with a `(`
-abbrev pub no_tree_line : List ℕ → List ℕ → List ℕ
-no_tree_line input [] = codes "no bracket opens a game tree\n"
-no_tree_line input (b ∷ bs) = unread_line (take (length input - length (b ∷ bs)) input)
+abbrev pub why_no_tree_line : List ℕ → List ℕ → List ℕ
+why_no_tree_line input [] = codes "no bracket opens a game tree\n"
+why_no_tree_line input (b ∷ bs) = unreadable_tree_line (take (length input - length (b ∷ bs)) input)
 
 -- the lines on the rest of an input in which no tree can be read
 abbrev pub no_tree_text : ℕ → List ℕ → List ℕ → List ℕ
-no_tree_text k input rest = refusal_line k 1 ++ (codes "why: " ++ no_tree_line input (from_open rest))
+no_tree_text k input rest = refusal_line k 1 ++ (codes "why: " ++ why_no_tree_line input (from_first_parenthesis rest))
 
 -- the lines on an input that is too long
 abbrev pub too_long_text : ℕ → List ℕ

@@ -16,32 +16,32 @@ use Rattle.tt_game.specs.Problems.{whole}
 
 module _ (size : Size) where
   -- a point above, left of, right of or below q is in the set
-  abbrev pub is_near : Points → ℕ → Bool
-  is_near s q = (nat_le size.columns q && set.contains s (q - size.columns)) || (nat_lt 0 (q % size.columns) && set.contains s (q - 1))
+  abbrev pub is_adjacent_to : Points → ℕ → Bool
+  is_adjacent_to s q = (nat_le size.columns q && set.contains s (q - size.columns)) || (nat_lt 0 (q % size.columns) && set.contains s (q - 1))
       || (nat_lt (q % size.columns + 1) size.columns && set.contains s (q + 1))
       || (nat_lt (q + size.columns) (point_count size) && set.contains s (q + size.columns))
 
-  unfoldable pub near : Points → Points
-  near s = passing (is_near s) (point_count size)
+  unfoldable pub adjacent_points : Points → Points
+  adjacent_points s = passing (is_adjacent_to s) (point_count size)
 
   -- the set, and what is reached from it in so many steps through points that are free
-  unfoldable pub reached_in : Points → ℕ → Points → Points
-  reached_in free zero s = s
-  reached_in free (suc n) s = set.union (reached_in free n s) (set.intersection free (near (reached_in free n s)))
+  unfoldable pub reached_in_steps : Points → ℕ → Points → Points
+  reached_in_steps free zero s = s
+  reached_in_steps free (suc n) s = set.union (reached_in_steps free n s) (set.intersection free (adjacent_points (reached_in_steps free n s)))
 
   -- what is reached at all
   abbrev pub reached : Points → Points → Points
-  reached free s = reached_in free (point_count size) s
+  reached free s = reached_in_steps free (point_count size) s
 
   -- what is reached from point q without passing a wall
-  unfoldable pub inside : ℕ → Points → Points
-  inside q wall = reached (set.difference (whole size) wall) (set.insert set.empty q)
+  unfoldable pub reached_within_wall : ℕ → Points → Points
+  reached_within_wall q wall = reached (set.difference (whole size) wall) (set.insert set.empty q)
 
 -- ---- on a board
 
 -- the most points of a region that is closed
-abbrev pub most_squares : ℕ
-most_squares = 40
+abbrev pub most_region_points : ℕ
+most_region_points = 40
 
 module _ (size : Size) (c : Colouring) where
   unfoldable pub stones : Colour → Points
@@ -53,8 +53,8 @@ module _ (size : Size) (c : Colouring) where
   -- what the other colour has around a group of this one
   module _ (k : Colour) where
     -- its chains with a liberty outside
-    unfoldable pub untaken : Points → Points
-    untaken within = reached size (stones (other k)) (set.intersection (stones (other k)) (near size (set.difference empties within)))
+    unfoldable pub chains_with_liberty_outside : Points → Points
+    chains_with_liberty_outside within = reached size (stones (other k)) (set.intersection (stones (other k)) (adjacent_points size (set.difference empties within)))
 
     -- for a stone on point q
     module _ (q : ℕ) where
@@ -64,27 +64,27 @@ module _ (size : Size) (c : Colouring) where
       -- the wall: first all stones of the other colour, then, so many times, those that can't be taken from inside
       unfoldable pub wall_after : ℕ → Points
       wall_after zero = stones (other k)
-      wall_after (suc n) = untaken (inside size q (wall_after n))
+      wall_after (suc n) = chains_with_liberty_outside (reached_within_wall size q (wall_after n))
 
       unfoldable pub wall : Points
       wall = wall_after (point_count size)
 
       -- the points inside the wall but the chain's own
-      unfoldable pub region : Points
-      region = set.difference (inside size q wall) chain
+      unfoldable pub proposed_region : Points
+      proposed_region = set.difference (reached_within_wall size q wall) chain
 
       -- there is a wall, and the region has some points and not too many
       unfoldable pub is_closed : Bool
-      is_closed = nat_lt 0 (set.len wall) && (nat_lt 1 (set.len region) && nat_le (set.len region) most_squares)
+      is_closed = nat_lt 0 (set.len wall) && (nat_lt 1 (set.len proposed_region) && nat_le (set.len proposed_region) most_region_points)
 
       -- the board isn't turned inside out: no more empty points are in the region than outside
       unfoldable pub is_inner : Bool
-      is_inner = nat_le (set.len (set.intersection region empties)) (set.len (set.difference empties region))
+      is_inner = nat_le (set.len (set.intersection proposed_region empties)) (set.len (set.difference empties proposed_region))
 
       -- empty points within three steps of the chain, where the wall may want a stone
-      unfoldable pub around : Points
-      around = set.intersection empties (reached_in size (set.difference (whole size) (stones (other k))) 3 chain)
+      unfoldable pub nearby_empties : Points
+      nearby_empties = set.intersection empties (reached_in_steps size (set.difference (whole size) (stones (other k))) 3 chain)
 
       -- those beside the chain from which empty points lead further
       unfoldable pub ways_out : Points
-      ways_out = set.intersection (near size chain) (set.intersection around (reached size empties (set.difference empties around)))
+      ways_out = set.intersection (adjacent_points size chain) (set.intersection nearby_empties (reached size empties (set.difference empties nearby_empties)))

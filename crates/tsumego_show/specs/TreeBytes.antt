@@ -5,17 +5,17 @@ use Rattle.tsumego_show.specs.declared.tree_bytes.LexicalState.{LexicalState}
 use Rattle.tsumego_show.specs.declared.tree_bytes.LexicalState.TheVariants.{Escaped, Inside, Outside}
 
 -- from the first `(` on
-unfoldable pub from_open : List ℕ → List ℕ
-from_open [] = []
-from_open (b ∷ bs) = if nat_eq b open_tree then b ∷ bs else from_open bs
+unfoldable pub from_first_parenthesis : List ℕ → List ℕ
+from_first_parenthesis [] = []
+from_first_parenthesis (b ∷ bs) = if nat_eq b open_tree then b ∷ bs else from_first_parenthesis bs
 
 abbrev pub is_nil : List ℕ → Bool
 is_nil [] = true
 is_nil (b ∷ bs) = false
 
 -- a newline ends it
-abbrev pub kept_text : List ℕ → List ℕ
-kept_text tree = from_open tree ++ newline ∷ []
+abbrev pub tree_as_given : List ℕ → List ℕ
+tree_as_given tree = from_first_parenthesis tree ++ newline ∷ []
 
 -- where the byte behind this one stands: outside of values, in one, or behind a backslash there
 abbrev pub next_lexical_state : LexicalState → ℕ → LexicalState
@@ -30,7 +30,7 @@ begins_node Inside b = false
 begins_node Escaped b = false
 
 -- how many bytes stand up to the `;` of node n, and with it; all where there are fewer nodes
-unfoldable pub behind_semicolon : LexicalState → ℕ → List ℕ → ℕ
-behind_semicolon spot n [] = 0
-behind_semicolon spot n (b ∷ bs) =
-    if begins_node spot b then (if nat_le n 1 then 1 else suc (behind_semicolon (next_lexical_state spot b) (n - 1) bs)) else suc (behind_semicolon (next_lexical_state spot b) n bs)
+unfoldable pub semicolon_end : LexicalState → ℕ → List ℕ → ℕ
+semicolon_end spot n [] = 0
+semicolon_end spot n (b ∷ bs) =
+    if begins_node spot b then (if nat_le n 1 then 1 else suc (semicolon_end (next_lexical_state spot b) (n - 1) bs)) else suc (semicolon_end (next_lexical_state spot b) n bs)

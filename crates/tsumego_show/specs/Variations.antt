@@ -19,11 +19,11 @@ use Rattle.tt_game.specs.Turns.{is_legal}
 use Rattle.tt_game.specs.Line.{LineWithUndo}
 use Rattle.tt_proof.specs.CertificateText.{turn_text}
 use Rattle.tt_proof.specs.Strategy.{Strategy, Entries, done, pick, reply, none, entry}
-use Rattle.tsumego_show.specs.declared.variations.PointList.{PointList}
-use Rattle.tsumego_show.specs.declared.variations.PointList.TheVariants.{Blacks, Whites, Triangles, Squares}
-use Rattle.tsumego_show.specs.Diagram.{greatest, has_square, is_target}
-use Rattle.tsumego_show.specs.Found.{Found, no_strategy, found}
-use Rattle.tsumego_show.specs.Picture.{colour_name, earlier_text}
+use Rattle.tsumego_show.specs.declared.variations.RootPointProperty.{RootPointProperty}
+use Rattle.tsumego_show.specs.declared.variations.RootPointProperty.TheVariants.{Blacks, Whites, Triangles, Squares}
+use Rattle.tsumego_show.specs.Diagram.{last_below, has_square, is_target}
+use Rattle.tsumego_show.specs.FollowingStrategy.{FollowingStrategy, no_strategy, found}
+use Rattle.tsumego_show.specs.Picture.{colour_name, earlier_positions_text}
 
 -- a value in its brackets
 abbrev pub bracketed : List ℕ → List ℕ
@@ -45,11 +45,11 @@ unfoldable pub game_text : Size → List ℕ
 game_text size = codes "(;GM[1]FF[4]SZ" ++ bracketed (size_text size)
 
 -- the name of a list of points
-abbrev pub list_name : PointList → List ℕ
-list_name Blacks = codes "AB"
-list_name Whites = codes "AW"
-list_name Triangles = codes "TR"
-list_name Squares = codes "SQ"
+abbrev pub list_property_name : RootPointProperty → List ℕ
+list_property_name Blacks = codes "AB"
+list_property_name Whites = codes "AW"
+list_property_name Triangles = codes "TR"
+list_property_name Squares = codes "SQ"
 
 -- a property, where it has a value
 abbrev pub property_text : List ℕ → List ℕ → List ℕ
@@ -58,25 +58,25 @@ property_text name (b ∷ bs) = name ++ (b ∷ bs)
 
 module _ (p : LineWithUndo) where
   -- a stone of this colour stands on q
-  abbrev pub is_stone : Colour → ℕ → Bool
-  is_stone k q = is_stone_of (entry_at p.state.present q) k
+  abbrev pub has_stone_of_colour : Colour → ℕ → Bool
+  has_stone_of_colour k q = is_stone_of (entry_at p.state.present q) k
 
   -- a list has the point: it has a stone, or is a target, or a point of a region that isn't the whole board
-  abbrev pub is_listed : PointList → ℕ → Bool
-  is_listed Blacks q = is_stone Black q
-  is_listed Whites q = is_stone White q
-  is_listed Triangles q = is_target p q
-  is_listed Squares q = has_square p [] q
+  abbrev pub is_point_listed : RootPointProperty → ℕ → Bool
+  is_point_listed Blacks q = has_stone_of_colour Black q
+  is_point_listed Whites q = has_stone_of_colour White q
+  is_point_listed Triangles q = is_target p q
+  is_point_listed Squares q = has_square p [] q
 
-  unfoldable pub listed_value : PointList → ℕ → List ℕ
-  listed_value points q = if is_listed points q then bracketed (turn_text p.frame.size (Play q)) else []
+  unfoldable pub listed_value : RootPointProperty → ℕ → List ℕ
+  listed_value points q = if is_point_listed points q then bracketed (turn_text p.frame.size (Play q)) else []
 
   -- the values of the points of a list, row by row
-  abbrev pub listed_values : PointList → List ℕ
+  abbrev pub listed_values : RootPointProperty → List ℕ
   listed_values points = flat_map (listed_value points) (range_with_len 0 (point_count p.frame.size))
 
-  abbrev pub list_text : PointList → List ℕ
-  list_text points = property_text (list_name points) (listed_values points)
+  abbrev pub point_list_property : RootPointProperty → List ℕ
+  point_list_property points = property_text (list_property_name points) (listed_values points)
 
   -- who moves
   abbrev pub mover_property : List ℕ
@@ -84,21 +84,21 @@ module _ (p : LineWithUndo) where
 
   abbrev pub root_text : List ℕ
   root_text =
-      game_text p.frame.size ++ (list_text Blacks ++ (list_text Whites ++ (mover_property ++ (list_text Triangles ++ list_text Squares))))
+      game_text p.frame.size ++ (point_list_property Blacks ++ (point_list_property Whites ++ (mover_property ++ (point_list_property Triangles ++ point_list_property Squares))))
 
 -- ---- the variations
 
 -- the point of a play, and nothing for a pass
-abbrev pub move_point : Size → Turn → List ℕ
-move_point size (Play q) = turn_text size (Play q)
-move_point size Pass = []
+abbrev pub move_value_text : Size → Turn → List ℕ
+move_value_text size (Play q) = turn_text size (Play q)
+move_value_text size Pass = []
 
 -- a variation begins with this move
-unfoldable pub move_text : Size → Colour → Turn → List ℕ
-move_text size k t = newline ∷ open_tree ∷ semicolon ∷ colour_letter k ∷ bracketed (move_point size t)
+unfoldable pub variation_head : Size → Colour → Turn → List ℕ
+variation_head size k t = newline ∷ open_tree ∷ semicolon ∷ colour_letter k ∷ bracketed (move_value_text size t)
 
-abbrev pub cut_text : List ℕ
-cut_text = codes "C[The strategy goes on: it is cut here.]"
+abbrev pub cut_comment : List ℕ
+cut_comment = codes "C[The strategy goes on: it is cut here.]"
 
 -- why a side has won
 abbrev pub why_won : Side → List ℕ
@@ -115,27 +115,27 @@ module _ (f : Frame) where
   ending_text (Some side) = won_text (side_colour f side) (why_won side)
 
   -- a turn and the text of what follows it, where the turn is legal
-  abbrev pub legal_text : State → Turn → List ℕ → List ℕ
-  legal_text s t behind = if is_legal f s t then move_text f.size (side_colour f s.to_move) t ++ (behind ++ close_tree ∷ []) else []
+  abbrev pub variation_if_legal : State → Turn → List ℕ → List ℕ
+  variation_if_legal s t behind = if is_legal f s t then variation_head f.size (side_colour f s.to_move) t ++ (behind ++ close_tree ∷ []) else []
 
   -- the turns, or the end where none is written
-  abbrev pub or_ending : State → List ℕ → List ℕ
-  or_ending s [] = ending_text (winner_of f s)
-  or_ending s (b ∷ bs) = b ∷ bs
+  abbrev pub turns_or_ending : State → List ℕ → List ℕ
+  turns_or_ending s [] = ending_text (winner_of f s)
+  turns_or_ending s (b ∷ bs) = b ∷ bs
 
   abbrev mutual
     -- what follows a position, to so many turns: the end; the side's turn; or each turn of the other side
     pub variations : State → Strategy → ℕ → List ℕ
     variations s done n = ending_text (winner_of f s)
-    variations s (pick t u) zero = cut_text
-    variations s (pick t u) (suc n) = or_ending s (legal_text s t (variations (after f s t) u n))
-    variations s (reply es) zero = cut_text
-    variations s (reply es) (suc n) = or_ending s (reply_variations s es n)
+    variations s (pick t u) zero = cut_comment
+    variations s (pick t u) (suc n) = turns_or_ending s (variation_if_legal s t (variations (after f s t) u n))
+    variations s (reply es) zero = cut_comment
+    variations s (reply es) (suc n) = turns_or_ending s (reply_variations s es n)
 
     -- each turn of the other side, and so many turns behind it
     pub reply_variations : State → Entries → ℕ → List ℕ
     reply_variations s none n = []
-    reply_variations s (entry t u es) n = legal_text s t (variations (after f s t) u n) ++ reply_variations s es n
+    reply_variations s (entry t u es) n = variation_if_legal s t (variations (after f s t) u n) ++ reply_variations s es n
 
 -- ---- how deep they go
 
@@ -159,25 +159,25 @@ most_written_turns = 350000
 
 -- as deep as is asked, or as deep as the strategy has no more turns than that
 abbrev pub shown_depth : ℕ → Strategy → ℕ
-shown_depth depth u = greatest (λ n. nat_le (turns_within u n) most_written_turns) (depth + 1)
+shown_depth depth u = last_below (λ n. nat_le (turns_within u n) most_written_turns) (depth + 1)
 
 -- ---- the whole tree
 
 module _ (p : LineWithUndo) where
   -- whose strategy it is, or these words where there is none
-  abbrev pub owner_text : List ℕ → Found → List ℕ
-  owner_text without no_strategy = without
-  owner_text without (found side u) = colour_name (side_colour p.frame side) ++ codes "'s strategy"
+  abbrev pub owner_or_words_text : List ℕ → FollowingStrategy → List ℕ
+  owner_or_words_text without no_strategy = without
+  owner_or_words_text without (found side u) = colour_name (side_colour p.frame side) ++ codes "'s strategy"
 
   -- `N[White's strategy, after 1 earlier position]`
-  abbrev pub name_property : List ℕ → Found → List ℕ
-  name_property without b = codes "N[" ++ (owner_text without b ++ (earlier_text (length p.state.earlier) ++ close_value ∷ []))
+  abbrev pub name_property : List ℕ → FollowingStrategy → List ℕ
+  name_property without b = codes "N[" ++ (owner_or_words_text without b ++ (earlier_positions_text (length p.state.earlier) ++ close_value ∷ []))
 
   -- the variations of the strategy that was found
-  abbrev pub found_variations : ℕ → Found → List ℕ
-  found_variations depth no_strategy = []
-  found_variations depth (found side u) = variations p.frame p.state u (shown_depth depth u)
+  abbrev pub strategy_variations : ℕ → FollowingStrategy → List ℕ
+  strategy_variations depth no_strategy = []
+  strategy_variations depth (found side u) = variations p.frame p.state u (shown_depth depth u)
 
   -- the problem with the strategy that was found, to so many turns deep at the most
-  abbrev pub sgf_text : ℕ → List ℕ → Found → List ℕ
-  sgf_text depth without b = root_text p ++ (name_property without b ++ (found_variations depth b ++ codes ")\n"))
+  abbrev pub sgf_text : ℕ → List ℕ → FollowingStrategy → List ℕ
+  sgf_text depth without b = root_text p ++ (name_property without b ++ (strategy_variations depth b ++ codes ")\n"))

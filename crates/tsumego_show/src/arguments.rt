@@ -1,9 +1,9 @@
 //! Reads the words behind the program's name.
 ghost use Rattle.std.specs.Prelude.{◌≡◌, map, string_bytes};
 ghost use Rattle.tt_sgf.specs.Values.{number_of};
-ghost use Rattle.tsumego_show.specs.CommandLine.{column_of, count_of, diagram_by, form_of, from_below, marks_by, point_of_word, row_of, variations_by, variations_to};
+ghost use Rattle.tsumego_show.specs.CommandLine.{column_of_editor_letter, coordinate_of_sgf_letter, svg_mode, mode_of_words, editor_place, mark_mode, place_of_word, sgf_row, sgf_mode, sgf_mode_to_depth};
 
-use crate::form::{Form, Place};
+use crate::mode::{Mode, StonePlace};
 use tt_proof::MOST_DEPTH;
 use tt_sgf::number;
 
@@ -12,8 +12,8 @@ pub const USAGE: &str =
     "write tsumego-show < FILE, tsumego-show --svg < FILE, tsumego-show --sgf [--depth N] < FILE, with N from 1 to 512, or tsumego-show --mark [POINT] < FILE, with a stone as POINT: C18 or cb";
 
 /// The column that a capital letter names in editors, who leave out I.
-fn column_of(letter: u8) -> Option<usize>
-    ensures { result ≡ column_of letter }
+fn column_of_editor_letter(letter: u8) -> Option<usize>
+    ensures { result ≡ column_of_editor_letter letter }
 {
     if b'A' <= letter && letter <= b'H' {
         return Some(usize::from(letter - b'A'));
@@ -25,8 +25,8 @@ fn column_of(letter: u8) -> Option<usize>
 }
 
 /// The column or row that a letter names in SGF.
-fn count_of(letter: u8) -> Option<usize>
-    ensures { result ≡ count_of letter }
+fn coordinate_of_sgf_letter(letter: u8) -> Option<usize>
+    ensures { result ≡ coordinate_of_sgf_letter letter }
 {
     if b'a' <= letter && letter <= b's' {
         return Some(usize::from(letter - b'a'));
@@ -35,105 +35,108 @@ fn count_of(letter: u8) -> Option<usize>
 }
 
 /// The row of SGF, where one letter names it.
-fn row_of(rest: &[u8]) -> Option<usize>
-    ensures { result ≡ row_of rest.now }
+fn sgf_row(rest: &[u8]) -> Option<usize>
+    ensures { result ≡ sgf_row rest.now }
 {
     match rest {
-        [row] => count_of(*row),
+        [row] => coordinate_of_sgf_letter(*row),
         _ => None,
     }
 }
 
 /// The place in this column and in the row of this number.
-fn from_below(column: Option<usize>, row: Option<u16>) -> Option<Place>
-    ensures { result ≡ from_below column row }
+fn editor_place(column: Option<usize>, row: Option<u16>) -> Option<StonePlace>
+    ensures { result ≡ editor_place column row }
 {
     let row = row?;
     let column = column?;
     if row == 0 || row > 19 {
         return None;
     }
-    Some(Place::FromBelow(column, usize::from(row)))
+    Some(StonePlace::FromBelow(column, usize::from(row)))
 }
 
 /// The place that a word names, as SGF or as editors do.
-fn point_of_word(word: &[u8]) -> Option<Place>
-    ensures { result ≡ point_of_word word.now }
+fn place_of_word(word: &[u8]) -> Option<StonePlace>
+    ensures { result ≡ place_of_word word.now }
 {
     let (first, rest) = word.split_first()?;
-    match row_of(rest) {
-        Some(row) => Some(Place::FromAbove(count_of(*first)?, row)),
-        None => from_below(column_of(first.to_ascii_uppercase()), number(rest)),
+    match sgf_row(rest) {
+        Some(row) => Some(StonePlace::FromAbove(coordinate_of_sgf_letter(*first)?, row)),
+        None => editor_place(
+            column_of_editor_letter(first.to_ascii_uppercase()),
+            number(rest),
+        ),
     }
 }
 
 /// What is marked by the words behind `--mark`.
-fn marks_by(words: &[String]) -> Option<Form>
-    ensures { result ≡ marks_by (map string_bytes words.now) }
+fn mark_mode(words: &[String]) -> Option<Mode>
+    ensures { result ≡ mark_mode (map string_bytes words.now) }
 {
     match words {
-        [] => Some(Form::Marks(None)),
-        [word] => Some(Form::Marks(Some(point_of_word(word.as_bytes())?))),
+        [] => Some(Mode::Marks(None)),
+        [word] => Some(Mode::Marks(Some(place_of_word(word.as_bytes())?))),
         _ => None,
     }
 }
 
 /// How many turns deep variations go where no word says so.
-const DEPTH: usize = 20;
+const DEFAULT_DEPTH: usize = 20;
 
 /// Variations to the number of turns that a word says.
-fn variations_to(word: &[u8]) -> Option<Form>
-    ensures { result ≡ variations_to (number_of word.now) }
+fn sgf_mode_to_depth(word: &[u8]) -> Option<Mode>
+    ensures { result ≡ sgf_mode_to_depth (number_of word.now) }
 {
     let depth = number(word)?;
     if depth == 0 || depth > MOST_DEPTH {
         return None;
     }
-    Some(Form::Variations(usize::from(depth)))
+    Some(Mode::Variations(usize::from(depth)))
 }
 
 /// What is written by the words behind `--sgf`.
-fn variations_by(words: &[String]) -> Option<Form>
-    ensures { result ≡ variations_by (map string_bytes words.now) }
+fn sgf_mode(words: &[String]) -> Option<Mode>
+    ensures { result ≡ sgf_mode (map string_bytes words.now) }
 {
     match words {
-        [] => Some(Form::Variations(DEPTH)),
+        [] => Some(Mode::Variations(DEFAULT_DEPTH)),
         [name, value] => {
             if name.as_bytes() != b"--depth".as_slice() {
                 return None;
             }
-            variations_to(value.as_bytes())
+            sgf_mode_to_depth(value.as_bytes())
         }
         _ => None,
     }
 }
 
 /// What is written by the words behind `--svg`.
-fn diagram_by(words: &[String]) -> Option<Form>
-    ensures { result ≡ diagram_by (map string_bytes words.now) }
+fn svg_mode(words: &[String]) -> Option<Mode>
+    ensures { result ≡ svg_mode (map string_bytes words.now) }
 {
     if words.is_empty() {
-        return Some(Form::Diagram);
+        return Some(Mode::Diagram);
     }
     None
 }
 
 /// What the words ask for; none where they are no words of the program.
-pub fn form_of(words: &[String]) -> Option<Form>
-    ensures { result ≡ form_of (map string_bytes words.now) }
+pub fn mode_of_words(words: &[String]) -> Option<Mode>
+    ensures { result ≡ mode_of_words (map string_bytes words.now) }
 {
     let Some((first, rest)) = words.split_first() else {
-        return Some(Form::Picture);
+        return Some(Mode::Picture);
     };
     let first = first.as_bytes();
     if first == b"--svg".as_slice() {
-        return diagram_by(rest);
+        return svg_mode(rest);
     }
     if first == b"--mark".as_slice() {
-        return marks_by(rest);
+        return mark_mode(rest);
     }
     if first == b"--sgf".as_slice() {
-        return variations_by(rest);
+        return sgf_mode(rest);
     }
     None
 }

@@ -4,13 +4,13 @@ ghost use Rattle.std.specs.List.{flat_map, range_with_len};
 ghost use Rattle.tt_sgf.specs.Sizes.{point_count};
 ghost use Rattle.tt_board.specs.Reach.{entry_at};
 ghost use Rattle.tsumego_show.specs.inside.Windows.{IsWindow};
-ghost use Rattle.tsumego_show.specs.Diagram.{bottom_end, caption, cell_shapes, centre, column_shapes, colour_of, column_stroke, columns_shown, digits_text, entry_text, numbered_text, further, has_square, fill_colour};
-ghost use Rattle.tsumego_show.specs.Diagram.{mark_ground, mark_colour, mark_text, number_end, number_head, number_in, numbered_stone, point_shapes, points_shapes, right_end, row_shapes, row_stroke, rows_shown, square_text, stone_head, stone_text};
+ghost use Rattle.tsumego_show.specs.Diagram.{grid_bottom, caption, cell_shapes, document_centre, column_line_and_letter, numbered_stone_colour, column_head, shown_column_count, stone_number_text, stone_if_any_text, numbered_stone_if_any, grid_overhang, has_square, fill_colour};
+ghost use Rattle.tsumego_show.specs.Diagram.{square_fill, mark_colour, mark_text, number_end, number_head, number_of_play, numbered_stone, point_shapes, row_points_shapes, grid_right, row_line_and_number, row_elements, shown_row_count, square_text, stone_head, stone_text};
 ghost use Rattle.tsumego_show.specs.Diagram.{svg_head, svg_text, triangle_head, triangle_text};
 
 use crate::picture::{colour_name, editor_column_letter, side_colour};
-use crate::points::{is_inside, is_target, point_numbered};
-use crate::windows::{Window, number_at, window_of};
+use crate::points::{is_in_region, is_target, point_numbered};
+use crate::windows::{Window, point_number_at, window_of};
 use std::alloc::Global;
 use tt_board::Colour;
 use tt_game::Line;
@@ -26,7 +26,7 @@ fn fill_colour(colour: Colour) -> &'static [u8]
     }
 }
 
-/// The fill_colour of a mark on this entry.
+/// The colour of a mark on this entry.
 fn mark_colour(entry: Option<Colour>) -> &'static [u8]
     ensures { result.now ≡ mark_colour entry }
 {
@@ -37,8 +37,8 @@ fn mark_colour(entry: Option<Colour>) -> &'static [u8]
 }
 
 /// What is behind a mark on this entry.
-fn mark_ground(entry: Option<Colour>) -> &'static [u8]
-    ensures { result.now ≡ mark_ground entry }
+fn square_fill(entry: Option<Colour>) -> &'static [u8]
+    ensures { result.now ≡ square_fill entry }
 {
     match entry {
         None => b"white",
@@ -118,7 +118,7 @@ fn put_square(
     let top = y - 4;
     let text = format!(in alloc; "<rect x='{left}' y='{top}' width='8' height='8' fill='")?;
     out.extend_from_slice(text.as_bytes())?;
-    out.extend_from_slice(mark_ground(entry))?;
+    out.extend_from_slice(square_fill(entry))?;
     out.extend_from_slice(b"' stroke='")?;
     out.extend_from_slice(mark_colour(entry))?;
     out.extend_from_slice(b"'/>\n")?;
@@ -146,8 +146,8 @@ fn put_number_end(alloc: Global, out: &mut Vec<u8>, n: usize) -> Result<(), NoMe
 }
 
 /// Writes a number on a stone behind the text.
-#[tactic(auto, unfolding(crate::specs::Diagram::digits_text))]
-fn put_digits(
+#[tactic(auto, unfolding(crate::specs::Diagram::stone_number_text))]
+fn put_stone_number(
     alloc: Global,
     out: &mut Vec<u8>,
     x: usize,
@@ -155,7 +155,7 @@ fn put_digits(
     colour: Colour,
     n: usize,
 ) -> Result<(), NoMemory>
-    ensures { OnOk result (out.new.items ≡ out.old.items ++ digits_text x below colour n) }
+    ensures { OnOk result (out.new.items ≡ out.old.items ++ stone_number_text x below colour n) }
 {
     let word = mark_colour(Some(colour));
     put_number_head(alloc, out, x, below)?;
@@ -164,7 +164,7 @@ fn put_digits(
 }
 
 /// Writes a stone with a number behind the text.
-fn put_number(
+fn put_numbered_stone(
     alloc: Global,
     out: &mut Vec<u8>,
     x: usize,
@@ -176,12 +176,12 @@ fn put_number(
     ensures { OnOk result (out.new.items ≡ out.old.items ++ numbered_stone x y colour n) }
 {
     put_stone(alloc, out, x, y, colour)?;
-    put_digits(alloc, out, x, y + 5, colour, n)
+    put_stone_number(alloc, out, x, y + 5, colour, n)
 }
 
 /// The number of a point in a line of plays, if it is one of them.
-fn number_in(plays: &[usize], point: usize) -> Option<usize>
-    ensures { result ≡ number_in 1 plays.now point }
+fn number_of_play(plays: &[usize], point: usize) -> Option<usize>
+    ensures { result ≡ number_of_play 1 plays.now point }
 {
     let mut n = 0;
     while n < plays.len() {
@@ -199,11 +199,11 @@ pub fn has_square(line: &Line, plays: &[usize], number: usize) -> bool
     ensures { result ≡ has_square line.now plays.now number }
 {
     let is_whole = usize::from(line.frame().region.count()) == line.frame().size.point_count();
-    is_inside(line, number) && (number_in(plays, number).is_none() && !is_whole)
+    is_in_region(line, number) && (number_of_play(plays, number).is_none() && !is_whole)
 }
 
 /// What stands on the point of this number.
-fn entry(line: &Line, number: usize) -> Option<Colour>
+fn stone_at(line: &Line, number: usize) -> Option<Colour>
     requires { number < point_count line.now.frame.size }
     ensures { result ≡ entry_at line.now.state.present number }
 {
@@ -211,14 +211,14 @@ fn entry(line: &Line, number: usize) -> Option<Colour>
 }
 
 /// Writes the stone on a point behind the text, where one is.
-fn put_entry(
+fn put_stone_if_any(
     alloc: Global,
     out: &mut Vec<u8>,
     x: usize,
     y: usize,
     entry: Option<Colour>,
 ) -> Result<(), NoMemory>
-    ensures { OnOk result (out.new.items ≡ out.old.items ++ entry_text x y entry) }
+    ensures { OnOk result (out.new.items ≡ out.old.items ++ stone_if_any_text x y entry) }
 {
     match entry {
         None => Ok(()),
@@ -242,24 +242,24 @@ fn put_mark(
     ensures { OnOk result (out.new.items ≡ out.old.items ++ mark_text line.now plays.now x y number) }
 {
     if is_target(line, number) {
-        return put_triangle(alloc, out, x, y, entry(line, number));
+        return put_triangle(alloc, out, x, y, stone_at(line, number));
     }
     if has_square(line, plays, number) {
-        return put_square(alloc, out, x, y, entry(line, number));
+        return put_square(alloc, out, x, y, stone_at(line, number));
     }
     Ok(())
 }
 
 /// The colour of a number: the side to move has the odd ones.
-fn colour_of(line: &Line, n: usize) -> Colour
-    ensures { result ≡ colour_of line.now n }
+fn numbered_stone_colour(line: &Line, n: usize) -> Colour
+    ensures { result ≡ numbered_stone_colour line.now n }
 {
     let mover = line.to_move();
     side_colour(line, if n % 2 == 1 { mover } else { mover.opponent() })
 }
 
 /// Writes the number on a point behind the text, where it has one.
-fn put_numbered(
+fn put_numbered_stone_if_any(
     alloc: Global,
     out: &mut Vec<u8>,
     line: &Line,
@@ -268,17 +268,17 @@ fn put_numbered(
     number: Option<usize>,
 ) -> Result<(), NoMemory>
     requires { y ≤ 1000 }
-    ensures { OnOk result (out.new.items ≡ out.old.items ++ numbered_text line.now x y number) }
+    ensures { OnOk result (out.new.items ≡ out.old.items ++ numbered_stone_if_any line.now x y number) }
 {
     match number {
         None => Ok(()),
-        Some(n) => put_number(alloc, out, x, y, colour_of(line, n), n),
+        Some(n) => put_numbered_stone(alloc, out, x, y, numbered_stone_colour(line, n), n),
     }
 }
 
 /// Writes the shapes on a point behind the text.
 #[tactic(auto, unfolding(crate::specs::Diagram::point_shapes))]
-fn put_point(
+fn put_point_shapes(
     alloc: Global,
     out: &mut Vec<u8>,
     line: &Line,
@@ -292,28 +292,28 @@ fn put_point(
     requires on_board { number < point_count line.now.frame.size }
     ensures { OnOk result (out.new.items ≡ out.old.items ++ point_shapes line.now plays.now x y number) }
 {
-    put_entry(alloc, out, x, y, entry(line, number))?;
+    put_stone_if_any(alloc, out, x, y, stone_at(line, number))?;
     put_mark(alloc, out, line, plays, x, y, number)?;
-    put_numbered(alloc, out, line, x, y, number_in(plays, number))
+    put_numbered_stone_if_any(alloc, out, line, x, y, number_of_play(plays, number))
 }
 
 /// Half a cell, where the board goes on.
-fn further(goes_on: bool) -> usize
-    ensures { result ≡ further goes_on }
+fn grid_overhang(goes_on: bool) -> usize
+    ensures { result ≡ grid_overhang goes_on }
 {
     if goes_on { 12 } else { 0 }
 }
 
 /// Writes the line of a column, and the beginning of its letter, behind the text.
-#[tactic(auto, unfolding(crate::specs::Diagram::column_stroke))]
-fn put_column_stroke(
+#[tactic(auto, unfolding(crate::specs::Diagram::column_head))]
+fn put_column_head(
     alloc: Global,
     out: &mut Vec<u8>,
     x: usize,
     top: usize,
     bottom: usize,
 ) -> Result<(), NoMemory>
-    ensures { OnOk result (out.new.items ≡ out.old.items ++ column_stroke x top bottom) }
+    ensures { OnOk result (out.new.items ≡ out.old.items ++ column_head x top bottom) }
 {
     let text = format!(in alloc;
         "<path d='M{x} {top}V{bottom}' stroke='black'/>\n<text x='{x}' y='17'>"
@@ -323,24 +323,24 @@ fn put_column_stroke(
 }
 
 /// Where the lines of the columns end.
-fn bottom_end(size: Size, w: Window) -> usize
+fn grid_bottom(size: Size, w: Window) -> usize
     requires { IsWindow size w }
-    ensures { result ≡ bottom_end size w }
+    ensures { result ≡ grid_bottom size w }
 {
-    24 * (w.bottom - w.top) + 36 + further(w.bottom + 1 < usize::from(size.rows()))
+    24 * (w.bottom - w.top) + 36 + grid_overhang(w.bottom + 1 < usize::from(size.rows()))
 }
 
 /// Where the lines of the rows end.
-fn right_end(size: Size, w: Window) -> usize
+fn grid_right(size: Size, w: Window) -> usize
     requires { IsWindow size w }
-    ensures { result ≡ right_end size w }
+    ensures { result ≡ grid_right size w }
 {
-    24 * (w.right - w.left) + 36 + further(w.right + 1 < usize::from(size.columns()))
+    24 * (w.right - w.left) + 36 + grid_overhang(w.right + 1 < usize::from(size.columns()))
 }
 
 /// Writes the line and the letter of a column behind the text.
-#[tactic(auto, unfolding(crate::specs::Diagram::column_shapes))]
-fn put_column(
+#[tactic(auto, unfolding(crate::specs::Diagram::column_line_and_letter))]
+fn put_column_line_and_letter(
     alloc: Global,
     out: &mut Vec<u8>,
     size: Size,
@@ -348,15 +348,15 @@ fn put_column(
     i: usize,
 ) -> Result<(), NoMemory>
     requires window { IsWindow size w }
-    requires within { i < columns_shown w }
-    ensures { OnOk result (out.new.items ≡ out.old.items ++ column_shapes size w i) }
+    requires within { i < shown_column_count w }
+    ensures { OnOk result (out.new.items ≡ out.old.items ++ column_line_and_letter size w i) }
 {
-    put_column_stroke(
+    put_column_head(
         alloc,
         out,
         24 * i + 36,
-        36 - further(0 < w.top),
-        bottom_end(size, w),
+        36 - grid_overhang(0 < w.top),
+        grid_bottom(size, w),
     )?;
     out.push(editor_column_letter((w.left + i) as u16))?;
     out.extend_from_slice(b"</text>\n")?;
@@ -364,8 +364,8 @@ fn put_column(
 }
 
 /// Writes the line of a row and its number behind the text.
-#[tactic(auto, unfolding(crate::specs::Diagram::row_stroke))]
-fn put_row_stroke(
+#[tactic(auto, unfolding(crate::specs::Diagram::row_elements))]
+fn put_row_elements(
     alloc: Global,
     out: &mut Vec<u8>,
     left: usize,
@@ -374,7 +374,7 @@ fn put_row_stroke(
     below: usize,
     number: usize,
 ) -> Result<(), NoMemory>
-    ensures { OnOk result (out.new.items ≡ out.old.items ++ row_stroke left y right below number) }
+    ensures { OnOk result (out.new.items ≡ out.old.items ++ row_elements left y right below number) }
 {
     let text = format!(in alloc;
         "<path d='M{left} {y}H{right}' stroke='black'/>\n<text x='12' y='{below}'>{number}</text>\n"
@@ -384,8 +384,8 @@ fn put_row_stroke(
 }
 
 /// Writes the line and the number of a row behind the text.
-#[tactic(auto, unfolding(crate::specs::Diagram::row_shapes))]
-fn put_row(
+#[tactic(auto, unfolding(crate::specs::Diagram::row_line_and_number))]
+fn put_row_line_and_number(
     alloc: Global,
     out: &mut Vec<u8>,
     size: Size,
@@ -393,17 +393,17 @@ fn put_row(
     j: usize,
 ) -> Result<(), NoMemory>
     requires window { IsWindow size w }
-    requires within { j < rows_shown w }
-    ensures { OnOk result (out.new.items ≡ out.old.items ++ row_shapes size w j) }
+    requires within { j < shown_row_count w }
+    ensures { OnOk result (out.new.items ≡ out.old.items ++ row_line_and_number size w j) }
 {
     let y = 24 * j + 36;
     let number = usize::from(size.rows()) - (w.top + j);
-    put_row_stroke(
+    put_row_elements(
         alloc,
         out,
-        36 - further(0 < w.left),
+        36 - grid_overhang(0 < w.left),
         y,
-        right_end(size, w),
+        grid_right(size, w),
         y + 4,
         number,
     )
@@ -411,7 +411,7 @@ fn put_row(
 
 /// Writes the shapes on the point of a row and a column of the window behind the text.
 #[tactic(auto, unfolding(crate::specs::Diagram::cell_shapes))]
-fn put_cell(
+fn put_cell_shapes(
     alloc: Global,
     out: &mut Vec<u8>,
     line: &Line,
@@ -421,17 +421,17 @@ fn put_cell(
     i: usize,
 ) -> Result<(), NoMemory>
     requires window { IsWindow line.now.frame.size w }
-    requires row { j < rows_shown w }
-    requires column { i < columns_shown w }
+    requires row { j < shown_row_count w }
+    requires column { i < shown_column_count w }
     ensures { OnOk result (out.new.items ≡ out.old.items ++ cell_shapes line.now plays.now w j i) }
 {
-    let number = number_at(line.frame().size, w.top + j, w.left + i);
-    put_point(alloc, out, line, plays, 24 * i + 36, 24 * j + 36, number)
+    let number = point_number_at(line.frame().size, w.top + j, w.left + i);
+    put_point_shapes(alloc, out, line, plays, 24 * i + 36, 24 * j + 36, number)
 }
 
 /// Writes the shapes on the points of a row of the window behind the text.
 #[tactic(auto, using(crate::proofs::Texts::next_text))]
-fn put_points(
+fn put_row_points_shapes(
     alloc: Global,
     out: &mut Vec<u8>,
     line: &Line,
@@ -440,42 +440,47 @@ fn put_points(
     j: usize,
 ) -> Result<(), NoMemory>
     requires window { IsWindow line.now.frame.size w }
-    requires row { j < rows_shown w }
-    ensures { OnOk result (out.new.items ≡ out.old.items ++ points_shapes line.now plays.now w j) }
+    requires row { j < shown_row_count w }
+    ensures { OnOk result (out.new.items ≡ out.old.items ++ row_points_shapes line.now plays.now w j) }
 {
     for i in 0..w.right + 1 - w.left {
-        put_cell(alloc, out, line, plays, w, j, i)?;
+        put_cell_shapes(alloc, out, line, plays, w, j, i)?;
     }
     Ok(())
 }
 
 /// Writes the lines and letters of the columns behind the text.
 #[tactic(auto, using(crate::proofs::Texts::next_text))]
-fn put_columns(alloc: Global, out: &mut Vec<u8>, size: Size, w: Window) -> Result<(), NoMemory>
+fn put_column_lines(alloc: Global, out: &mut Vec<u8>, size: Size, w: Window) -> Result<(), NoMemory>
     requires window { IsWindow size w }
-    ensures { OnOk result (out.new.items ≡ out.old.items ++ flat_map (column_shapes size w) (range_with_len 0 (columns_shown w))) }
+    ensures { OnOk result (out.new.items ≡ out.old.items ++ flat_map (column_line_and_letter size w) (range_with_len 0 (shown_column_count w))) }
 {
     for i in 0..w.right + 1 - w.left {
-        put_column(alloc, out, size, w, i)?;
+        put_column_line_and_letter(alloc, out, size, w, i)?;
     }
     Ok(())
 }
 
 /// Writes the lines and numbers of the rows behind the text.
 #[tactic(auto, using(crate::proofs::Texts::next_text))]
-fn put_rows(alloc: Global, out: &mut Vec<u8>, size: Size, w: Window) -> Result<(), NoMemory>
+fn put_row_lines_and_numbers(
+    alloc: Global,
+    out: &mut Vec<u8>,
+    size: Size,
+    w: Window,
+) -> Result<(), NoMemory>
     requires window { IsWindow size w }
-    ensures { OnOk result (out.new.items ≡ out.old.items ++ flat_map (row_shapes size w) (range_with_len 0 (rows_shown w))) }
+    ensures { OnOk result (out.new.items ≡ out.old.items ++ flat_map (row_line_and_number size w) (range_with_len 0 (shown_row_count w))) }
 {
     for j in 0..w.bottom + 1 - w.top {
-        put_row(alloc, out, size, w, j)?;
+        put_row_line_and_number(alloc, out, size, w, j)?;
     }
     Ok(())
 }
 
 /// Writes the shapes on the points of the window behind the text.
 #[tactic(auto, using(crate::proofs::Texts::next_text))]
-fn put_all_points(
+fn put_all_points_shapes(
     alloc: Global,
     out: &mut Vec<u8>,
     line: &Line,
@@ -483,18 +488,18 @@ fn put_all_points(
     w: Window,
 ) -> Result<(), NoMemory>
     requires window { IsWindow line.now.frame.size w }
-    ensures { OnOk result (out.new.items ≡ out.old.items ++ flat_map (points_shapes line.now plays.now w) (range_with_len 0 (rows_shown w))) }
+    ensures { OnOk result (out.new.items ≡ out.old.items ++ flat_map (row_points_shapes line.now plays.now w) (range_with_len 0 (shown_row_count w))) }
 {
     for j in 0..w.bottom + 1 - w.top {
-        put_points(alloc, out, line, plays, w, j)?;
+        put_row_points_shapes(alloc, out, line, plays, w, j)?;
     }
     Ok(())
 }
 
 /// The middle of the document.
-fn centre(size: Size, w: Window) -> usize
+fn document_centre(size: Size, w: Window) -> usize
     requires { IsWindow size w }
-    ensures value { result ≡ centre w }
+    ensures value { result ≡ document_centre w }
     ensures most { result ≤ 1000 }
 {
     (12 * (w.right - w.left) + 30).max(42)
@@ -502,7 +507,12 @@ fn centre(size: Size, w: Window) -> usize
 
 /// Writes the beginning of the document behind the text.
 #[tactic(auto, unfolding(crate::specs::Diagram::svg_head))]
-fn put_head(alloc: Global, out: &mut Vec<u8>, width: usize, height: usize) -> Result<(), NoMemory>
+fn put_svg_head(
+    alloc: Global,
+    out: &mut Vec<u8>,
+    width: usize,
+    height: usize,
+) -> Result<(), NoMemory>
     ensures { OnOk result (out.new.items ≡ out.old.items ++ svg_head width height) }
 {
     let text = format!(in alloc;
@@ -518,7 +528,7 @@ fn put_caption(alloc: Global, out: &mut Vec<u8>, line: &Line, w: Window) -> Resu
     requires { IsWindow line.now.frame.size w }
     ensures { OnOk result (out.new.items ≡ out.old.items ++ caption line.now w) }
 {
-    let x = centre(line.frame().size, w);
+    let x = document_centre(line.frame().size, w);
     let below = 24 * (w.bottom - w.top) + 72;
     let text = format!(in alloc; "<text x='{x}' y='{below}'>")?;
     out.extend_from_slice(text.as_bytes())?;
@@ -541,10 +551,10 @@ pub fn put_svg(
     let size = line.frame().size;
     let w = window_of(line);
     let height = 24 * (w.bottom - w.top) + 84;
-    put_head(alloc, out, 2 * centre(size, w), height)?;
-    put_columns(alloc, out, size, w)?;
-    put_rows(alloc, out, size, w)?;
-    put_all_points(alloc, out, line, plays, w)?;
+    put_svg_head(alloc, out, 2 * document_centre(size, w), height)?;
+    put_column_lines(alloc, out, size, w)?;
+    put_row_lines_and_numbers(alloc, out, size, w)?;
+    put_all_points_shapes(alloc, out, line, plays, w)?;
     put_caption(alloc, out, line, w)?;
     out.extend_from_slice(b"</svg>\n")?;
     Ok(())

@@ -4,13 +4,13 @@ ghost use Rattle.std.specs.List.{list_all};
 ghost use Rattle.tt_board.specs.declared.Colour.TheVariants.{Black, White};
 ghost use Rattle.tt_game.specs.Problems.{game_of};
 ghost use Rattle.tt_sgf.specs.Values.{after_blanks};
-ghost use Rattle.tt_game.specs.Nodes.{PL, colour_at, values_of};
-ghost use Rattle.tsumego_show.specs.FaultDetails.{are_known, unreadable_colour, bad_in, first_unreadable_mark, unreadable_move, bad_moves, bad_setup, bad_turn, bad_value, blacks_behind, first_bad, first_size, if_unread, is_star_to_tilde, is_setup_fault, look_line, moved_on, property_value_or};
-ghost use Rattle.tsumego_show.specs.FaultDetails.{plain_value, points_at_fault, points_of_property, points_line, set_up_twice, stones_before, vacant, bad_value_line, whites_behind, without_liberty};
+ghost use Rattle.tt_game.specs.Nodes.{PL, colour_of_letter, values_of};
+ghost use Rattle.tsumego_show.specs.FaultDetails.{are_stones_known, unreadable_colour, unreadable_point_of, unreadable_mark_value, unreadable_move, unreadable_move_value, unreadable_setup_value, unreadable_turn_value, unreadable_value, blacks_after_setup, first_unreadable_point, size_by_first_node, value_if_unread, is_star_to_tilde, is_stone_fault, look_at_line, move_points, property_value_or};
+ghost use Rattle.tsumego_show.specs.FaultDetails.{value_or_dots, points_at_fault, points_of_property, points_to_look_at_line, points_twice, stones_before, vacant_points, unreadable_value_line, whites_after_setup, stones_without_liberty};
 
-use crate::hints::put_listed;
+use crate::hints::put_points_line_if_any;
 use crate::node_values::first_value;
-use crate::regions::{near, reached, stones};
+use crate::regions::{adjacent_points, reached, stones};
 use std::alloc::Global;
 use tt_board::Colour;
 use tt_game::{GameFault, game_before_solution, has_move, named_set, nodes_before_solution};
@@ -19,11 +19,11 @@ use tt_sgf::{
 };
 
 /// The longest value that is written as it is.
-const MOST_BYTES: usize = 20;
+const MOST_VALUE_BYTES: usize = 20;
 
 /// Stones of both colours.
 #[derive(Drop)]
-pub struct Stones {
+pub struct StoneSets {
     pub blacks: PointSet,
     pub whites: PointSet,
 }
@@ -40,9 +40,9 @@ fn points_of_property(size: Size, node: &Node, name: &[u8]) -> PointSet
 }
 
 /// What stands in two of AB, AW and AE.
-#[tactic(auto, unfolding(crate::specs::FaultDetails::set_up_twice))]
-fn set_up_twice(size: Size, node: &Node) -> PointSet
-    ensures { result ≡ set_up_twice size node.now }
+#[tactic(auto, unfolding(crate::specs::FaultDetails::points_twice))]
+fn points_twice(size: Size, node: &Node) -> PointSet
+    ensures { result ≡ points_twice size node.now }
 {
     let blacks = points_of_property(size, node, b"AB");
     let whites = points_of_property(size, node, b"AW");
@@ -53,58 +53,62 @@ fn set_up_twice(size: Size, node: &Node) -> PointSet
 }
 
 /// Where the move is.
-#[tactic(auto, unfolding(crate::specs::FaultDetails::moved_on))]
-fn moved_on(size: Size, node: &Node) -> PointSet
-    ensures { result ≡ moved_on size node.now }
+#[tactic(auto, unfolding(crate::specs::FaultDetails::move_points))]
+fn move_points(size: Size, node: &Node) -> PointSet
+    ensures { result ≡ move_points size node.now }
 {
     points_of_property(size, node, b"B").or(&points_of_property(size, node, b"W"))
 }
 
 /// The stones behind a setup, which are put over those before.
-#[tactic(auto, unfolding(crate::specs::FaultDetails::blacks_behind, crate::specs::FaultDetails::whites_behind))]
-fn behind(size: Size, node: &Node, before: &Stones) -> Stones
-    ensures blacks { result.blacks ≡ blacks_behind size node.now before.now.blacks }
-    ensures whites { result.whites ≡ whites_behind size node.now before.now.whites }
+#[tactic(auto, unfolding(crate::specs::FaultDetails::blacks_after_setup, crate::specs::FaultDetails::whites_after_setup))]
+fn stones_after_setup(size: Size, node: &Node, before: &StoneSets) -> StoneSets
+    ensures blacks { result.blacks ≡ blacks_after_setup size node.now before.now.blacks }
+    ensures whites { result.whites ≡ whites_after_setup size node.now before.now.whites }
 {
     let blacks = points_of_property(size, node, b"AB");
     let whites = points_of_property(size, node, b"AW");
     let cleared = points_of_property(size, node, b"AE");
-    Stones {
+    StoneSets {
         blacks: blacks.or(&before.blacks.minus(&whites.or(&cleared))),
         whites: whites.or(&before.whites.minus(&blacks.or(&cleared))),
     }
 }
 
 /// The points without a stone.
-#[tactic(auto, unfolding(crate::specs::FaultDetails::vacant))]
-fn vacant(size: Size, on: &Stones) -> PointSet
-    ensures { result ≡ vacant size on.now.blacks on.now.whites }
+#[tactic(auto, unfolding(crate::specs::FaultDetails::vacant_points))]
+fn vacant_points(size: Size, on: &StoneSets) -> PointSet
+    ensures { result ≡ vacant_points size on.now.blacks on.now.whites }
 {
     PointSet::whole(size).minus(&on.blacks.or(&on.whites))
 }
 
 /// The chains of these stones that have no liberty.
-#[tactic(auto, unfolding(crate::specs::FaultDetails::without_liberty))]
-fn without_liberty(size: Size, on: &Stones, some: &PointSet) -> PointSet
-    ensures { result ≡ without_liberty size on.now.blacks on.now.whites some.now }
+#[tactic(auto, unfolding(crate::specs::FaultDetails::stones_without_liberty))]
+fn stones_without_liberty(size: Size, on: &StoneSets, some: &PointSet) -> PointSet
+    ensures { result ≡ stones_without_liberty size on.now.blacks on.now.whites some.now }
 {
-    let free = some.and(&near(size, &vacant(size, on)));
+    let free = some.and(&adjacent_points(size, &vacant_points(size, on)));
     some.minus(&reached(size, some, free))
 }
 
 /// What is wrong in a node, with these stones behind its setup.
-fn points_at_fault(size: Size, fault: GameFault, node: &Node, on: &Stones) -> PointSet
+fn points_at_fault(size: Size, fault: GameFault, node: &Node, on: &StoneSets) -> PointSet
     ensures { result ≡ points_at_fault size fault node.now on.now.blacks on.now.whites }
 {
     match fault {
-        GameFault::PointTwice => set_up_twice(size, node),
+        GameFault::PointTwice => points_twice(size, node),
         GameFault::StoneWithoutLiberty => {
-            without_liberty(size, on, &on.blacks).or(&without_liberty(size, on, &on.whites))
+            stones_without_liberty(size, on, &on.blacks).or(&stones_without_liberty(
+                size, on, &on.whites,
+            ))
         }
         GameFault::OccupiedPoint | GameFault::RepeatedBoard | GameFault::AfterEnd => {
-            moved_on(size, node)
+            move_points(size, node)
         }
-        GameFault::EmptyTarget => points_of_property(size, node, b"TR").and(&vacant(size, on)),
+        GameFault::EmptyTarget => points_of_property(size, node, b"TR").and(&vacant_points(
+            size, on,
+        )),
         GameFault::MixedTargets => points_of_property(size, node, b"TR").and(&on.whites),
         GameFault::NotGo
         | GameFault::BadSize
@@ -117,25 +121,25 @@ fn points_at_fault(size: Size, fault: GameFault, node: &Node, on: &Stones) -> Po
 }
 
 /// The stones of the game in front of a solution; none where there is no game.
-fn stones_before(alloc: Global, front: &MainLine) -> Result<Stones, NoMemory>
+fn stones_before(alloc: Global, front: &MainLine) -> Result<StoneSets, NoMemory>
     ensures { IfOk result (λ s. (s.blacks ≡ stones_before Black (game_of front.now.nodes)) × (s.whites ≡ stones_before White (game_of front.now.nodes))) }
 {
     match game_before_solution(alloc, front) {
-        Ok(game) => Ok(Stones {
+        Ok(game) => Ok(StoneSets {
             blacks: stones(game.present(), Colour::Black),
             whites: stones(game.present(), Colour::White),
         }),
         Err(GameFault::NoMemory) => Err(NoMemory),
-        Err(_) => Ok(Stones {
+        Err(_) => Ok(StoneSets {
             blacks: PointSet::empty(),
             whites: PointSet::empty(),
         }),
     }
 }
 
-/// Whether the fault is one of stones.
-fn is_setup_fault(fault: GameFault) -> bool
-    ensures { result ≡ is_setup_fault fault }
+/// Whether the stones after the setup are needed to say which points are at fault.
+fn is_stone_fault(fault: GameFault) -> bool
+    ensures { result ≡ is_stone_fault fault }
 {
     matches!(
         fault,
@@ -144,15 +148,15 @@ fn is_setup_fault(fault: GameFault) -> bool
 }
 
 /// Whether the stones behind a node are known.
-fn are_known(front: &MainLine, node: &Node) -> bool
-    ensures { result ≡ are_known front.now.nodes node.now }
+fn are_stones_known(front: &MainLine, node: &Node) -> bool
+    ensures { result ≡ are_stones_known front.now.nodes node.now }
 {
     let nodes = front.nodes.as_slice();
     nodes_before_solution(nodes) == nodes.len() && !has_move(node)
 }
 
 /// Writes the points to look at behind the text.
-fn put_points(
+fn put_points_to_look_at(
     alloc: Global,
     out: &mut Vec<u8>,
     fault: GameFault,
@@ -160,20 +164,20 @@ fn put_points(
     front: &MainLine,
     node: &Node,
 ) -> Result<(), NoMemory>
-    ensures { OnOk result (out.new.items ≡ out.old.items ++ points_line fault size front.now.nodes node.now) }
+    ensures { OnOk result (out.new.items ≡ out.old.items ++ points_to_look_at_line fault size front.now.nodes node.now) }
 {
-    if is_setup_fault(fault) && !are_known(front, node) {
+    if is_stone_fault(fault) && !are_stones_known(front, node) {
         return Ok(());
     }
-    let on = behind(size, node, &stones_before(alloc, front)?);
+    let on = stones_after_setup(size, node, &stones_before(alloc, front)?);
     let points = points_at_fault(size, fault, node, &on);
-    put_listed(alloc, out, size, b"look at:", &points)
+    put_points_line_if_any(alloc, out, size, b"look at:", &points)
 }
 
 /// The first value that names no point or rectangle.
 #[tactic(auto, using(crate::proofs::Nodes::bad_none, crate::proofs::Nodes::bad_here, crate::proofs::Nodes::bad_behind))]
-fn first_bad(size: Size, values: &[SmallBytes]) -> Option<&[u8]>
-    ensures { MatchOption result (first_bad size values.now ≡ None) (λ v. first_bad size values.now ≡ Some v.now) }
+fn first_unreadable_point(size: Size, values: &[SmallBytes]) -> Option<&[u8]>
+    ensures { MatchOption result (first_unreadable_point size values.now ≡ None) (λ v. first_unreadable_point size values.now ≡ Some v.now) }
 {
     let mut rest = values;
     while let Some((value, behind)) = rest.split_first() {
@@ -201,11 +205,11 @@ fn are_star_to_tilde(value: &[u8]) -> bool
 }
 
 /// A value; dots for a long one, and for one with other bytes.
-#[tactic(auto, unfolding(crate::specs::FaultDetails::plain_value))]
-fn plain_value(value: &[u8]) -> &[u8]
-    ensures { result.now ≡ plain_value value.now }
+#[tactic(auto, unfolding(crate::specs::FaultDetails::value_or_dots))]
+fn value_or_dots(value: &[u8]) -> &[u8]
+    ensures { result.now ≡ value_or_dots value.now }
 {
-    if value.len() <= MOST_BYTES && are_star_to_tilde(value) {
+    if value.len() <= MOST_VALUE_BYTES && are_star_to_tilde(value) {
         value
     } else {
         b".."
@@ -214,13 +218,13 @@ fn plain_value(value: &[u8]) -> &[u8]
 
 /// The first value of the properties of this name that names no point or rectangle.
 #[tactic(auto, using(crate::proofs::Nodes::bad_nowhere, crate::proofs::Nodes::bad_in_first, crate::proofs::Nodes::bad_in_others, crate::proofs::Nodes::bad_in_other))]
-fn bad_in<'a>(size: Size, node: &'a Node, name: &[u8]) -> Option<&'a [u8]>
-    ensures { MatchOption result (bad_in size node.now name.now ≡ None) (λ v. bad_in size node.now name.now ≡ Some v.now) }
+fn unreadable_point_of<'a>(size: Size, node: &'a Node, name: &[u8]) -> Option<&'a [u8]>
+    ensures { MatchOption result (unreadable_point_of size node.now name.now ≡ None) (λ v. unreadable_point_of size node.now name.now ≡ Some v.now) }
 {
     let mut rest = node.properties.as_slice();
     while let Some((property, behind)) = rest.split_first() {
         if property.ident.as_slice() == name {
-            if let Some(value) = first_bad(size, property.values.as_slice()) {
+            if let Some(value) = first_unreadable_point(size, property.values.as_slice()) {
                 return Some(value);
             }
         }
@@ -230,19 +234,19 @@ fn bad_in<'a>(size: Size, node: &'a Node, name: &[u8]) -> Option<&'a [u8]>
 }
 
 /// A property by its name, and a value of it.
-type NamedValue<'a> = (&'static [u8], &'a [u8]);
+type PropertyValue<'a> = (&'static [u8], &'a [u8]);
 
 /// The first value of what a node sets up that can't be read.
-fn bad_setup(size: Size, node: &Node) -> Option<NamedValue<'_>>
-    ensures { MatchOption result (bad_setup size node.now ≡ None) (λ r. bad_setup size node.now ≡ Some (r.0.now, r.1.now)) }
+fn unreadable_setup_value(size: Size, node: &Node) -> Option<PropertyValue<'_>>
+    ensures { MatchOption result (unreadable_setup_value size node.now ≡ None) (λ r. unreadable_setup_value size node.now ≡ Some (r.0.now, r.1.now)) }
 {
-    if let Some(value) = bad_in(size, node, b"AB") {
+    if let Some(value) = unreadable_point_of(size, node, b"AB") {
         return Some((b"AB", value));
     }
-    if let Some(value) = bad_in(size, node, b"AW") {
+    if let Some(value) = unreadable_point_of(size, node, b"AW") {
         return Some((b"AW", value));
     }
-    Some((b"AE", bad_in(size, node, b"AE")?))
+    Some((b"AE", unreadable_point_of(size, node, b"AE")?))
 }
 
 /// The value of a move of this colour that is neither a point nor a pass.
@@ -258,7 +262,7 @@ fn unreadable_move<'a>(size: Size, node: &'a Node, name: &[u8]) -> Option<&'a [u
 
 /// Whether a value is a colour, by its first letter.
 fn is_colour(value: &[u8]) -> bool
-    ensures { if_unread value.now (colour_at (after_blanks value.now)) ≡ (if result then None else Some value.now) }
+    ensures { value_if_unread value.now (colour_of_letter (after_blanks value.now)) ≡ (if result then None else Some value.now) }
 {
     match skip_blanks(value).split_first() {
         Some((letter, _)) => {
@@ -280,8 +284,8 @@ fn unreadable_colour(node: &Node) -> Option<&[u8]>
 }
 
 /// The value of a move that can't be read.
-fn bad_moves(size: Size, node: &Node) -> Option<NamedValue<'_>>
-    ensures { MatchOption result (bad_moves size node.now ≡ None) (λ r. bad_moves size node.now ≡ Some (r.0.now, r.1.now)) }
+fn unreadable_move_value(size: Size, node: &Node) -> Option<PropertyValue<'_>>
+    ensures { MatchOption result (unreadable_move_value size node.now ≡ None) (λ r. unreadable_move_value size node.now ≡ Some (r.0.now, r.1.now)) }
 {
     if let Some(value) = unreadable_move(size, node, b"B") {
         return Some((b"B", value));
@@ -290,64 +294,64 @@ fn bad_moves(size: Size, node: &Node) -> Option<NamedValue<'_>>
 }
 
 /// The value of a move that can't be read, or of PL, which is read where there is no move.
-fn bad_turn(size: Size, node: &Node) -> Option<NamedValue<'_>>
-    ensures { MatchOption result (bad_turn size node.now ≡ None) (λ r. bad_turn size node.now ≡ Some (r.0.now, r.1.now)) }
+fn unreadable_turn_value(size: Size, node: &Node) -> Option<PropertyValue<'_>>
+    ensures { MatchOption result (unreadable_turn_value size node.now ≡ None) (λ r. unreadable_turn_value size node.now ≡ Some (r.0.now, r.1.now)) }
 {
     if has_move(node) {
-        return bad_moves(size, node);
+        return unreadable_move_value(size, node);
     }
     Some((b"PL", unreadable_colour(node)?))
 }
 
 /// The first value of a mark that can't be read.
-fn first_unreadable_mark(size: Size, node: &Node) -> Option<NamedValue<'_>>
-    ensures { MatchOption result (first_unreadable_mark size node.now ≡ None) (λ r. first_unreadable_mark size node.now ≡ Some (r.0.now, r.1.now)) }
+fn unreadable_mark_value(size: Size, node: &Node) -> Option<PropertyValue<'_>>
+    ensures { MatchOption result (unreadable_mark_value size node.now ≡ None) (λ r. unreadable_mark_value size node.now ≡ Some (r.0.now, r.1.now)) }
 {
-    if let Some(value) = bad_in(size, node, b"TR") {
+    if let Some(value) = unreadable_point_of(size, node, b"TR") {
         return Some((b"TR", value));
     }
-    Some((b"SQ", bad_in(size, node, b"SQ")?))
+    Some((b"SQ", unreadable_point_of(size, node, b"SQ")?))
 }
 
 /// The first value of a node that can't be read.
-#[tactic(auto, unfolding(crate::specs::FaultDetails::bad_value))]
-fn bad_value(size: Size, node: &Node) -> Option<NamedValue<'_>>
-    ensures { MatchOption result (bad_value size node.now ≡ None) (λ r. bad_value size node.now ≡ Some (r.0.now, r.1.now)) }
+#[tactic(auto, unfolding(crate::specs::FaultDetails::unreadable_value))]
+fn unreadable_value(size: Size, node: &Node) -> Option<PropertyValue<'_>>
+    ensures { MatchOption result (unreadable_value size node.now ≡ None) (λ r. unreadable_value size node.now ≡ Some (r.0.now, r.1.now)) }
 {
-    if let Some(found) = bad_setup(size, node) {
+    if let Some(found) = unreadable_setup_value(size, node) {
         return Some(found);
     }
-    if let Some(found) = bad_turn(size, node) {
+    if let Some(found) = unreadable_turn_value(size, node) {
         return Some(found);
     }
-    first_unreadable_mark(size, node)
+    unreadable_mark_value(size, node)
 }
 
 /// Writes a property and its value behind the text.
-fn put_value(out: &mut Vec<u8>, name: &[u8], value: &[u8]) -> Result<(), NoMemory>
-    ensures { OnOk result (out.new.items ≡ out.old.items ++ bad_value_line (Some (name.now, value.now))) }
+fn put_value_to_look_at(out: &mut Vec<u8>, name: &[u8], value: &[u8]) -> Result<(), NoMemory>
+    ensures { OnOk result (out.new.items ≡ out.old.items ++ unreadable_value_line (Some (name.now, value.now))) }
 {
     out.extend_from_slice(b"look at: ")?;
     out.extend_from_slice(name)?;
     out.push(b'[')?;
-    out.extend_from_slice(plain_value(value))?;
+    out.extend_from_slice(value_or_dots(value))?;
     out.extend_from_slice(b"]\n")?;
     Ok(())
 }
 
 /// Writes the value to look at behind the text.
-fn put_bad_value(out: &mut Vec<u8>, size: Size, node: &Node) -> Result<(), NoMemory>
-    ensures { OnOk result (out.new.items ≡ out.old.items ++ bad_value_line (bad_value size node.now)) }
+fn put_unreadable_value(out: &mut Vec<u8>, size: Size, node: &Node) -> Result<(), NoMemory>
+    ensures { OnOk result (out.new.items ≡ out.old.items ++ unreadable_value_line (unreadable_value size node.now)) }
 {
-    match bad_value(size, node) {
-        Some((name, value)) => put_value(out, name, value),
+    match unreadable_value(size, node) {
+        Some((name, value)) => put_value_to_look_at(out, name, value),
         None => Ok(()),
     }
 }
 
 /// The size of the board, by the first node.
-fn first_size(front: &MainLine, node: &Node) -> Option<Size>
-    ensures { result ≡ first_size front.now.nodes node.now }
+fn size_by_first_node(front: &MainLine, node: &Node) -> Option<Size>
+    ensures { result ≡ size_by_first_node front.now.nodes node.now }
 {
     let first = match front.nodes.as_slice().split_first() {
         Some((first, _)) => first,
@@ -360,19 +364,19 @@ fn first_size(front: &MainLine, node: &Node) -> Option<Size>
 }
 
 /// Writes what to look at in a node that is refused so behind the text; those nodes stand in front.
-pub fn put_look(
+pub fn put_look_at_line(
     alloc: Global,
     out: &mut Vec<u8>,
     fault: GameFault,
     front: &MainLine,
     node: &Node,
 ) -> Result<(), NoMemory>
-    ensures { OnOk result (out.new.items ≡ out.old.items ++ look_line fault front.now.nodes node.now) }
+    ensures { OnOk result (out.new.items ≡ out.old.items ++ look_at_line fault front.now.nodes node.now) }
 {
-    match first_size(front, node) {
+    match size_by_first_node(front, node) {
         Some(size) => match fault {
-            GameFault::BadValue => put_bad_value(out, size, node),
-            _ => put_points(alloc, out, fault, size, front, node),
+            GameFault::BadValue => put_unreadable_value(out, size, node),
+            _ => put_points_to_look_at(alloc, out, fault, size, front, node),
         },
         None => Ok(()),
     }

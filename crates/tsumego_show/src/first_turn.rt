@@ -2,9 +2,9 @@
 ghost use Rattle.std.specs.Prelude.{◌≡◌, ◌↔◌, ◌++◌, ℕ, List, IfOk, IfSome, IsTrue, MatchOption, OnOk};
 ghost use Rattle.tt_game.specs.Game.{IsLegal};
 ghost use Rattle.tt_proof.specs.Strategy.{IsInOrder, IsOnBoard, strategy_of};
-ghost use Rattle.tsumego_show.specs.Drawing.{BeginsWithTurn, DrawsFirst, both_turn_names, turned, turned_head, turned_text};
+ghost use Rattle.tsumego_show.specs.StrategyListing.{IsLegalFirstTurn, IsFirstTurnAndBoard, both_turn_names, problem_after_turn, after_turn_heading, after_turn_text};
 
-use crate::hints::put_both_names;
+use crate::hints::put_both_point_names;
 use crate::picture::{colour_name, put_board, side_colour};
 use std::alloc::Global;
 use tt_game::{Line, Side, Turn};
@@ -12,7 +12,7 @@ use tt_proof::Tree;
 use tt_sgf::{NoMemory, Size};
 
 /// Whether the side is to move, and the turn is legal.
-fn may_begin(line: &Line, side: Side, turn: Turn) -> bool
+fn is_legal_for_side(line: &Line, side: Side, turn: Turn) -> bool
     requires { IsOnBoard line.now.frame.size turn }
     ensures { IsTrue result ↔ ((line.now.state.to_move ≡ side) × IsLegal line.now.frame line.now.state turn) }
 {
@@ -20,21 +20,21 @@ fn may_begin(line: &Line, side: Side, turn: Turn) -> bool
 }
 
 /// The first turn of a side's strategy, where the side is to move and that turn is legal.
-pub fn first_turn(line: &Line, side: Side, tree: &Tree) -> Option<Turn>
+pub fn legal_first_turn(line: &Line, side: Side, tree: &Tree) -> Option<Turn>
     requires { IsInOrder line.now.frame.size (strategy_of tree.now) }
-    ensures value { MatchOption result ((t : Turn) → BeginsWithTurn line.now side (strategy_of tree.now) t → ⊥) (BeginsWithTurn line.now side (strategy_of tree.now)) }
+    ensures value { MatchOption result ((t : Turn) → IsLegalFirstTurn line.now side (strategy_of tree.now) t → ⊥) (IsLegalFirstTurn line.now side (strategy_of tree.now)) }
     ensures on_board { IfSome result (λ t. IsOnBoard line.now.frame.size t) }
 {
-    if may_begin(line, side, tree.first()?) {
+    if is_legal_for_side(line, side, tree.first()?) {
         return tree.first();
     }
     None
 }
 
 /// The problem after a legal turn.
-fn after(line: &Line, turn: Turn) -> Result<Line, NoMemory>
+fn line_after_turn(line: &Line, turn: Turn) -> Result<Line, NoMemory>
     requires { IsLegal line.now.frame line.now.state turn }
-    ensures { IfOk result (λ l. l ≡ turned line.now turn) }
+    ensures { IfOk result (λ l. l ≡ problem_after_turn line.now turn) }
 {
     let mut next = line.try_clone()?;
     next.push_legal(turn)?;
@@ -52,15 +52,20 @@ pub fn put_both_turn_names(
     ensures { OnOk result (out.new.items ≡ out.old.items ++ both_turn_names size turn) }
 {
     match turn {
-        Turn::Play(point) => put_both_names(alloc, out, size, usize::from(point.number())),
+        Turn::Play(point) => put_both_point_names(alloc, out, size, usize::from(point.number())),
         Turn::Pass => Ok(out.extend_from_slice(b"pass")?),
     }
 }
 
 /// Writes who makes which turn behind the text.
-fn put_head(alloc: Global, out: &mut Vec<u8>, line: &Line, turn: Turn) -> Result<(), NoMemory>
+fn put_after_turn_heading(
+    alloc: Global,
+    out: &mut Vec<u8>,
+    line: &Line,
+    turn: Turn,
+) -> Result<(), NoMemory>
     requires { IsOnBoard line.now.frame.size turn }
-    ensures { OnOk result (out.new.items ≡ out.old.items ++ turned_head line.now turn) }
+    ensures { OnOk result (out.new.items ≡ out.old.items ++ after_turn_heading line.now turn) }
 {
     out.extend_from_slice(b"After ")?;
     out.extend_from_slice(colour_name(side_colour(line, line.to_move())))?;
@@ -70,19 +75,24 @@ fn put_head(alloc: Global, out: &mut Vec<u8>, line: &Line, turn: Turn) -> Result
 }
 
 /// Writes who makes which turn, and the board then, behind the text.
-fn put_turned(alloc: Global, out: &mut Vec<u8>, line: &Line, turn: &Turn) -> Result<(), NoMemory>
+fn put_after_turn_text(
+    alloc: Global,
+    out: &mut Vec<u8>,
+    line: &Line,
+    turn: &Turn,
+) -> Result<(), NoMemory>
     requires on_board { IsOnBoard line.now.frame.size turn.now }
     requires legal { IsLegal line.now.frame line.now.state turn.now }
-    ensures { OnOk result (out.new.items ≡ out.old.items ++ turned_text line.now turn.now) }
+    ensures { OnOk result (out.new.items ≡ out.old.items ++ after_turn_text line.now turn.now) }
 {
-    let next = after(line, *turn)?;
-    put_head(alloc, out, line, *turn)?;
+    let next = line_after_turn(line, *turn)?;
+    put_after_turn_heading(alloc, out, line, *turn)?;
     put_board(alloc, out, &next)
 }
 
 /// Writes the first turn of a side's strategy and the board then behind the text, where the side is to move and that turn is
 /// legal. `NoMemory` where memory was refused; a part may stand there then.
-pub fn put_first_turn(
+pub fn put_first_turn_and_board(
     alloc: Global,
     out: &mut Vec<u8>,
     line: &Line,
@@ -90,10 +100,10 @@ pub fn put_first_turn(
     tree: &Tree,
 ) -> Result<(), NoMemory>
     requires { IsInOrder line.now.frame.size (strategy_of tree.now) }
-    ensures { OnOk result ((text : List ℕ) × DrawsFirst line.now side (strategy_of tree.now) text × (out.new.items ≡ out.old.items ++ text)) }
+    ensures { OnOk result ((text : List ℕ) × IsFirstTurnAndBoard line.now side (strategy_of tree.now) text × (out.new.items ≡ out.old.items ++ text)) }
 {
-    match first_turn(line, side, tree) {
-        Some(turn) => put_turned(alloc, out, line, &turn),
+    match legal_first_turn(line, side, tree) {
+        Some(turn) => put_after_turn_text(alloc, out, line, &turn),
         None => Ok(()),
     }
 }

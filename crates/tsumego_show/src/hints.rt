@@ -3,32 +3,32 @@ ghost use Rattle.std.specs.Prelude.{◌≡◌, ◌<◌, ◌++◌, OnOk, codes, f
 ghost use Rattle.std.specs.List.{list_any};
 ghost use Rattle.tt_sgf.specs.Sizes.{point_count};
 ghost use Rattle.tt_game.specs.Nodes.{is_setup};
-ghost use Rattle.tsumego_show.specs.Hints.{attackers, both_names, defenders, editor_name, enclosed, held_chains, hints, is_mover_said, is_said_behind, is_wide, leaks, leaks_line};
-ghost use Rattle.tsumego_show.specs.Hints.{listed, member_name, members_text, mover_line, names_text, strangers, strangers_line, takeables, takeables_line, target_chains};
-ghost use Rattle.tsumego_show.specs.Hints.{comment_line, comment_lines, has_open_comment, is_left_open, is_open_comment, unfillables, wide_line};
+ghost use Rattle.tsumego_show.specs.Hints.{attacker_stones, both_point_names, defender_stones, editor_point_name, enclosed_points, defending_chains, hints, is_side_to_move_given, is_side_to_move_given_after, is_region_too_wide, leaks, leaks_line};
+ghost use Rattle.tsumego_show.specs.Hints.{points_line_if_any, member_name, point_names_line, missing_mover_line, point_names_text, other_defender_stones, other_defender_stones_line, capturable_stones, capturable_stones_line, target_chains};
+ghost use Rattle.tsumego_show.specs.Hints.{comment_line, comment_lines, has_open_comment, is_left_open, is_open_comment, unfillable_points, wide_region_line};
 
-use crate::node_values::has;
+use crate::node_values::has_property;
 use crate::picture::editor_column_letter;
 use crate::points::point_numbered;
-use crate::regions::{empties, near, reached, stones, untaken};
+use crate::regions::{adjacent_points, chains_with_liberty_outside, empties, reached, stones};
 use std::alloc::Global;
 use tt_game::{Line, Turn};
 use tt_proof::put_turn;
 use tt_sgf::{NoMemory, Node, PointSet, Property, Size};
 
 /// The most points of a board that may well be a region as a whole.
-const MOST_POINTS: usize = 10;
+const MOST_SMALL_BOARD_POINTS: usize = 10;
 
 /// Writes the name of a point as editors have it behind the text.
 #[tactic(auto, using(crate::proofs::Sets::row_on_board))]
-fn put_editor_name(
+fn put_editor_point_name(
     alloc: Global,
     out: &mut Vec<u8>,
     size: Size,
     number: usize,
 ) -> Result<(), NoMemory>
     requires { number < point_count size }
-    ensures { OnOk result (out.new.items ≡ out.old.items ++ editor_name size number) }
+    ensures { OnOk result (out.new.items ≡ out.old.items ++ editor_point_name size number) }
 {
     let columns = usize::from(size.columns());
     let row = usize::from(size.rows()) - number / columns;
@@ -39,24 +39,24 @@ fn put_editor_name(
 }
 
 /// Writes both names of a point behind the text.
-#[tactic(auto, unfolding(crate::specs::Hints::both_names))]
-pub fn put_both_names(
+#[tactic(auto, unfolding(crate::specs::Hints::both_point_names))]
+pub fn put_both_point_names(
     alloc: Global,
     out: &mut Vec<u8>,
     size: Size,
     number: usize,
 ) -> Result<(), NoMemory>
     requires { number < point_count size }
-    ensures { OnOk result (out.new.items ≡ out.old.items ++ both_names size number) }
+    ensures { OnOk result (out.new.items ≡ out.old.items ++ both_point_names size number) }
 {
-    put_editor_name(alloc, out, size, number)?;
+    put_editor_point_name(alloc, out, size, number)?;
     out.push(b'=')?;
     put_turn(out, Turn::Play(point_numbered(size, number)), size)
 }
 
 /// Writes a blank and the names of a point behind the text, where it is in the set.
 #[tactic(auto, unfolding(crate::specs::Hints::member_name))]
-fn put_member(
+fn put_member_name(
     alloc: Global,
     out: &mut Vec<u8>,
     size: Size,
@@ -68,70 +68,70 @@ fn put_member(
 {
     if points.has(point_numbered(size, number)) {
         out.push(b' ')?;
-        put_both_names(alloc, out, size, number)?;
+        put_both_point_names(alloc, out, size, number)?;
     }
     Ok(())
 }
 
 /// Writes the names of the points of a set behind the text, each with a blank in front.
 #[tactic(auto, using(crate::proofs::Texts::next_text))]
-pub fn put_names(
+pub fn put_point_names(
     alloc: Global,
     out: &mut Vec<u8>,
     size: Size,
     points: &PointSet,
 ) -> Result<(), NoMemory>
-    ensures { OnOk result (out.new.items ≡ out.old.items ++ names_text size points.now) }
+    ensures { OnOk result (out.new.items ≡ out.old.items ++ point_names_text size points.now) }
 {
     for number in 0..size.point_count() {
-        put_member(alloc, out, size, points, number)?;
+        put_member_name(alloc, out, size, points, number)?;
     }
     Ok(())
 }
 
 /// Writes the names of the points of a set behind the text, each with a blank in front, and a newline.
-pub fn put_members(
+pub fn put_point_names_line(
     alloc: Global,
     out: &mut Vec<u8>,
     size: Size,
     points: &PointSet,
 ) -> Result<(), NoMemory>
-    ensures { OnOk result (out.new.items ≡ out.old.items ++ members_text size points.now) }
+    ensures { OnOk result (out.new.items ≡ out.old.items ++ point_names_line size points.now) }
 {
-    put_names(alloc, out, size, points)?;
+    put_point_names(alloc, out, size, points)?;
     out.push(b'\n')?;
     Ok(())
 }
 
 /// Writes a line of these words and of the points of a set behind the text, where the set has points.
-pub fn put_listed(
+pub fn put_points_line_if_any(
     alloc: Global,
     out: &mut Vec<u8>,
     size: Size,
     words: &[u8],
     points: &PointSet,
 ) -> Result<(), NoMemory>
-    ensures { OnOk result (out.new.items ≡ out.old.items ++ listed size words.now points.now) }
+    ensures { OnOk result (out.new.items ≡ out.old.items ++ points_line_if_any size words.now points.now) }
 {
     if points.count() == 0 {
         return Ok(());
     }
     out.extend_from_slice(words)?;
-    put_members(alloc, out, size, points)
+    put_point_names_line(alloc, out, size, points)
 }
 
 /// The stones of the defender.
-#[tactic(auto, unfolding(crate::specs::Hints::defenders))]
-fn defenders(line: &Line) -> PointSet
-    ensures { result ≡ defenders line.now }
+#[tactic(auto, unfolding(crate::specs::Hints::defender_stones))]
+fn defender_stones(line: &Line) -> PointSet
+    ensures { result ≡ defender_stones line.now }
 {
     stones(line.present(), line.frame().defender)
 }
 
 /// The stones of the attacker.
-#[tactic(auto, unfolding(crate::specs::Hints::attackers))]
-fn attackers(line: &Line) -> PointSet
-    ensures { result ≡ attackers line.now }
+#[tactic(auto, unfolding(crate::specs::Hints::attacker_stones))]
+fn attacker_stones(line: &Line) -> PointSet
+    ensures { result ≡ attacker_stones line.now }
 {
     stones(line.present(), line.frame().defender.other())
 }
@@ -142,35 +142,35 @@ fn target_chains(line: &Line) -> PointSet
     ensures { result ≡ target_chains line.now }
 {
     let frame = line.frame();
-    reached(frame.size, &defenders(line), frame.targets.copy())
+    reached(frame.size, &defender_stones(line), frame.targets.copy())
 }
 
 /// The chains of the targets and of the defender's stones in the region.
-#[tactic(auto, unfolding(crate::specs::Hints::held_chains))]
-fn held_chains(line: &Line) -> PointSet
-    ensures { result ≡ held_chains line.now }
+#[tactic(auto, unfolding(crate::specs::Hints::defending_chains))]
+fn defending_chains(line: &Line) -> PointSet
+    ensures { result ≡ defending_chains line.now }
 {
     let frame = line.frame();
-    let free = defenders(line);
+    let free = defender_stones(line);
     let start = frame.targets.or(&frame.region.and(&free));
     reached(frame.size, &free, start)
 }
 
 /// The empty points that nobody can fill.
-#[tactic(auto, unfolding(crate::specs::Hints::unfillables))]
-fn unfillables(line: &Line) -> PointSet
-    ensures { result ≡ unfillables line.now }
+#[tactic(auto, unfolding(crate::specs::Hints::unfillable_points))]
+fn unfillable_points(line: &Line) -> PointSet
+    ensures { result ≡ unfillable_points line.now }
 {
     empties(line.present()).minus(&line.frame().region)
 }
 
 /// The empty points of the region, and the chains that play there is about.
-#[tactic(auto, unfolding(crate::specs::Hints::enclosed))]
-fn enclosed(line: &Line) -> PointSet
-    ensures { result ≡ enclosed line.now }
+#[tactic(auto, unfolding(crate::specs::Hints::enclosed_points))]
+fn enclosed_points(line: &Line) -> PointSet
+    ensures { result ≡ enclosed_points line.now }
 {
     let playable = line.frame().region.and(&empties(line.present()));
-    playable.or(&held_chains(line))
+    playable.or(&defending_chains(line))
 }
 
 /// The empty points that nobody can fill, beside one of those.
@@ -178,35 +178,35 @@ fn enclosed(line: &Line) -> PointSet
 fn leaks(line: &Line) -> PointSet
     ensures { result ≡ leaks line.now }
 {
-    unfillables(line).and(&near(line.frame().size, &enclosed(line)))
+    unfillable_points(line).and(&adjacent_points(line.frame().size, &enclosed_points(line)))
 }
 
 /// The attacker's stones outside the region, whose chains have all their liberties in it.
-#[tactic(auto, unfolding(crate::specs::Hints::takeables))]
-fn takeables(line: &Line) -> PointSet
-    ensures { result ≡ takeables line.now }
+#[tactic(auto, unfolding(crate::specs::Hints::capturable_stones))]
+fn capturable_stones(line: &Line) -> PointSet
+    ensures { result ≡ capturable_stones line.now }
 {
     let frame = line.frame();
-    let outside = attackers(line).minus(&frame.region);
-    outside.minus(&untaken(line.present(), frame.defender, &frame.region))
+    let outside = attacker_stones(line).minus(&frame.region);
+    outside.minus(&chains_with_liberty_outside(line.present(), frame.defender, &frame.region))
 }
 
 /// The defender's stones in or beside the region, of other chains than the targets'.
-#[tactic(auto, unfolding(crate::specs::Hints::strangers))]
-fn strangers(line: &Line) -> PointSet
-    ensures { result ≡ strangers line.now }
+#[tactic(auto, unfolding(crate::specs::Hints::other_defender_stones))]
+fn other_defender_stones(line: &Line) -> PointSet
+    ensures { result ≡ other_defender_stones line.now }
 {
     let frame = line.frame();
-    let strange = defenders(line).minus(&target_chains(line));
-    strange.and(&frame.region.or(&near(frame.size, &frame.region)))
+    let strange = defender_stones(line).minus(&target_chains(line));
+    strange.and(&frame.region.or(&adjacent_points(frame.size, &frame.region)))
 }
 
 /// Whether the region is all of a board with more than a few points.
-fn is_wide(line: &Line) -> bool
-    ensures { result ≡ is_wide line.now }
+fn is_region_too_wide(line: &Line) -> bool
+    ensures { result ≡ is_region_too_wide line.now }
 {
     let count = line.frame().size.point_count();
-    MOST_POINTS < count && usize::from(line.frame().region.count()) == count
+    MOST_SMALL_BOARD_POINTS < count && usize::from(line.frame().region.count()) == count
 }
 
 /// Writes the line on points that nobody can fill behind the text.
@@ -214,30 +214,42 @@ fn put_leaks(alloc: Global, out: &mut Vec<u8>, line: &Line) -> Result<(), NoMemo
     ensures { OnOk result (out.new.items ≡ out.old.items ++ leaks_line line.now) }
 {
     let words = b"hint: empty and not in the region, so that nobody can fill them:";
-    put_listed(alloc, out, line.frame().size, words, &leaks(line))
+    put_points_line_if_any(alloc, out, line.frame().size, words, &leaks(line))
 }
 
 /// Writes the line on stones that can be taken where nobody can play again behind the text.
-fn put_takeables(alloc: Global, out: &mut Vec<u8>, line: &Line) -> Result<(), NoMemory>
-    ensures { OnOk result (out.new.items ≡ out.old.items ++ takeables_line line.now) }
+fn put_capturable_stones(alloc: Global, out: &mut Vec<u8>, line: &Line) -> Result<(), NoMemory>
+    ensures { OnOk result (out.new.items ≡ out.old.items ++ capturable_stones_line line.now) }
 {
     let words = b"hint: unlike T and not in the region, and can be taken by plays in it:";
-    put_listed(alloc, out, line.frame().size, words, &takeables(line))
+    put_points_line_if_any(
+        alloc,
+        out,
+        line.frame().size,
+        words,
+        &capturable_stones(line),
+    )
 }
 
 /// Writes the line on stones that nobody marked behind the text.
-fn put_strangers(alloc: Global, out: &mut Vec<u8>, line: &Line) -> Result<(), NoMemory>
-    ensures { OnOk result (out.new.items ≡ out.old.items ++ strangers_line line.now) }
+fn put_other_defender_stones(alloc: Global, out: &mut Vec<u8>, line: &Line) -> Result<(), NoMemory>
+    ensures { OnOk result (out.new.items ≡ out.old.items ++ other_defender_stones_line line.now) }
 {
     let words = b"hint: stones like T in or beside the region, of other chains:";
-    put_listed(alloc, out, line.frame().size, words, &strangers(line))
+    put_points_line_if_any(
+        alloc,
+        out,
+        line.frame().size,
+        words,
+        &other_defender_stones(line),
+    )
 }
 
 /// Writes the line on a region that is all of the board behind the text.
-fn put_wide(out: &mut Vec<u8>, line: &Line) -> Result<(), NoMemory>
-    ensures { OnOk result (out.new.items ≡ out.old.items ++ wide_line line.now) }
+fn put_wide_region_line(out: &mut Vec<u8>, line: &Line) -> Result<(), NoMemory>
+    ensures { OnOk result (out.new.items ≡ out.old.items ++ wide_region_line line.now) }
 {
-    if is_wide(line) {
+    if is_region_too_wide(line) {
         out.extend_from_slice(b"hint: the region is the whole board\n")?;
     }
     Ok(())
@@ -252,41 +264,41 @@ pub fn put_hints(alloc: Global, out: &mut Vec<u8>, line: &Line) -> Result<(), No
     ensures { OnOk result (out.new.items ≡ out.old.items ++ hints line.now) }
 {
     put_leaks(alloc, out, line)?;
-    put_takeables(alloc, out, line)?;
-    put_strangers(alloc, out, line)?;
-    put_wide(out, line)
+    put_capturable_stones(alloc, out, line)?;
+    put_other_defender_stones(alloc, out, line)?;
+    put_wide_region_line(out, line)
 }
 
 /// Whether a node sets up.
 fn is_setup(node: &Node) -> bool
     ensures { result ≡ is_setup node.now }
 {
-    has(node, b"AB")
-        || has(node, b"AW")
-        || has(node, b"AE")
-        || (has(node, b"PL") && !(has(node, b"B") || has(node, b"W")))
+    has_property(node, b"AB")
+        || has_property(node, b"AW")
+        || has_property(node, b"AE")
+        || (has_property(node, b"PL") && !(has_property(node, b"B") || has_property(node, b"W")))
 }
 
 /// Whether it is said behind a node who moves, where this says whether it was said before.
-fn is_said_behind(before: bool, node: &Node) -> bool
-    ensures { result ≡ is_said_behind before node.now }
+fn is_side_to_move_given_after(before: bool, node: &Node) -> bool
+    ensures { result ≡ is_side_to_move_given_after before node.now }
 {
     if is_setup(node) {
-        return has(node, b"PL");
+        return has_property(node, b"PL");
     }
-    has(node, b"B") || has(node, b"W") || before
+    has_property(node, b"B") || has_property(node, b"W") || before
 }
 
 /// Whether it is said who moves at the first of these nodes that has TR.
 #[tactic(auto, using(crate::proofs::Said::said_none, crate::proofs::Said::said_here, crate::proofs::Said::said_further))]
-fn is_mover_said(nodes: &[Node]) -> bool
-    ensures { result ≡ is_mover_said false nodes.now }
+fn is_side_to_move_given(nodes: &[Node]) -> bool
+    ensures { result ≡ is_side_to_move_given false nodes.now }
 {
     let mut said = false;
     let mut rest = nodes;
     while let Some((node, behind)) = rest.split_first() {
-        said = is_said_behind(said, node);
-        if has(node, b"TR") {
+        said = is_side_to_move_given_after(said, node);
+        if has_property(node, b"TR") {
             return said;
         }
         rest = behind;
@@ -296,10 +308,10 @@ fn is_mover_said(nodes: &[Node]) -> bool
 
 /// Writes the line on a main line in which nobody says who moves behind the text: neither PL beside the last setup nor a move
 /// behind it, up to the first node with TR. `NoMemory` where memory was refused; a part may stand there then.
-pub fn put_mover(out: &mut Vec<u8>, nodes: &[Node]) -> Result<(), NoMemory>
-    ensures { OnOk result (out.new.items ≡ out.old.items ++ mover_line nodes.now) }
+pub fn put_missing_mover_line(out: &mut Vec<u8>, nodes: &[Node]) -> Result<(), NoMemory>
+    ensures { OnOk result (out.new.items ≡ out.old.items ++ missing_mover_line nodes.now) }
 {
-    if !is_mover_said(nodes) {
+    if !is_side_to_move_given(nodes) {
         out.extend_from_slice(b"hint: the setup has no PL, so Black is to move\n")?;
     }
     Ok(())

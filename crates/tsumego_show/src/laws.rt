@@ -1,12 +1,12 @@
 //! The law of what the program writes. It is a function that does nothing, whose contract is the law.
 ghost use Rattle.std.specs.Prelude.{◌≡◌, ℕ, List};
-ghost use Rattle.tsumego_show.specs.declared.form.Form.{Form};
+ghost use Rattle.tsumego_show.specs.declared.mode.Mode.{Mode};
 ghost use Rattle.tsumego_show.specs.Shown.{IsShown};
 
 /// An input has one text and one status.
-pub fn one_text()
-    ensures { (form : Form) (input s t : List ℕ) (m n : ℕ) → IsShown form input s m → IsShown form input t n → (s ≡ t) × (m ≡ n) }
+pub fn input_has_one_text()
+    ensures { (mode : Mode) (input s t : List ℕ) (m n : ℕ) → IsShown mode input s m → IsShown mode input t n → (s ≡ t) × (m ≡ n) }
 {
     tt_sgf::laws::one_reading();
-    tt_proof::laws::one_shared_certificate();
+    tt_proof::laws::one_outline_per_certificate();
 }

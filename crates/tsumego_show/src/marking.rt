@@ -6,58 +6,58 @@ ghost use Rattle.tt_board.specs.declared.Colour.TheVariants.{Black, White};
 ghost use Rattle.tt_board.specs.Reach.{entry_at};
 ghost use Rattle.tt_game.specs.Nodes.{SQ, TR, has};
 ghost use Rattle.tt_game.specs.Problems.{nodes_before_solution, game_of};
-ghost use Rattle.tsumego_show.specs.Marking.{asked_nodes, chain_name, game_marked, has_in, is_proposal_missing, has_squares, has_stones, has_triangles, is_game_left, is_left};
-ghost use Rattle.tsumego_show.specs.Marking.{line_marked, marked, least_open_text, marked_text, node_without_squares, off_board_line, open_line, open_text, openings, problem_kept, proposed, unenclosed_text, ways_text, why_at};
-ghost use Rattle.tsumego_show.specs.Marking.{why_left, why_not, why_on, with_mark, with_marks, without_squares_line};
+ghost use Rattle.tsumego_show.specs.Marking.{problem_nodes, chain_name, game_marked_or_kept, is_some_with_property, is_proposal_missing, is_last_node_squared, has_stones, has_triangles, is_game_left_unmarked, is_left_unmarked};
+ghost use Rattle.tsumego_show.specs.Marking.{tree_marked_or_kept, problem_with_proposal, least_open_text, hints_and_marked_tree, unsquared_triangle_node, off_board_line, open_group_line, open_text, openings, kept_problem_text, proposal_unless_squared, why_no_group_enclosed, ways_text, why_unmarked_at_point};
+ghost use Rattle.tsumego_show.specs.Marking.{why_unmarked, why_unmarked_at_place, why_unmarked_or_off_board, proposal_or_reason, tree_with_marks, unsquared_node_line};
 ghost use Rattle.tsumego_show.specs.Refusals.{fault_text};
-ghost use Rattle.tsumego_show.specs.TreeBytes.{kept_text};
+ghost use Rattle.tsumego_show.specs.TreeBytes.{tree_as_given};
 
-use crate::form::Place;
-use crate::hints::{put_both_names, put_comments, put_hints, put_members};
-use crate::node_values::has;
+use crate::hints::{put_both_point_names, put_comments, put_hints, put_point_names_line};
+use crate::mark_proposals::{StoneWithPoints, least_open, point_of_place, proposal_unless_squared};
+use crate::mode::StonePlace;
+use crate::node_values::has_property;
 use crate::picture::colour_name;
-use crate::proposals::{StoneWithPoints, least_open, placed_point, proposed};
 use crate::refusals::{put_fault, put_refusal};
-use crate::regions::{around, stones, ways_out};
-use crate::tree_bytes::{behind_semicolon, from_open, put_kept};
-use crate::variations::{PointList, put_list};
+use crate::regions::{nearby_empties, stones, ways_out};
+use crate::tree_bytes::{from_first_parenthesis, put_tree_as_given, semicolon_end};
+use crate::variations::{RootPointProperty, put_point_list_property};
 use std::alloc::Global;
 use tt_board::{Board, Colour};
 use tt_game::{Game, GameFault, Line, game_before_solution, nodes_before_solution};
 use tt_sgf::{MainLine, NoMemory, Node, Point, PointSet, Size};
 
 /// Writes a tree with the marks of a problem at the head of the node of this number behind the text.
-fn put_with_marks(
+fn put_tree_with_marks(
     alloc: Global,
     out: &mut Vec<u8>,
     line: &Line,
     number: usize,
     tree: &[u8],
 ) -> Result<(), NoMemory>
-    ensures { OnOk result (out.new.items ≡ out.old.items ++ with_marks number line.now tree.now) }
+    ensures { OnOk result (out.new.items ≡ out.old.items ++ tree_with_marks number line.now tree.now) }
 {
-    let at = behind_semicolon(tree, number);
+    let at = semicolon_end(tree, number);
     out.extend_from_slice(&tree[..at])?;
-    put_list(alloc, out, line, PointList::Triangles)?;
-    put_list(alloc, out, line, PointList::Squares)?;
+    put_point_list_property(alloc, out, line, RootPointProperty::Triangles)?;
+    put_point_list_property(alloc, out, line, RootPointProperty::Squares)?;
     out.extend_from_slice(&tree[at..])?;
     out.push(b'\n')?;
     Ok(())
 }
 
 /// Writes what the hints have against a problem, and its tree with the marks, behind the text.
-#[tactic(auto, unfolding(crate::specs::Marking::marked_text))]
-fn put_marked(
+#[tactic(auto, unfolding(crate::specs::Marking::hints_and_marked_tree))]
+fn put_hints_and_marked_tree(
     alloc: Global,
     out: &mut Vec<u8>,
     line: &Line,
     number: usize,
     tree: &[u8],
 ) -> Result<(), NoMemory>
-    ensures { OnOk result (out.new.items ≡ out.old.items ++ marked_text number line.now tree.now) }
+    ensures { OnOk result (out.new.items ≡ out.old.items ++ hints_and_marked_tree number line.now tree.now) }
 {
     put_hints(alloc, out, line)?;
-    put_with_marks(alloc, out, line, number, from_open(tree))
+    put_tree_with_marks(alloc, out, line, number, from_first_parenthesis(tree))
 }
 
 /// Writes the name of the chain of a stone of this colour behind the text.
@@ -75,7 +75,7 @@ fn put_chain(
     out.extend_from_slice(b"the ")?;
     out.extend_from_slice(colour_name(colour))?;
     out.extend_from_slice(b" chain of ")?;
-    put_both_names(alloc, out, size, usize::from(stone.number()))
+    put_both_point_names(alloc, out, size, usize::from(stone.number()))
 }
 
 /// Writes the ways out, or where there are none the other points, behind the text.
@@ -91,10 +91,10 @@ fn put_openings(
 {
     if ways.count() == 0 {
         out.extend_from_slice(b"put stones of the wall on some of these, or mark by hand:")?;
-        return put_members(alloc, out, size, others);
+        return put_point_names_line(alloc, out, size, others);
     }
     out.extend_from_slice(b"it gets out at")?;
-    put_members(alloc, out, size, ways)
+    put_point_names_line(alloc, out, size, ways)
 }
 
 /// Writes where the chain of a stone of this colour is open, by these ways out or other points, behind the text.
@@ -117,7 +117,7 @@ fn put_open_chain(
 }
 
 /// Writes where the chain of a stone of this colour is open behind the text.
-fn put_open(
+fn put_open_group_line(
     alloc: Global,
     out: &mut Vec<u8>,
     board: &Board,
@@ -125,20 +125,25 @@ fn put_open(
     stone: Point,
 ) -> Result<(), NoMemory>
     requires { stone < point_count board.now.size }
-    ensures { OnOk result (out.new.items ≡ out.old.items ++ open_line board.now.size board.now.points colour stone) }
+    ensures { OnOk result (out.new.items ≡ out.old.items ++ open_group_line board.now.size board.now.points colour stone) }
 {
     let ways = ways_out(board, colour, stone);
-    let others = around(board, colour, stone);
+    let others = nearby_empties(board, colour, stone);
     put_open_chain(alloc, out, board.size(), colour, stone, &ways, &others)
 }
 
 /// Writes why no mark is proposed for what stands on a point behind the text.
-fn put_why_at(alloc: Global, out: &mut Vec<u8>, game: &Game, stone: Point) -> Result<(), NoMemory>
+fn put_why_unmarked_at_point(
+    alloc: Global,
+    out: &mut Vec<u8>,
+    game: &Game,
+    stone: Point,
+) -> Result<(), NoMemory>
     requires { stone < point_count game.now.size }
-    ensures { OnOk result (out.new.items ≡ out.old.items ++ why_at game.now stone (entry_at game.now.present stone)) }
+    ensures { OnOk result (out.new.items ≡ out.old.items ++ why_unmarked_at_point game.now stone (entry_at game.now.present stone)) }
 {
     match game.present().at(stone) {
-        Some(colour) => put_open(alloc, out, game.present(), colour, stone),
+        Some(colour) => put_open_group_line(alloc, out, game.present(), colour, stone),
         None => Ok(out.extend_from_slice(b"no stone stands there\n")?),
     }
 }
@@ -155,24 +160,24 @@ fn put_off_board(alloc: Global, out: &mut Vec<u8>, size: Size) -> Result<(), NoM
 }
 
 /// Writes why no mark is proposed for a point, where the board has it, behind the text.
-fn put_why_on(
+fn put_why_unmarked_or_off_board(
     alloc: Global,
     out: &mut Vec<u8>,
     game: &Game,
     stone: Option<Point>,
 ) -> Result<(), NoMemory>
     requires { IfSome stone (λ q. q < point_count game.now.size) }
-    ensures { OnOk result (out.new.items ≡ out.old.items ++ why_on game.now stone) }
+    ensures { OnOk result (out.new.items ≡ out.old.items ++ why_unmarked_or_off_board game.now stone) }
 {
     match stone {
-        Some(stone) => put_why_at(alloc, out, game, stone),
+        Some(stone) => put_why_unmarked_at_point(alloc, out, game, stone),
         None => put_off_board(alloc, out, game.size()),
     }
 }
 
 /// Writes a chain and its ways out behind the text.
 #[tactic(auto, unfolding(crate::specs::Marking::ways_text))]
-fn put_ways(
+fn put_fewest_ways(
     alloc: Global,
     out: &mut Vec<u8>,
     size: Size,
@@ -183,7 +188,7 @@ fn put_ways(
 {
     put_chain(alloc, out, size, opening.colour, opening.stone)?;
     out.extend_from_slice(b", which gets out at")?;
-    put_members(alloc, out, size, &opening.points)
+    put_point_names_line(alloc, out, size, &opening.points)
 }
 
 /// Writes which chain is open least, where one is, behind the text.
@@ -199,7 +204,7 @@ fn put_least_open(
     match opening {
         Some(opening) => {
             out.extend_from_slice(b"no group is enclosed with 2 to 40 points: least open is ")?;
-            put_ways(alloc, out, size, opening)
+            put_fewest_ways(alloc, out, size, opening)
         }
         None => Ok(out.extend_from_slice(
             b"no group is enclosed with 2 to 40 points: close the wall, or name a stone of the group\n",
@@ -208,8 +213,8 @@ fn put_least_open(
 }
 
 /// Writes that no group is enclosed, and where the least open one gets out, behind the text.
-fn put_all_open(alloc: Global, out: &mut Vec<u8>, game: &Game) -> Result<(), NoMemory>
-    ensures { OnOk result (out.new.items ≡ out.old.items ++ unenclosed_text game.now true true) }
+fn put_no_group_enclosed(alloc: Global, out: &mut Vec<u8>, game: &Game) -> Result<(), NoMemory>
+    ensures { OnOk result (out.new.items ≡ out.old.items ++ why_no_group_enclosed game.now true true) }
 {
     put_least_open(alloc, out, game.size(), &least_open(game))
 }
@@ -222,14 +227,14 @@ fn has_stones(game: &Game, colour: Colour) -> bool
 }
 
 /// Writes that no group is enclosed, and where the least open one gets out; or that there is no wall, behind the text.
-fn put_unenclosed(alloc: Global, out: &mut Vec<u8>, game: &Game) -> Result<(), NoMemory>
-    ensures { OnOk result (out.new.items ≡ out.old.items ++ unenclosed_text game.now (has_stones game.now Black) (has_stones game.now White)) }
+fn put_why_no_group_enclosed(alloc: Global, out: &mut Vec<u8>, game: &Game) -> Result<(), NoMemory>
+    ensures { OnOk result (out.new.items ≡ out.old.items ++ why_no_group_enclosed game.now (has_stones game.now Black) (has_stones game.now White)) }
 {
     match (
         has_stones(game, Colour::Black),
         has_stones(game, Colour::White),
     ) {
-        (true, true) => put_all_open(alloc, out, game),
+        (true, true) => put_no_group_enclosed(alloc, out, game),
         (true, false) => Ok(out.extend_from_slice(
             b"no White stone is on the board, so there is no wall\n",
         )?),
@@ -241,41 +246,46 @@ fn put_unenclosed(alloc: Global, out: &mut Vec<u8>, game: &Game) -> Result<(), N
 }
 
 /// Writes why no mark is proposed behind the text.
-fn put_why_not(
+fn put_why_unmarked_at_place(
     alloc: Global,
     out: &mut Vec<u8>,
     game: &Game,
-    place: Option<Place>,
+    place: Option<StonePlace>,
 ) -> Result<(), NoMemory>
-    ensures { OnOk result (out.new.items ≡ out.old.items ++ why_not game.now place) }
+    ensures { OnOk result (out.new.items ≡ out.old.items ++ why_unmarked_at_place game.now place) }
 {
     match place {
-        None => put_unenclosed(alloc, out, game),
-        Some(place) => put_why_on(alloc, out, game, placed_point(game.size(), place)),
+        None => put_why_no_group_enclosed(alloc, out, game),
+        Some(place) => put_why_unmarked_or_off_board(
+            alloc,
+            out,
+            game,
+            point_of_place(game.size(), place),
+        ),
     }
 }
 
 /// Writes why no mark is proposed, since there are squares or for a place, behind the text.
-fn put_why_left(
+fn put_why_unmarked(
     alloc: Global,
     out: &mut Vec<u8>,
     game: &Game,
     is_squared: bool,
-    place: Option<Place>,
+    place: Option<StonePlace>,
 ) -> Result<(), NoMemory>
-    ensures { OnOk result (out.new.items ≡ out.old.items ++ why_left game.now is_squared place) }
+    ensures { OnOk result (out.new.items ≡ out.old.items ++ why_unmarked game.now is_squared place) }
 {
     if is_squared {
         return Ok(out.extend_from_slice(
             b"squares stand there already: put a triangle on a stone of the group, or take SQ out\n",
         )?);
     }
-    put_why_not(alloc, out, game, place)
+    put_why_unmarked_at_place(alloc, out, game, place)
 }
 
 /// The nodes up to where a main line asks.
-fn asked_nodes(nodes: &[Node]) -> &[Node]
-    ensures { result.now ≡ asked_nodes nodes.now }
+fn problem_nodes(nodes: &[Node]) -> &[Node]
+    ensures { result.now ≡ problem_nodes nodes.now }
 {
     &nodes[..nodes_before_solution(nodes)]
 }
@@ -284,22 +294,24 @@ fn asked_nodes(nodes: &[Node]) -> &[Node]
 fn has_triangles(nodes: &[Node]) -> bool
     ensures { result ≡ has_triangles nodes.now }
 {
-    asked_nodes(nodes).iter().any(|node| has(node, b"TR"))
+    problem_nodes(nodes)
+        .iter()
+        .any(|node| has_property(node, b"TR"))
 }
 
 /// Whether the node that is to get the marks has squares.
-fn has_squares(nodes: &[Node]) -> bool
-    ensures { result ≡ has_squares nodes.now }
+fn is_last_node_squared(nodes: &[Node]) -> bool
+    ensures { result ≡ is_last_node_squared nodes.now }
 {
-    match asked_nodes(nodes).last() {
-        Some(node) => has(node, b"SQ"),
+    match problem_nodes(nodes).last() {
+        Some(node) => has_property(node, b"SQ"),
         None => false,
     }
 }
 
 /// Writes the tree of a game with a mark in the node of this number behind the text.
 #[tactic(auto, using(crate::proofs::Sets::one_counts, crate::proofs::Sets::one_lies))]
-fn put_with(
+fn put_game_with_proposal(
     alloc: Global,
     out: &mut Vec<u8>,
     game: Game,
@@ -308,47 +320,47 @@ fn put_with(
     tree: &[u8],
 ) -> Result<(), NoMemory>
     requires { mark.stone < point_count game.size }
-    ensures { OnOk result (out.new.items ≡ out.old.items ++ marked_text number (marked game mark) tree.now) }
+    ensures { OnOk result (out.new.items ≡ out.old.items ++ hints_and_marked_tree number (problem_with_proposal game mark) tree.now) }
 {
     let targets = PointSet::empty().with(mark.stone);
-    let line = game.pose(mark.points, targets, mark.colour)?;
-    put_marked(alloc, out, &line, number, tree)
+    let line = game.into_problem(mark.points, targets, mark.colour)?;
+    put_hints_and_marked_tree(alloc, out, &line, number, tree)
 }
 
 /// Writes a tree with the mark for a stone of its game behind the text, or why there is none, and says whether there is none.
-fn put_game(
+fn put_proposal_or_reason(
     alloc: Global,
     out: &mut Vec<u8>,
-    place: Option<Place>,
+    place: Option<StonePlace>,
     number: usize,
     main: &MainLine,
     tree: &[u8],
     game: Game,
 ) -> Result<bool, NoMemory>
     ensures text { OnOk result (out.new.items ≡ out.old.items
-        ++ with_mark game (has_squares main.now.nodes) place number (nodes_before_solution false main.now.nodes) tree.now (proposed game (has_squares main.now.nodes) place)) }
-    ensures left { IfOk result (λ left. left ≡ is_proposal_missing (proposed game (has_squares main.now.nodes) place)) }
+        ++ proposal_or_reason game (is_last_node_squared main.now.nodes) place number (nodes_before_solution false main.now.nodes) tree.now (proposal_unless_squared game (is_last_node_squared main.now.nodes) place)) }
+    ensures left { IfOk result (λ left. left ≡ is_proposal_missing (proposal_unless_squared game (is_last_node_squared main.now.nodes) place)) }
 {
     let nodes = main.nodes.as_slice();
-    let is_squared = has_squares(nodes);
-    match proposed(&game, is_squared, place) {
+    let is_squared = is_last_node_squared(nodes);
+    match proposal_unless_squared(&game, is_squared, place) {
         Some(mark) => {
             let node = nodes_before_solution(nodes);
-            put_with(alloc, out, game, mark, node, tree)?;
+            put_game_with_proposal(alloc, out, game, mark, node, tree)?;
             Ok(false)
         }
         None => {
             put_refusal(alloc, out, number, GameFault::NoTarget.code())?;
             out.extend_from_slice(b"why: ")?;
-            put_why_left(alloc, out, &game, is_squared, place)?;
-            put_kept(out, tree)?;
+            put_why_unmarked(alloc, out, &game, is_squared, place)?;
+            put_tree_as_given(out, tree)?;
             Ok(true)
         }
     }
 }
 
 /// Writes why a main line is refused, and its tree as it was, behind the text.
-fn put_left(
+fn put_fault_and_tree(
     alloc: Global,
     out: &mut Vec<u8>,
     number: usize,
@@ -356,32 +368,32 @@ fn put_left(
     tree: &[u8],
     fault: GameFault,
 ) -> Result<(), NoMemory>
-    ensures { OnOk result (out.new.items ≡ out.old.items ++ (fault_text number main.nodes fault ++ kept_text tree.now)) }
+    ensures { OnOk result (out.new.items ≡ out.old.items ++ (fault_text number main.nodes fault ++ tree_as_given tree.now)) }
 {
     put_fault(alloc, out, number, main, fault)?;
-    put_kept(out, tree)
+    put_tree_as_given(out, tree)
 }
 
 /// Writes a tree without triangles with the mark for a stone behind the text, or why there is none, and says whether there is none.
-fn put_unmarked(
+fn put_game_marked_or_kept(
     alloc: Global,
     out: &mut Vec<u8>,
-    place: Option<Place>,
+    place: Option<StonePlace>,
     number: usize,
     main: MainLine,
     tree: &[u8],
 ) -> Result<bool, NoMemory>
-    ensures text { OnOk result (out.new.items ≡ out.old.items ++ game_marked place number tree.now main.nodes (game_of main.nodes)) }
-    ensures left { IfOk result (λ left. left ≡ is_game_left (has_squares main.nodes) place (game_of main.nodes)) }
+    ensures text { OnOk result (out.new.items ≡ out.old.items ++ game_marked_or_kept place number tree.now main.nodes (game_of main.nodes)) }
+    ensures left { IfOk result (λ left. left ≡ is_game_left_unmarked (is_last_node_squared main.nodes) place (game_of main.nodes)) }
 {
     match game_before_solution(alloc, &main) {
         Ok(game) => {
             put_comments(out, main.nodes.as_slice())?;
-            put_game(alloc, out, place, number, &main, tree, game)
+            put_proposal_or_reason(alloc, out, place, number, &main, tree, game)
         }
         Err(GameFault::NoMemory) => Err(NoMemory),
         Err(fault) => {
-            put_left(alloc, out, number, main, tree, fault)?;
+            put_fault_and_tree(alloc, out, number, main, tree, fault)?;
             Ok(true)
         }
     }
@@ -389,35 +401,35 @@ fn put_unmarked(
 
 /// Writes a tree whose main line is no problem, by this fault, with the mark for a stone behind the text, or why there is none, and
 /// says whether it is left without a mark.
-pub fn put_line(
+pub fn put_tree_marked_or_kept(
     alloc: Global,
     out: &mut Vec<u8>,
-    place: Option<Place>,
+    place: Option<StonePlace>,
     number: usize,
     main: MainLine,
     tree: &[u8],
     fault: GameFault,
 ) -> Result<bool, NoMemory>
-    ensures text { OnOk result (out.new.items ≡ out.old.items ++ line_marked place number tree.now main.nodes fault) }
-    ensures left { IfOk result (λ left. left ≡ is_left place main.nodes) }
+    ensures text { OnOk result (out.new.items ≡ out.old.items ++ tree_marked_or_kept place number tree.now main.nodes fault) }
+    ensures left { IfOk result (λ left. left ≡ is_left_unmarked place main.nodes) }
 {
     if has_triangles(main.nodes.as_slice()) {
-        put_left(alloc, out, number, main, tree, fault)?;
+        put_fault_and_tree(alloc, out, number, main, tree, fault)?;
         return Ok(true);
     }
-    put_unmarked(alloc, out, place, number, main, tree)
+    put_game_marked_or_kept(alloc, out, place, number, main, tree)
 }
 
 /// The number of the first node with triangles, counted from 1, where it has no squares.
 #[tactic(auto, using(crate::proofs::Said::without_none, crate::proofs::Said::without_here, crate::proofs::Said::without_squared, crate::proofs::Said::without_further))]
-pub fn node_without_squares(nodes: &[Node]) -> Option<usize>
-    ensures { result ≡ node_without_squares 0 nodes.now }
+pub fn unsquared_triangle_node(nodes: &[Node]) -> Option<usize>
+    ensures { result ≡ unsquared_triangle_node 0 nodes.now }
 {
     let mut number: usize = 0;
     let mut rest = nodes;
     while let Some((node, behind)) = rest.split_first() {
-        if has(node, b"TR") {
-            return if has(node, b"SQ") {
+        if has_property(node, b"TR") {
+            return if has_property(node, b"SQ") {
                 None
             } else {
                 Some(number + 1)
@@ -430,13 +442,13 @@ pub fn node_without_squares(nodes: &[Node]) -> Option<usize>
 }
 
 /// Writes that the triangles in the node of this number have no squares behind the text.
-fn put_node_without_squares(
+fn put_unsquared_node_line(
     alloc: Global,
     out: &mut Vec<u8>,
     number: usize,
     node: usize,
 ) -> Result<(), NoMemory>
-    ensures { OnOk result (out.new.items ≡ out.old.items ++ without_squares_line number (Some node)) }
+    ensures { OnOk result (out.new.items ≡ out.old.items ++ unsquared_node_line number (Some node)) }
 {
     let text = format!(in alloc;
         "{number} not marked: a triangle stands in node {node}, without squares: put SQ there, or take TR out\n"
@@ -446,30 +458,30 @@ fn put_node_without_squares(
 }
 
 /// Writes the line on a problem with a node whose triangles have no squares, where there is one, behind the text.
-fn put_without_squares(
+fn put_unsquared_node_if_any(
     alloc: Global,
     out: &mut Vec<u8>,
     number: usize,
     node: Option<usize>,
 ) -> Result<(), NoMemory>
-    ensures { OnOk result (out.new.items ≡ out.old.items ++ without_squares_line number node) }
+    ensures { OnOk result (out.new.items ≡ out.old.items ++ unsquared_node_line number node) }
 {
     match node {
-        Some(node) => put_node_without_squares(alloc, out, number, node),
+        Some(node) => put_unsquared_node_line(alloc, out, number, node),
         None => Ok(()),
     }
 }
 
 /// Writes a tree that is a problem as it was behind the text. Where it has no squares, a line says so.
-pub fn put_problem_kept(
+pub fn put_kept_problem(
     alloc: Global,
     out: &mut Vec<u8>,
     number: usize,
     nodes: &[Node],
     tree: &[u8],
 ) -> Result<(), NoMemory>
-    ensures { OnOk result (out.new.items ≡ out.old.items ++ problem_kept number tree.now nodes.now) }
+    ensures { OnOk result (out.new.items ≡ out.old.items ++ kept_problem_text number tree.now nodes.now) }
 {
-    put_without_squares(alloc, out, number, node_without_squares(nodes))?;
-    put_kept(out, tree)
+    put_unsquared_node_if_any(alloc, out, number, unsquared_triangle_node(nodes))?;
+    put_tree_as_given(out, tree)
 }

@@ -22,7 +22,7 @@ pub fn first_value<'a>(properties: &'a [Property], name: &[u8]) -> Option<&'a [u
 }
 
 /// Whether a property has a value in a node.
-pub fn has(node: &Node, name: &[u8]) -> bool
+pub fn has_property(node: &Node, name: &[u8]) -> bool
     ensures { result ≡ has name.now node.now }
 {
     first_value(node.properties.as_slice(), name).is_some()

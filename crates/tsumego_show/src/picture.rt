@@ -4,8 +4,8 @@ ghost use Rattle.std.specs.List.{flat_map, range_with_len};
 ghost use Rattle.tt_sgf.specs.Bytes.{newline, space};
 ghost use Rattle.tt_sgf.specs.Sizes.{point_count};
 ghost use Rattle.tt_game.specs.Game.{side_colour};
-ghost use Rattle.tsumego_show.specs.Picture.{asked_line, board_text, colour_name, editor_column_letter, column_letters_line, columns_text, earlier_text, letter, letters_line, shown_at};
-ghost use Rattle.tsumego_show.specs.Picture.{mover_text, picture, row_line, row_number, shown_in, lowercase_symbol, stone_symbol, target_text};
+ghost use Rattle.tsumego_show.specs.Picture.{mover_and_target_line, board_text, colour_name, editor_column_letter, editor_letters_line, spaced_columns_text, earlier_positions_text, sgf_letter, sgf_letters_line, point_symbol};
+ghost use Rattle.tsumego_show.specs.Picture.{mover_text, picture, row_line, row_number, row_symbol, region_stone_symbol, stone_symbol, target_colour_text};
 
 use std::alloc::Global;
 use tt_board::Colour;
@@ -26,8 +26,8 @@ fn stone_symbol(is_target: bool, colour: Colour) -> u8
 }
 
 /// The symbol of a stone on a point of the region.
-fn lowercase_symbol(is_target: bool, colour: Colour) -> u8
-    ensures { result ≡ lowercase_symbol is_target colour }
+fn region_stone_symbol(is_target: bool, colour: Colour) -> u8
+    ensures { result ≡ region_stone_symbol is_target colour }
 {
     if is_target {
         return b't';
@@ -39,9 +39,9 @@ fn lowercase_symbol(is_target: bool, colour: Colour) -> u8
 }
 
 /// What is shown of a point.
-fn symbol(line: &Line, point: Point) -> u8
+fn point_symbol(line: &Line, point: Point) -> u8
     requires { point < point_count line.now.frame.size }
-    ensures { result ≡ shown_at line.now point }
+    ensures { result ≡ point_symbol line.now point }
 {
     let is_target = line.frame().targets.has(point);
     let is_playable = line.frame().region.has(point);
@@ -49,7 +49,7 @@ fn symbol(line: &Line, point: Point) -> u8
         None => if is_playable { b'+' } else { b'.' },
         Some(colour) => {
             if is_playable {
-                lowercase_symbol(is_target, colour)
+                region_stone_symbol(is_target, colour)
             } else {
                 stone_symbol(is_target, colour)
             }
@@ -71,7 +71,7 @@ fn point_of_coordinates(size: Size, column: u16, row: u16) -> Point
 }
 
 /// Writes a blank and a symbol behind the text.
-fn put_spaced(out: &mut Vec<u8>, symbol: u8) -> Result<(), NoMemory>
+fn put_blank_and_symbol(out: &mut Vec<u8>, symbol: u8) -> Result<(), NoMemory>
     ensures { OnOk result (out.new.items ≡ out.old.items ++ space ∷ symbol ∷ []) }
 {
     out.push(b' ')?;
@@ -81,21 +81,21 @@ fn put_spaced(out: &mut Vec<u8>, symbol: u8) -> Result<(), NoMemory>
 
 /// Writes a blank and the letter of SGF of each column behind the text.
 #[tactic(auto, using(crate::proofs::Texts::next_text))]
-fn put_sgf_letters(out: &mut Vec<u8>, size: Size) -> Result<(), NoMemory>
-    ensures { OnOk result (out.new.items ≡ out.old.items ++ columns_text letter size.columns) }
+fn put_sgf_column_letters(out: &mut Vec<u8>, size: Size) -> Result<(), NoMemory>
+    ensures { OnOk result (out.new.items ≡ out.old.items ++ spaced_columns_text sgf_letter size.columns) }
 {
     for column in 0..size.columns() {
-        put_spaced(out, b'a' + column as u8)?;
+        put_blank_and_symbol(out, b'a' + column as u8)?;
     }
     Ok(())
 }
 
 /// Writes the line of the columns' letters behind the text.
-fn put_letters(out: &mut Vec<u8>, size: Size) -> Result<(), NoMemory>
-    ensures { OnOk result (out.new.items ≡ out.old.items ++ letters_line size) }
+fn put_sgf_letters_line(out: &mut Vec<u8>, size: Size) -> Result<(), NoMemory>
+    ensures { OnOk result (out.new.items ≡ out.old.items ++ sgf_letters_line size) }
 {
     out.push(b' ')?;
-    put_sgf_letters(out, size)?;
+    put_sgf_column_letters(out, size)?;
     out.push(b'\n')?;
     Ok(())
 }
@@ -114,34 +114,37 @@ pub fn editor_column_letter(column: u16) -> u8
 
 /// Writes a blank and the editors' letter of each column behind the text.
 #[tactic(auto, using(crate::proofs::Texts::next_text))]
-fn put_column_letters(out: &mut Vec<u8>, size: Size) -> Result<(), NoMemory>
-    ensures { OnOk result (out.new.items ≡ out.old.items ++ columns_text editor_column_letter size.columns) }
+fn put_editor_column_letters(out: &mut Vec<u8>, size: Size) -> Result<(), NoMemory>
+    ensures { OnOk result (out.new.items ≡ out.old.items ++ spaced_columns_text editor_column_letter size.columns) }
 {
     for column in 0..size.columns() {
-        put_spaced(out, editor_column_letter(column))?;
+        put_blank_and_symbol(out, editor_column_letter(column))?;
     }
     Ok(())
 }
 
 /// Writes the line of the editors' letters of the columns behind the text.
-fn put_editor_letters(out: &mut Vec<u8>, size: Size) -> Result<(), NoMemory>
-    ensures { OnOk result (out.new.items ≡ out.old.items ++ column_letters_line size) }
+fn put_editor_letters_line(out: &mut Vec<u8>, size: Size) -> Result<(), NoMemory>
+    ensures { OnOk result (out.new.items ≡ out.old.items ++ editor_letters_line size) }
 {
     out.push(b' ')?;
-    put_column_letters(out, size)?;
+    put_editor_column_letters(out, size)?;
     out.push(b'\n')?;
     Ok(())
 }
 
 /// Writes a blank and the symbol of each point of a row behind the text.
 #[tactic(auto, using(crate::proofs::Texts::next_text))]
-fn put_symbols(out: &mut Vec<u8>, line: &Line, row: u16) -> Result<(), NoMemory>
+fn put_row_symbols(out: &mut Vec<u8>, line: &Line, row: u16) -> Result<(), NoMemory>
     requires { row < line.now.frame.size.rows }
-    ensures { OnOk result (out.new.items ≡ out.old.items ++ columns_text (shown_in line.now row) line.now.frame.size.columns) }
+    ensures { OnOk result (out.new.items ≡ out.old.items ++ spaced_columns_text (row_symbol line.now row) line.now.frame.size.columns) }
 {
     let size = line.frame().size;
     for column in 0..size.columns() {
-        put_spaced(out, symbol(line, point_of_coordinates(size, column, row)))?;
+        put_blank_and_symbol(
+            out,
+            point_symbol(line, point_of_coordinates(size, column, row)),
+        )?;
     }
     Ok(())
 }
@@ -163,7 +166,7 @@ fn put_row(alloc: Global, out: &mut Vec<u8>, line: &Line, row: u16) -> Result<()
     ensures { OnOk result (out.new.items ≡ out.old.items ++ row_line line.now row) }
 {
     out.push(b'a' + row as u8)?;
-    put_symbols(out, line, row)?;
+    put_row_symbols(out, line, row)?;
     put_row_number(alloc, out, line.frame().size, row)
 }
 
@@ -183,9 +186,9 @@ pub fn put_board(alloc: Global, out: &mut Vec<u8>, line: &Line) -> Result<(), No
     ensures { OnOk result (out.new.items ≡ out.old.items ++ board_text line.now) }
 {
     let size = line.frame().size;
-    put_letters(out, size)?;
+    put_sgf_letters_line(out, size)?;
     put_rows(alloc, out, line)?;
-    put_editor_letters(out, size)
+    put_editor_letters_line(out, size)
 }
 
 /// The name of a colour.
@@ -220,8 +223,8 @@ fn put_mover(out: &mut Vec<u8>, line: &Line) -> Result<(), NoMemory>
 }
 
 /// Writes whose stones the targets are behind the text.
-fn put_target(out: &mut Vec<u8>, line: &Line) -> Result<(), NoMemory>
-    ensures { OnOk result (out.new.items ≡ out.old.items ++ target_text line.now) }
+fn put_target_colour(out: &mut Vec<u8>, line: &Line) -> Result<(), NoMemory>
+    ensures { OnOk result (out.new.items ≡ out.old.items ++ target_colour_text line.now) }
 {
     out.extend_from_slice(b"T is ")?;
     out.extend_from_slice(colour_name(line.frame().defender))?;
@@ -229,15 +232,15 @@ fn put_target(out: &mut Vec<u8>, line: &Line) -> Result<(), NoMemory>
 }
 
 /// How many positions came before the present one.
-pub fn earlier_count(line: &Line) -> usize
+pub fn earlier_position_count(line: &Line) -> usize
     ensures { result ≡ length line.now.state.earlier }
 {
     line.history().len() - 1
 }
 
 /// Writes how many positions came before, where any did, behind the text.
-pub fn put_earlier(alloc: Global, out: &mut Vec<u8>, count: usize) -> Result<(), NoMemory>
-    ensures { OnOk result (out.new.items ≡ out.old.items ++ earlier_text count) }
+pub fn put_earlier_positions(alloc: Global, out: &mut Vec<u8>, count: usize) -> Result<(), NoMemory>
+    ensures { OnOk result (out.new.items ≡ out.old.items ++ earlier_positions_text count) }
 {
     if count == 0 {
         return Ok(());
@@ -252,12 +255,12 @@ pub fn put_earlier(alloc: Global, out: &mut Vec<u8>, count: usize) -> Result<(),
 }
 
 /// Writes who moves, whose stones the targets are, and what came before, behind the text.
-fn put_asked(alloc: Global, out: &mut Vec<u8>, line: &Line) -> Result<(), NoMemory>
-    ensures { OnOk result (out.new.items ≡ out.old.items ++ asked_line line.now) }
+fn put_mover_and_target_line(alloc: Global, out: &mut Vec<u8>, line: &Line) -> Result<(), NoMemory>
+    ensures { OnOk result (out.new.items ≡ out.old.items ++ mover_and_target_line line.now) }
 {
     put_mover(out, line)?;
-    put_target(out, line)?;
-    put_earlier(alloc, out, earlier_count(line))?;
+    put_target_colour(out, line)?;
+    put_earlier_positions(alloc, out, earlier_position_count(line))?;
     out.push(b'\n')?;
     Ok(())
 }
@@ -268,6 +271,6 @@ fn put_asked(alloc: Global, out: &mut Vec<u8>, line: &Line) -> Result<(), NoMemo
 pub fn put_picture(alloc: Global, out: &mut Vec<u8>, line: &Line) -> Result<(), NoMemory>
     ensures { OnOk result (out.new.items ≡ out.old.items ++ picture line.now) }
 {
-    put_asked(alloc, out, line)?;
+    put_mover_and_target_line(alloc, out, line)?;
     put_board(alloc, out, line)
 }

@@ -2,8 +2,8 @@
 ghost use Rattle.std.specs.Prelude.{◌≡◌, ◌<◌};
 ghost use Rattle.std.specs.FinSet as set;
 ghost use Rattle.tt_sgf.specs.Sizes.{point_count};
-ghost use Rattle.tsumego_show.specs.Diagram.{is_inside, is_target};
-ghost use Rattle.tsumego_show.specs.Variations.{is_stone};
+ghost use Rattle.tsumego_show.specs.Diagram.{is_in_region, is_target};
+ghost use Rattle.tsumego_show.specs.Variations.{has_stone_of_colour};
 
 use tt_board::Colour;
 use tt_game::Line;
@@ -22,7 +22,7 @@ pub fn point_numbered(size: Size, number: usize) -> Point
 }
 
 /// Whether the set has the point of this number.
-pub fn has(size: Size, points: &PointSet, number: usize) -> bool
+pub fn has_point_numbered(size: Size, points: &PointSet, number: usize) -> bool
     requires { number < point_count size }
     ensures { result ≡ set.contains points.now number }
 {
@@ -30,20 +30,20 @@ pub fn has(size: Size, points: &PointSet, number: usize) -> bool
 }
 
 /// Whether a stone of this colour stands on the point of this number.
-pub fn is_stone(line: &Line, number: usize, colour: Colour) -> bool
+pub fn has_stone_of_colour(line: &Line, number: usize, colour: Colour) -> bool
     requires { number < point_count line.now.frame.size }
-    ensures { result ≡ is_stone line.now colour number }
+    ensures { result ≡ has_stone_of_colour line.now colour number }
 {
     let point = point_numbered(line.frame().size, number);
     line.present().at(point) == Some(colour)
 }
 
 /// Whether the point of this number is one of the region.
-pub fn is_inside(line: &Line, number: usize) -> bool
+pub fn is_in_region(line: &Line, number: usize) -> bool
     requires { number < point_count line.now.frame.size }
-    ensures { result ≡ is_inside line.now number }
+    ensures { result ≡ is_in_region line.now number }
 {
-    has(line.frame().size, &line.frame().region, number)
+    has_point_numbered(line.frame().size, &line.frame().region, number)
 }
 
 /// Whether the point of this number is a target.
@@ -51,5 +51,5 @@ pub fn is_target(line: &Line, number: usize) -> bool
     requires { number < point_count line.now.frame.size }
     ensures { result ≡ is_target line.now number }
 {
-    has(line.frame().size, &line.frame().targets, number)
+    has_point_numbered(line.frame().size, &line.frame().targets, number)
 }

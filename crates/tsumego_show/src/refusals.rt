@@ -3,17 +3,17 @@ ghost use Rattle.std.specs.Prelude.{◌≡◌, ◌++◌, ◌+◌, ◌-◌, ◌�
 ghost use Rattle.tt_game.specs.Faults.{code_of};
 ghost use Rattle.tt_game.specs.Problems.{problem_of};
 ghost use Rattle.tsumego_show.specs.Hints.{comment_lines};
-ghost use Rattle.tsumego_show.specs.Refusals.{at_node, fault_text, is_refused_with, nth_node, too_long_text, meaning, named_fault, needed, newlines, no_tree_text, refusal_line, unread_line, why_text};
+ghost use Rattle.tsumego_show.specs.Refusals.{located_fault, fault_text, is_refused_with, nth_node, too_long_text, meaning, fault_at_node, needed_nodes, newline_count, no_tree_text, refusal_line, unreadable_tree_line, why_refused_text};
 
-use crate::fault_details::put_look;
+use crate::fault_details::put_look_at_line;
 use crate::hints::put_comments;
-use crate::tree_bytes::from_open;
+use crate::tree_bytes::from_first_parenthesis;
 use std::alloc::Global;
 use tt_game::{GameFault, problem};
 use tt_sgf::{Items, MainLine, NoMemory, Node};
 
 /// The most nodes of a main line in which the refused one is named.
-const MOST_NODES: usize = 1000;
+const MOST_NODES_TO_LOCATE_FAULT: usize = 1000;
 
 /// What a refusal means, and how to go on.
 #[tactic(auto, unfolding(crate::specs::Refusals::meaning))]
@@ -80,10 +80,10 @@ struct RefusedNode {
 
 /// The node that is refused, and those in front of it, as many of the first nodes as are needed for the refusal.
 fn refused_node(alloc: Global, line: MainLine, code: u8) -> Result<Option<RefusedNode>, NoMemory>
-    ensures { IfOk result (λ r. MatchOption r (needed code line.nodes (length line.nodes) ≡ 0)
-        (λ x. (x.front.nodes ≡ take (needed code line.nodes (length line.nodes) - 1) line.nodes)
-        × (nth_node (needed code line.nodes (length line.nodes)) line.nodes ≡ Some x.node)
-        × (needed code line.nodes (length line.nodes) ≡ length x.front.nodes + 1))) }
+    ensures { IfOk result (λ r. MatchOption r (needed_nodes code line.nodes (length line.nodes) ≡ 0)
+        (λ x. (x.front.nodes ≡ take (needed_nodes code line.nodes (length line.nodes) - 1) line.nodes)
+        × (nth_node (needed_nodes code line.nodes (length line.nodes)) line.nodes ≡ Some x.node)
+        × (needed_nodes code line.nodes (length line.nodes) ≡ length x.front.nodes + 1))) }
 {
     let mut nodes = line.nodes.into_vec();
     while let Some(node) = nodes.pop() {
@@ -99,39 +99,39 @@ fn refused_node(alloc: Global, line: MainLine, code: u8) -> Result<Option<Refuse
 }
 
 /// Writes which node is refused and why, how to go on and what to look at behind the text.
-fn put_named(
+fn put_fault_at_node(
     alloc: Global,
     out: &mut Vec<u8>,
     fault: GameFault,
     refused: &RefusedNode,
 ) -> Result<(), NoMemory>
-    ensures { OnOk result (out.new.items ≡ out.old.items ++ named_fault fault (length refused.now.front.nodes + 1) refused.now.front.nodes refused.now.node) }
+    ensures { OnOk result (out.new.items ≡ out.old.items ++ fault_at_node fault (length refused.now.front.nodes + 1) refused.now.front.nodes refused.now.node) }
 {
     let number = refused.front.nodes.as_slice().len() + 1;
     let text = format!(in alloc; "node {number}: ")?;
     out.extend_from_slice(text.as_bytes())?;
     out.extend_from_slice(meaning(fault))?;
-    put_look(alloc, out, fault, &refused.front, &refused.node)
+    put_look_at_line(alloc, out, fault, &refused.front, &refused.node)
 }
 
 /// Writes why a main line is refused, and at which node where one is, behind the text.
 #[tactic(auto, using(crate::proofs::Refused::none_last))]
-fn put_at_node(
+fn put_located_fault(
     alloc: Global,
     out: &mut Vec<u8>,
     line: MainLine,
     fault: GameFault,
 ) -> Result<(), NoMemory>
-    ensures { OnOk result (out.new.items ≡ out.old.items ++ at_node fault line.nodes) }
+    ensures { OnOk result (out.new.items ≡ out.old.items ++ located_fault fault line.nodes) }
 {
     match refused_node(alloc, line, fault.code())? {
-        Some(refused) => put_named(alloc, out, fault, &refused),
+        Some(refused) => put_fault_at_node(alloc, out, fault, &refused),
         None => Ok(out.extend_from_slice(meaning(fault))?),
     }
 }
 
 /// Whether no node has TR.
-fn is_no_target(fault: GameFault) -> bool
+fn is_no_target_fault(fault: GameFault) -> bool
     ensures { result ≡ nat_eq (code_of fault) (code_of GameFault.NoTarget) }
 {
     matches!(fault, GameFault::NoTarget)
@@ -147,21 +147,21 @@ fn put_no_target(out: &mut Vec<u8>, nodes: &[Node], fault: GameFault) -> Result<
 
 /// Writes why a main line is refused, at which node where one is and the main line is not too long to look for it, and how to go
 /// on behind the text.
-fn put_why(
+fn put_why_refused(
     alloc: Global,
     out: &mut Vec<u8>,
     line: MainLine,
     fault: GameFault,
 ) -> Result<(), NoMemory>
-    ensures { OnOk result (out.new.items ≡ out.old.items ++ why_text fault line.nodes) }
+    ensures { OnOk result (out.new.items ≡ out.old.items ++ why_refused_text fault line.nodes) }
 {
-    if is_no_target(fault) {
+    if is_no_target_fault(fault) {
         return put_no_target(out, line.nodes.as_slice(), fault);
     }
-    if line.nodes.as_slice().len() > MOST_NODES {
+    if line.nodes.as_slice().len() > MOST_NODES_TO_LOCATE_FAULT {
         return Ok(out.extend_from_slice(meaning(fault))?);
     }
-    put_at_node(alloc, out, line, fault)
+    put_located_fault(alloc, out, line, fault)
 }
 
 /// Writes that a main line is refused, at which node and why, how to go on and what to look at, behind the text.
@@ -176,13 +176,13 @@ pub fn put_fault(
 {
     put_refusal(alloc, out, number, fault.code())?;
     out.extend_from_slice(b"why: ")?;
-    put_why(alloc, out, line, fault)
+    put_why_refused(alloc, out, line, fault)
 }
 
 /// How many newlines are there.
 #[tactic(auto, using(crate::proofs::Newlines::newlines_none, crate::proofs::Newlines::newlines_here, crate::proofs::Newlines::newlines_further))]
-fn newlines(bytes: &[u8]) -> usize
-    ensures value { result ≡ newlines bytes.now }
+fn newline_count(bytes: &[u8]) -> usize
+    ensures value { result ≡ newline_count bytes.now }
     ensures bound { result ≤ length bytes.now }
 {
     let mut count: usize = 0;
@@ -197,11 +197,11 @@ fn newlines(bytes: &[u8]) -> usize
 }
 
 /// Writes that the tree behind these bytes can't be read behind the text.
-fn put_unread(alloc: Global, out: &mut Vec<u8>, front: &[u8]) -> Result<(), NoMemory>
-    ensures { OnOk result (out.new.items ≡ out.old.items ++ unread_line front.now) }
+fn put_unreadable_tree(alloc: Global, out: &mut Vec<u8>, front: &[u8]) -> Result<(), NoMemory>
+    ensures { OnOk result (out.new.items ≡ out.old.items ++ unreadable_tree_line front.now) }
 {
     let byte = front.len() + 1;
-    let line = newlines(front) + 1;
+    let line = newline_count(front) + 1;
     let text = format!(in alloc;
         "the tree that begins at byte {byte} in line {line} can't be read: a bracket is missing, or the ] of a value; later trees weren't read\n"
     )?;
@@ -222,15 +222,15 @@ pub fn put_no_tree(
 {
     put_refusal(alloc, out, number, 1)?;
     out.extend_from_slice(b"why: ")?;
-    let opened = from_open(rest);
+    let opened = from_first_parenthesis(rest);
     if opened.is_empty() {
         return Ok(out.extend_from_slice(b"no bracket opens a game tree\n")?);
     }
-    put_unread(alloc, out, &input[..input.len() - opened.len()])
+    put_unreadable_tree(alloc, out, &input[..input.len() - opened.len()])
 }
 
 /// Writes that an input is too long behind the text.
-pub fn put_length(alloc: Global, out: &mut Vec<u8>, number: usize) -> Result<(), NoMemory>
+pub fn put_too_long(alloc: Global, out: &mut Vec<u8>, number: usize) -> Result<(), NoMemory>
     ensures { OnOk result (out.new.items ≡ out.old.items ++ too_long_text number) }
 {
     put_refusal(alloc, out, number, 2)?;

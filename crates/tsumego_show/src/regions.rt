@@ -1,46 +1,46 @@
 //! The region that is proposed for the chain of a stone.
 ghost use Rattle.std.specs.Prelude.{◌≡◌, ◌<◌};
 ghost use Rattle.tt_sgf.specs.Sizes.{point_count};
-ghost use Rattle.tsumego_show.specs.Regions.{around, chain, empties, inside, is_closed, is_inner, is_near, near, reached, reached_in, region, stones, untaken, wall, ways_out};
+ghost use Rattle.tsumego_show.specs.Regions.{nearby_empties, chain, empties, reached_within_wall, is_closed, is_inner, is_adjacent_to, adjacent_points, reached, reached_in_steps, proposed_region, stones, chains_with_liberty_outside, wall, ways_out};
 
-use crate::points::{has, point_numbered};
+use crate::points::{has_point_numbered, point_numbered};
 use tt_board::{Board, Colour};
 use tt_sgf::{Point, PointSet, Size};
 
 /// The most points of a region that is closed.
-const MOST_SQUARES: u16 = 40;
+const MOST_REGION_POINTS: u16 = 40;
 
 /// So many steps around a chain an open region is told.
-const STEPS: usize = 3;
+const NEARBY_STEPS: usize = 3;
 
 /// Whether a point beside the one of this number is in the set.
 #[tactic(auto, using(crate::proofs::Sets::right_on_board))]
-fn is_near(size: Size, points: &PointSet, number: usize) -> bool
+fn is_adjacent_to(size: Size, points: &PointSet, number: usize) -> bool
     requires { number < point_count size }
-    ensures { result ≡ is_near size points.now number }
+    ensures { result ≡ is_adjacent_to size points.now number }
 {
     let columns = usize::from(size.columns());
     let column = number % columns;
-    if columns <= number && has(size, points, number - columns) {
+    if columns <= number && has_point_numbered(size, points, number - columns) {
         return true;
     }
-    if 0 < column && has(size, points, number - 1) {
+    if 0 < column && has_point_numbered(size, points, number - 1) {
         return true;
     }
-    if column + 1 < columns && has(size, points, number + 1) {
+    if column + 1 < columns && has_point_numbered(size, points, number + 1) {
         return true;
     }
-    number + columns < size.point_count() && has(size, points, number + columns)
+    number + columns < size.point_count() && has_point_numbered(size, points, number + columns)
 }
 
 /// The points beside those of a set.
-#[tactic(auto, using(crate::proofs::Sets::none_passed, crate::proofs::Sets::one_in, crate::proofs::Sets::one_out), unfolding(crate::specs::Regions::near))]
-pub fn near(size: Size, points: &PointSet) -> PointSet
-    ensures { result ≡ near size points.now }
+#[tactic(auto, using(crate::proofs::Sets::none_passed, crate::proofs::Sets::one_in, crate::proofs::Sets::one_out), unfolding(crate::specs::Regions::adjacent_points))]
+pub fn adjacent_points(size: Size, points: &PointSet) -> PointSet
+    ensures { result ≡ adjacent_points size points.now }
 {
     let mut made = PointSet::empty();
     for number in 0..size.point_count() {
-        if is_near(size, points, number) {
+        if is_adjacent_to(size, points, number) {
             made = made.with(point_numbered(size, number));
         }
     }
@@ -81,12 +81,12 @@ pub fn empties(board: &Board) -> PointSet
 
 /// What is reached from a set in so many steps through free points.
 #[tactic(auto, using(crate::proofs::Sets::no_step, crate::proofs::Sets::one_step, crate::proofs::Sets::all_reached))]
-fn reached_in(size: Size, free: &PointSet, steps: usize, start: PointSet) -> PointSet
-    ensures { result ≡ reached_in size free.now steps start }
+fn reached_in_steps(size: Size, free: &PointSet, steps: usize, start: PointSet) -> PointSet
+    ensures { result ≡ reached_in_steps size free.now steps start }
 {
     let mut found = start;
     for _step in 0..steps {
-        let more = found.or(&free.and(&near(size, &found)));
+        let more = found.or(&free.and(&adjacent_points(size, &found)));
         if more.same(&found) {
             return found;
         }
@@ -99,7 +99,7 @@ fn reached_in(size: Size, free: &PointSet, steps: usize, start: PointSet) -> Poi
 pub fn reached(size: Size, free: &PointSet, start: PointSet) -> PointSet
     ensures { result ≡ reached size free.now start }
 {
-    reached_in(size, free, size.point_count(), start)
+    reached_in_steps(size, free, size.point_count(), start)
 }
 
 /// The chain of a stone of this colour.
@@ -112,23 +112,23 @@ fn chain(board: &Board, colour: Colour, stone: Point) -> PointSet
 }
 
 /// What is reached from a point without passing a wall.
-#[tactic(auto, unfolding(crate::specs::Regions::inside))]
-fn inside(size: Size, point: Point, wall: &PointSet) -> PointSet
-    ensures { result ≡ inside size point wall.now }
+#[tactic(auto, unfolding(crate::specs::Regions::reached_within_wall))]
+fn reached_within_wall(size: Size, point: Point, wall: &PointSet) -> PointSet
+    ensures { result ≡ reached_within_wall size point wall.now }
 {
     let free = PointSet::whole(size).minus(wall);
     reached(size, &free, PointSet::empty().with(point))
 }
 
 /// The chains of the other colour with a liberty outside.
-#[tactic(auto, unfolding(crate::specs::Regions::untaken))]
-pub fn untaken(board: &Board, colour: Colour, within: &PointSet) -> PointSet
-    ensures { result ≡ untaken board.now.size board.now.points colour within.now }
+#[tactic(auto, unfolding(crate::specs::Regions::chains_with_liberty_outside))]
+pub fn chains_with_liberty_outside(board: &Board, colour: Colour, within: &PointSet) -> PointSet
+    ensures { result ≡ chains_with_liberty_outside board.now.size board.now.points colour within.now }
 {
     let size = board.size();
     let others = stones(board, colour.other());
     let liberties = empties(board).minus(within);
-    let free = others.and(&near(size, &liberties));
+    let free = others.and(&adjacent_points(size, &liberties));
     reached(size, &others, free)
 }
 
@@ -139,7 +139,11 @@ fn wall(board: &Board, colour: Colour, stone: Point) -> PointSet
 {
     let mut found = stones(board, colour.other());
     for _time in 0..board.size().point_count() {
-        let less = untaken(board, colour, &inside(board.size(), stone, &found));
+        let less = chains_with_liberty_outside(
+            board,
+            colour,
+            &reached_within_wall(board.size(), stone, &found),
+        );
         if less.same(&found) {
             return found;
         }
@@ -150,7 +154,7 @@ fn wall(board: &Board, colour: Colour, stone: Point) -> PointSet
 
 /// The points of a region, and whether it is closed.
 #[derive(Drop)]
-pub struct Squares {
+pub struct ProposedRegion {
     /// The points.
     pub points: PointSet,
     /// Whether there is a wall, and the region has some points and not too many.
@@ -160,31 +164,33 @@ pub struct Squares {
 }
 
 /// The region of the chain of a stone of this colour: the points inside its wall but the chain's own.
-#[tactic(auto, unfolding(crate::specs::Regions::region, crate::specs::Regions::is_closed, crate::specs::Regions::is_inner))]
-pub fn region(board: &Board, colour: Colour, stone: Point) -> Squares
-    ensures points { result.points ≡ region board.now.size board.now.points colour stone }
+#[tactic(auto, unfolding(crate::specs::Regions::proposed_region, crate::specs::Regions::is_closed, crate::specs::Regions::is_inner))]
+pub fn proposed_region(board: &Board, colour: Colour, stone: Point) -> ProposedRegion
+    ensures points { result.points ≡ proposed_region board.now.size board.now.points colour stone }
     ensures closed { result.closed ≡ is_closed board.now.size board.now.points colour stone }
     ensures inner { result.inner ≡ is_inner board.now.size board.now.points colour stone }
 {
     let wall = wall(board, colour, stone);
-    let points = inside(board.size(), stone, &wall).minus(&chain(board, colour, stone));
+    let points = reached_within_wall(board.size(), stone, &wall).minus(&chain(
+        board, colour, stone,
+    ));
     let count = points.count();
     let free = empties(board);
-    Squares {
+    ProposedRegion {
         inner: points.and(&free).count() <= free.minus(&points).count(),
-        closed: 0 < wall.count() && 1 < count && count <= MOST_SQUARES,
+        closed: 0 < wall.count() && 1 < count && count <= MOST_REGION_POINTS,
         points,
     }
 }
 
 /// The empty points within three steps of the chain of a stone of this colour.
-#[tactic(auto, unfolding(crate::specs::Regions::around))]
-pub fn around(board: &Board, colour: Colour, stone: Point) -> PointSet
-    ensures { result ≡ around board.now.size board.now.points colour stone }
+#[tactic(auto, unfolding(crate::specs::Regions::nearby_empties))]
+pub fn nearby_empties(board: &Board, colour: Colour, stone: Point) -> PointSet
+    ensures { result ≡ nearby_empties board.now.size board.now.points colour stone }
 {
     let size = board.size();
     let free = PointSet::whole(size).minus(&stones(board, colour.other()));
-    empties(board).and(&reached_in(size, &free, STEPS, chain(board, colour, stone)))
+    empties(board).and(&reached_in_steps(size, &free, NEARBY_STEPS, chain(board, colour, stone)))
 }
 
 /// Those beside the chain from which empty points lead further.
@@ -194,7 +200,7 @@ pub fn ways_out(board: &Board, colour: Colour, stone: Point) -> PointSet
 {
     let size = board.size();
     let free = empties(board);
-    let here = around(board, colour, stone);
+    let here = nearby_empties(board, colour, stone);
     let leading = reached(size, &free, free.minus(&here));
-    near(size, &chain(board, colour, stone)).and(&here.and(&leading))
+    adjacent_points(size, &chain(board, colour, stone)).and(&here.and(&leading))
 }

@@ -5,7 +5,7 @@ ghost use Rattle.devices.specs.Watching.{TakesAtMost};
 ghost use Rattle.devices.specs.Writing.{HoldsForInput};
 ghost use Rattle.tsumego_show.specs.Writing.{WritesShown};
 
-use crate::form::Form;
+use crate::mode::Mode;
 use crate::showing::show;
 use devices::{RunFault, Watched, read_input, write_bytes};
 use std::alloc::Global;
@@ -15,19 +15,19 @@ use tt_sgf::MAX_BYTES;
 /// One byte more than the longest input whose trees are read.
 const MOST_READ: usize = MAX_BYTES + 1;
 
-/// Writes the text for an input.
-fn answer<W: Write>(
+/// Writes the text for an input, and answers its exit status.
+fn write_text_for_input<W: Write>(
     alloc: Global,
-    form: Form,
+    mode: Mode,
     input: &[u8],
     writer: &mut Watched<W>,
 ) -> Result<u8, RunFault>
     requires { writer.old.failed ≡ false }
-    ensures written { WritesShown form input.now result (W.contents writer.old.device) (W.contents writer.new.device) }
+    ensures written { WritesShown mode input.now result (W.contents writer.old.device) (W.contents writer.new.device) }
     ensures reading { is_input_fault result ≡ false }
     ensures failed { writer.new.failed ≡ is_output_fault result }
 {
-    let Ok((text, status)) = show(alloc, form, input) else {
+    let Ok((text, status)) = show(alloc, mode, input) else {
         return Err(RunFault::Memory);
     };
     match write_bytes(writer, text.as_slice()) {
@@ -44,20 +44,20 @@ fn answer<W: Write>(
 /// nothing is.
 pub fn run<R: Read, W: Write>(
     alloc: Global,
-    form: Form,
+    mode: Mode,
     reader: &mut Watched<R>,
     writer: &mut Watched<W>,
 ) -> Result<u8, RunFault>
     requires reader { reader.old.failed ≡ false }
     requires writer { writer.old.failed ≡ false }
     ensures written { HoldsForInput (R.remaining reader.old.device) (λ input.
-        WritesShown form input result (W.contents writer.old.device) (W.contents writer.new.device)) }
+        WritesShown mode input result (W.contents writer.old.device) (W.contents writer.new.device)) }
     ensures taken { TakesAtMost MOST_READ (R.remaining reader.old.device) (R.remaining reader.new.device) }
     ensures input { reader.new.failed ≡ is_input_fault result }
     ensures output { writer.new.failed ≡ is_output_fault result }
 {
     match read_input(alloc, reader, MOST_READ) {
-        Ok(input) => answer(alloc, form, input.as_slice(), writer),
+        Ok(input) => write_text_for_input(alloc, mode, input.as_slice(), writer),
         Err(fault) => Err(fault),
     }
 }

@@ -1,7 +1,7 @@
 //! The text of a tree, as it was given.
 ghost use Rattle.std.specs.Prelude.{◌≡◌, ◌≤◌, ◌++◌, length, OnOk};
 ghost use Rattle.tsumego_show.specs.declared.tree_bytes.LexicalState.TheVariants.{Outside};
-ghost use Rattle.tsumego_show.specs.TreeBytes.{begins_node, behind_semicolon, from_open, is_nil, kept_text, next_lexical_state};
+ghost use Rattle.tsumego_show.specs.TreeBytes.{begins_node, semicolon_end, from_first_parenthesis, is_nil, tree_as_given, next_lexical_state};
 
 use tt_sgf::NoMemory;
 
@@ -50,8 +50,8 @@ fn begins_node(spot: LexicalState, byte: u8) -> bool
 
 /// How many bytes stand up to the `;` of the node of this number, and with it; all where there are fewer nodes.
 #[tactic(auto, using(crate::proofs::Nodes::semicolon_none, crate::proofs::Nodes::semicolon_here, crate::proofs::Nodes::semicolon_behind, crate::proofs::Nodes::semicolon_further))]
-pub fn behind_semicolon(tree: &[u8], number: usize) -> usize
-    ensures value { result ≡ behind_semicolon Outside number tree.now }
+pub fn semicolon_end(tree: &[u8], number: usize) -> usize
+    ensures value { result ≡ semicolon_end Outside number tree.now }
     ensures bound { result ≤ length tree.now }
 {
     let mut spot = LexicalState::Outside;
@@ -74,8 +74,8 @@ pub fn behind_semicolon(tree: &[u8], number: usize) -> usize
 
 /// The bytes from the first `(` on.
 #[tactic(auto, using(crate::proofs::Nodes::open_none, crate::proofs::Nodes::open_here, crate::proofs::Nodes::open_further))]
-pub fn from_open(bytes: &[u8]) -> &[u8]
-    ensures value { result.now ≡ from_open bytes.now }
+pub fn from_first_parenthesis(bytes: &[u8]) -> &[u8]
+    ensures value { result.now ≡ from_first_parenthesis bytes.now }
     ensures bound { length result.now ≤ length bytes.now }
 {
     let mut rest = bytes;
@@ -89,20 +89,20 @@ pub fn from_open(bytes: &[u8]) -> &[u8]
 }
 
 /// Whether no tree may begin in the bytes.
-pub fn has_none(bytes: &[u8]) -> bool
-    ensures { result ≡ is_nil (from_open bytes.now) }
+pub fn has_no_parenthesis(bytes: &[u8]) -> bool
+    ensures { result ≡ is_nil (from_first_parenthesis bytes.now) }
 {
-    match from_open(bytes).split_first() {
+    match from_first_parenthesis(bytes).split_first() {
         Some(_) => false,
         None => true,
     }
 }
 
 /// Writes a tree as it was behind the text.
-pub fn put_kept(out: &mut Vec<u8>, tree: &[u8]) -> Result<(), NoMemory>
-    ensures { OnOk result (out.new.items ≡ out.old.items ++ kept_text tree.now) }
+pub fn put_tree_as_given(out: &mut Vec<u8>, tree: &[u8]) -> Result<(), NoMemory>
+    ensures { OnOk result (out.new.items ≡ out.old.items ++ tree_as_given tree.now) }
 {
-    out.extend_from_slice(from_open(tree))?;
+    out.extend_from_slice(from_first_parenthesis(tree))?;
     out.push(b'\n')?;
     Ok(())
 }

@@ -1,7 +1,7 @@
 //! The tree that an outline stands for, in which a shared part stands wherever its name does.
 ghost use Rattle.std.specs.Prelude.{◌≡◌, [], IfOk, OnOk, get_or, map};
-ghost use Rattle.tt_proof.specs.Outlines.{branches_of_list, entries_with, names_behind, names_behind_all, outline_of, unfolded, with_name};
-ghost use Rattle.tt_proof.specs.Strategy.{done, entries_of_list, strategy_of};
+ghost use Rattle.tt_proof.specs.Outlines.{branches_of_reply, unfolded_entries, named_trees_after, named_trees_after_branches, outline_of, unfolded, with_named_tree};
+ghost use Rattle.tt_proof.specs.Strategy.{done, entries_of_reply, strategy_of};
 
 use std::alloc::Global;
 use tt_game::Turn;
@@ -9,7 +9,7 @@ use tt_proof::{Outline, Tree};
 use tt_sgf::NoMemory;
 
 /// Another handle of the tree with this name.
-fn named(names: &Vec<Tree>, name: usize) -> Result<Tree, NoMemory>
+fn tree_of_part(names: &Vec<Tree>, name: usize) -> Result<Tree, NoMemory>
     ensures { IfOk result (λ t. strategy_of t ≡ get_or (map strategy_of names.now.items) name done) }
 {
     match names.get(name) {
@@ -19,8 +19,8 @@ fn named(names: &Vec<Tree>, name: usize) -> Result<Tree, NoMemory>
 }
 
 /// Keeps a handle of a tree, where it has a name.
-fn put_name(names: &mut Vec<Tree>, has_name: bool, tree: &Tree) -> Result<(), NoMemory>
-    ensures { OnOk result (map strategy_of names.new.items ≡ with_name has_name (strategy_of tree.now) (map strategy_of names.old.items)) }
+fn keep_if_named(names: &mut Vec<Tree>, has_name: bool, tree: &Tree) -> Result<(), NoMemory>
+    ensures { OnOk result (map strategy_of names.new.items ≡ with_named_tree has_name (strategy_of tree.now) (map strategy_of names.old.items)) }
 {
     if !has_name {
         return Ok(());
@@ -33,23 +33,23 @@ fn put_name(names: &mut Vec<Tree>, has_name: bool, tree: &Tree) -> Result<(), No
 
 /// The tree of an outline, where the names so far stand for these trees. Those that end in it are added.
 #[cycle(unfold)]
-fn tree_of(alloc: Global, o: &Outline, names: &mut Vec<Tree>) -> Result<Tree, NoMemory>
+fn tree_of_outline(alloc: Global, o: &Outline, names: &mut Vec<Tree>) -> Result<Tree, NoMemory>
     ensures tree { IfOk result (λ t. strategy_of t ≡ unfolded (map strategy_of names.old.items) (outline_of o.now)) }
-    ensures names { OnOk result (map strategy_of names.new.items ≡ names_behind (map strategy_of names.old.items) (outline_of o.now)) }
+    ensures names { OnOk result (map strategy_of names.new.items ≡ named_trees_after (map strategy_of names.old.items) (outline_of o.now)) }
 {
     match o {
         Outline::Done => Ok(Tree::done()),
-        Outline::Part(name) => named(names, *name),
+        Outline::Part(name) => tree_of_part(names, *name),
         Outline::Pick(has_name, turn, child) => {
-            let behind = tree_of(alloc, child, names)?;
+            let behind = tree_of_outline(alloc, child, names)?;
             let tree = Tree::pick(alloc, *turn, behind)?;
-            put_name(names, *has_name, &tree)?;
+            keep_if_named(names, *has_name, &tree)?;
             Ok(tree)
         }
         Outline::Reply(has_name, list) => {
-            let entries = entries_of(alloc, list, names)?;
+            let entries = entries_of_branches(alloc, list, names)?;
             let tree = Tree::reply(alloc, entries)?;
-            put_name(names, *has_name, &tree)?;
+            keep_if_named(names, *has_name, &tree)?;
             Ok(tree)
         }
     }
@@ -57,17 +57,17 @@ fn tree_of(alloc: Global, o: &Outline, names: &mut Vec<Tree>) -> Result<Tree, No
 
 /// So it is with branches.
 #[cycle(unfold)]
-fn entries_of(
+fn entries_of_branches(
     alloc: Global,
     list: &[(Turn, Outline)],
     names: &mut Vec<Tree>,
 ) -> Result<Vec<(Turn, Tree)>, NoMemory>
-    ensures entries { IfOk result (λ es. entries_of_list es.items ≡ entries_with (map strategy_of names.old.items) (branches_of_list list.now)) }
-    ensures names { OnOk result (map strategy_of names.new.items ≡ names_behind_all (map strategy_of names.old.items) (branches_of_list list.now)) }
+    ensures entries { IfOk result (λ es. entries_of_reply es.items ≡ unfolded_entries (map strategy_of names.old.items) (branches_of_reply list.now)) }
+    ensures names { OnOk result (map strategy_of names.new.items ≡ named_trees_after_branches (map strategy_of names.old.items) (branches_of_reply list.now)) }
 {
     let mut entries = Vec::new(alloc);
     for (turn, child) in list {
-        let tree = tree_of(alloc, child, names)?;
+        let tree = tree_of_outline(alloc, child, names)?;
         entries.push((*turn, tree))?;
     }
     Ok(entries)
@@ -78,5 +78,5 @@ pub fn unfold(alloc: Global, o: &Outline) -> Result<Tree, NoMemory>
     ensures { IfOk result (λ t. strategy_of t ≡ unfolded [] (outline_of o.now)) }
 {
     let mut names = Vec::new(alloc);
-    tree_of(alloc, o, &mut names)
+    tree_of_outline(alloc, o, &mut names)
 }

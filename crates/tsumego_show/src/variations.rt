@@ -3,16 +3,16 @@ ghost use Rattle.std.specs.Prelude.{◌≡◌, ◌++◌, ◌∷◌, ◌<◌, ℕ
 ghost use Rattle.tt_sgf.specs.Bytes.{close_tree};
 ghost use Rattle.tt_sgf.specs.Sizes.{point_count};
 ghost use Rattle.tt_game.specs.Game.{after, winner_of};
-ghost use Rattle.tt_proof.specs.Strategy.{AreInOrder, IsInOrder, IsOnBoard, entries_of_list, strategy_of};
+ghost use Rattle.tt_proof.specs.Strategy.{AreInOrder, IsInOrder, IsOnBoard, entries_of_reply, strategy_of};
 ghost use Rattle.tsumego_show.specs.inside.Trees.{found_of};
 ghost use Rattle.tsumego_show.specs.Picture.{colour_name};
-ghost use Rattle.tsumego_show.specs.Variations.{bracketed, colour_letter, cut_text, ending_text, found_variations, game_text, is_listed, legal_text, list_name, list_text, listed_value, listed_values};
-ghost use Rattle.tsumego_show.specs.Variations.{move_point, move_text, mover_property, name_property, or_ending, owner_text, reply_variations, root_text, sgf_text, size_text, variations, why_won, won_text};
+ghost use Rattle.tsumego_show.specs.Variations.{bracketed, colour_letter, cut_comment, ending_text, strategy_variations, game_text, is_point_listed, variation_if_legal, list_property_name, point_list_property, listed_value, listed_values};
+ghost use Rattle.tsumego_show.specs.Variations.{move_value_text, variation_head, mover_property, name_property, turns_or_ending, owner_or_words_text, reply_variations, root_text, sgf_text, size_text, variations, why_won, won_text};
 
 use crate::depths::shown_depth;
 use crate::diagram::has_square;
-use crate::picture::{colour_name, earlier_count, put_earlier, side_colour};
-use crate::points::{is_stone, is_target, point_numbered};
+use crate::picture::{colour_name, earlier_position_count, put_earlier_positions, side_colour};
+use crate::points::{has_stone_of_colour, is_target, point_numbered};
 use std::alloc::Global;
 use tt_board::Colour;
 use tt_game::{Line, Refused, Side, Turn};
@@ -21,7 +21,7 @@ use tt_sgf::{NoMemory, Size};
 
 /// The lists of points in a root: AB, AW, TR and SQ.
 #[derive(Clone, Copy)]
-pub enum PointList {
+pub enum RootPointProperty {
     Blacks,
     Whites,
     Triangles,
@@ -39,34 +39,34 @@ fn colour_letter(colour: Colour) -> u8
 }
 
 /// The name of a list of points.
-fn list_name(points: PointList) -> &'static [u8]
-    ensures { result.now ≡ list_name points }
+fn list_property_name(points: RootPointProperty) -> &'static [u8]
+    ensures { result.now ≡ list_property_name points }
 {
     match points {
-        PointList::Blacks => b"AB",
-        PointList::Whites => b"AW",
-        PointList::Triangles => b"TR",
-        PointList::Squares => b"SQ",
+        RootPointProperty::Blacks => b"AB",
+        RootPointProperty::Whites => b"AW",
+        RootPointProperty::Triangles => b"TR",
+        RootPointProperty::Squares => b"SQ",
     }
 }
 
 /// Whether a list has the point of this number.
-fn is_listed(line: &Line, points: PointList, number: usize) -> bool
+fn is_point_listed(line: &Line, points: RootPointProperty, number: usize) -> bool
     requires { number < point_count line.now.frame.size }
-    ensures { result ≡ is_listed line.now points number }
+    ensures { result ≡ is_point_listed line.now points number }
 {
     match points {
-        PointList::Blacks => is_stone(line, number, Colour::Black),
-        PointList::Whites => is_stone(line, number, Colour::White),
-        PointList::Triangles => is_target(line, number),
-        PointList::Squares => has_square(line, &[], number),
+        RootPointProperty::Blacks => has_stone_of_colour(line, number, Colour::Black),
+        RootPointProperty::Whites => has_stone_of_colour(line, number, Colour::White),
+        RootPointProperty::Triangles => is_target(line, number),
+        RootPointProperty::Squares => has_square(line, &[], number),
     }
 }
 
 /// Writes the point of a play behind the text, and nothing for a pass.
-fn put_point(out: &mut Vec<u8>, size: Size, turn: Turn) -> Result<(), NoMemory>
+fn put_move_value(out: &mut Vec<u8>, size: Size, turn: Turn) -> Result<(), NoMemory>
     requires { IsOnBoard size turn }
-    ensures { OnOk result (out.new.items ≡ out.old.items ++ move_point size turn) }
+    ensures { OnOk result (out.new.items ≡ out.old.items ++ move_value_text size turn) }
 {
     match turn {
         Turn::Play(_) => put_turn(out, turn, size),
@@ -75,60 +75,64 @@ fn put_point(out: &mut Vec<u8>, size: Size, turn: Turn) -> Result<(), NoMemory>
 }
 
 /// Writes the value of a turn behind the text.
-fn put_bracketed(out: &mut Vec<u8>, size: Size, turn: Turn) -> Result<(), NoMemory>
+fn put_bracketed_move(out: &mut Vec<u8>, size: Size, turn: Turn) -> Result<(), NoMemory>
     requires { IsOnBoard size turn }
-    ensures { OnOk result (out.new.items ≡ out.old.items ++ bracketed (move_point size turn)) }
+    ensures { OnOk result (out.new.items ≡ out.old.items ++ bracketed (move_value_text size turn)) }
 {
     out.push(b'[')?;
-    put_point(out, size, turn)?;
+    put_move_value(out, size, turn)?;
     out.push(b']')?;
     Ok(())
 }
 
 /// Writes the value of a point behind the text, where a list has it.
 #[tactic(auto, unfolding(crate::specs::Variations::listed_value))]
-fn put_value(
+fn put_listed_value(
     out: &mut Vec<u8>,
     line: &Line,
-    points: PointList,
+    points: RootPointProperty,
     number: usize,
 ) -> Result<(), NoMemory>
     requires { number < point_count line.now.frame.size }
     ensures { OnOk result (out.new.items ≡ out.old.items ++ listed_value line.now points number) }
 {
     let size = line.frame().size;
-    if is_listed(line, points, number) {
-        return put_bracketed(out, size, Turn::Play(point_numbered(size, number)));
+    if is_point_listed(line, points, number) {
+        return put_bracketed_move(out, size, Turn::Play(point_numbered(size, number)));
     }
     Ok(())
 }
 
 /// Writes the values of a list behind the text.
 #[tactic(auto, using(crate::proofs::Texts::next_text))]
-fn put_values(out: &mut Vec<u8>, line: &Line, points: PointList) -> Result<(), NoMemory>
+fn put_listed_values(
+    out: &mut Vec<u8>,
+    line: &Line,
+    points: RootPointProperty,
+) -> Result<(), NoMemory>
     ensures { OnOk result (out.new.items ≡ out.old.items ++ listed_values line.now points) }
 {
     for number in 0..line.frame().size.point_count() {
-        put_value(out, line, points, number)?;
+        put_listed_value(out, line, points, number)?;
     }
     Ok(())
 }
 
 /// Writes a list of points behind the text, where it has one.
-pub fn put_list(
+pub fn put_point_list_property(
     alloc: Global,
     out: &mut Vec<u8>,
     line: &Line,
-    points: PointList,
+    points: RootPointProperty,
 ) -> Result<(), NoMemory>
-    ensures { OnOk result (out.new.items ≡ out.old.items ++ list_text line.now points) }
+    ensures { OnOk result (out.new.items ≡ out.old.items ++ point_list_property line.now points) }
 {
     let mut values = Vec::new(alloc);
-    put_values(&mut values, line, points)?;
+    put_listed_values(&mut values, line, points)?;
     if values.is_empty() {
         return Ok(());
     }
-    out.extend_from_slice(list_name(points))?;
+    out.extend_from_slice(list_property_name(points))?;
     out.extend_from_slice(values.as_slice())?;
     Ok(())
 }
@@ -160,7 +164,7 @@ fn put_size_value(alloc: Global, out: &mut Vec<u8>, size: Size) -> Result<(), No
 
 /// Writes the game and its size behind the text.
 #[tactic(auto, unfolding(crate::specs::Variations::game_text))]
-fn put_game(alloc: Global, out: &mut Vec<u8>, size: Size) -> Result<(), NoMemory>
+fn put_game_and_size(alloc: Global, out: &mut Vec<u8>, size: Size) -> Result<(), NoMemory>
     ensures { OnOk result (out.new.items ≡ out.old.items ++ game_text size) }
 {
     out.extend_from_slice(b"(;GM[1]FF[4]SZ")?;
@@ -168,7 +172,7 @@ fn put_game(alloc: Global, out: &mut Vec<u8>, size: Size) -> Result<(), NoMemory
 }
 
 /// Writes who moves behind the text.
-fn put_mover(out: &mut Vec<u8>, line: &Line) -> Result<(), NoMemory>
+fn put_mover_property(out: &mut Vec<u8>, line: &Line) -> Result<(), NoMemory>
     ensures { OnOk result (out.new.items ≡ out.old.items ++ mover_property line.now) }
 {
     out.extend_from_slice(b"PL[")?;
@@ -181,12 +185,12 @@ fn put_mover(out: &mut Vec<u8>, line: &Line) -> Result<(), NoMemory>
 pub fn put_root(alloc: Global, out: &mut Vec<u8>, line: &Line) -> Result<(), NoMemory>
     ensures { OnOk result (out.new.items ≡ out.old.items ++ root_text line.now) }
 {
-    put_game(alloc, out, line.frame().size)?;
-    put_list(alloc, out, line, PointList::Blacks)?;
-    put_list(alloc, out, line, PointList::Whites)?;
-    put_mover(out, line)?;
-    put_list(alloc, out, line, PointList::Triangles)?;
-    put_list(alloc, out, line, PointList::Squares)
+    put_game_and_size(alloc, out, line.frame().size)?;
+    put_point_list_property(alloc, out, line, RootPointProperty::Blacks)?;
+    put_point_list_property(alloc, out, line, RootPointProperty::Whites)?;
+    put_mover_property(out, line)?;
+    put_point_list_property(alloc, out, line, RootPointProperty::Triangles)?;
+    put_point_list_property(alloc, out, line, RootPointProperty::Squares)
 }
 
 /// Why a side has won.
@@ -223,9 +227,9 @@ fn put_ending(out: &mut Vec<u8>, line: &Line) -> Result<(), NoMemory>
 }
 
 /// Writes how a strategy ends behind the text, where no turn is written behind so many bytes.
-fn put_end(out: &mut Vec<u8>, line: &Line, count: usize) -> Result<(), NoMemory>
+fn put_ending_if_no_turn(out: &mut Vec<u8>, line: &Line, count: usize) -> Result<(), NoMemory>
     ensures { (start text : List ℕ) → out.old.items ≡ start ++ text → count ≡ length start
-        → OnOk result (out.new.items ≡ start ++ or_ending line.now.frame line.now.state text) }
+        → OnOk result (out.new.items ≡ start ++ turns_or_ending line.now.frame line.now.state text) }
 {
     if out.len() == count {
         return put_ending(out, line);
@@ -234,22 +238,27 @@ fn put_end(out: &mut Vec<u8>, line: &Line, count: usize) -> Result<(), NoMemory>
 }
 
 /// Writes that the strategy goes on behind the text.
-fn put_cut(out: &mut Vec<u8>) -> Result<(), NoMemory>
-    ensures { OnOk result (out.new.items ≡ out.old.items ++ cut_text) }
+fn put_cut_comment(out: &mut Vec<u8>) -> Result<(), NoMemory>
+    ensures { OnOk result (out.new.items ≡ out.old.items ++ cut_comment) }
 {
     out.extend_from_slice(b"C[The strategy goes on: it is cut here.]")?;
     Ok(())
 }
 
 /// Writes the beginning of a variation with this move behind the text.
-#[tactic(auto, unfolding(crate::specs::Variations::move_text))]
-fn put_move(out: &mut Vec<u8>, size: Size, colour: Colour, turn: Turn) -> Result<(), NoMemory>
+#[tactic(auto, unfolding(crate::specs::Variations::variation_head))]
+fn put_variation_head(
+    out: &mut Vec<u8>,
+    size: Size,
+    colour: Colour,
+    turn: Turn,
+) -> Result<(), NoMemory>
     requires { IsOnBoard size turn }
-    ensures { OnOk result (out.new.items ≡ out.old.items ++ move_text size colour turn) }
+    ensures { OnOk result (out.new.items ≡ out.old.items ++ variation_head size colour turn) }
 {
     out.extend_from_slice(b"\n(;")?;
     out.push(colour_letter(colour))?;
-    put_bracketed(out, size, turn)
+    put_bracketed_move(out, size, turn)
 }
 
 /// Writes a move that was made, and what follows it, behind the text.
@@ -264,19 +273,19 @@ fn put_variation(
 ) -> Result<(), NoMemory>
     requires on_board { IsOnBoard line.old.frame.size turn.now }
     requires in_order { IsInOrder line.old.frame.size (strategy_of child.now) }
-    ensures text { OnOk result (out.new.items ≡ out.old.items ++ (move_text line.old.frame.size colour turn.now
+    ensures text { OnOk result (out.new.items ≡ out.old.items ++ (variation_head line.old.frame.size colour turn.now
         ++ (variations line.old.frame line.old.state (strategy_of child.now) left ++ close_tree ∷ []))) }
     ensures same { line.new ≡ line.old }
 {
-    put_move(out, line.frame().size, colour, *turn)?;
-    put_tree(out, child, line, left)?;
+    put_variation_head(out, line.frame().size, colour, *turn)?;
+    put_tree_variations(out, child, line, left)?;
     out.push(b')')?;
     Ok(())
 }
 
 /// Writes a turn and what follows it behind the text, where it is legal.
 #[cycle(vary)]
-fn put_legal(
+fn put_variation_if_legal(
     out: &mut Vec<u8>,
     turn: &Turn,
     child: &Tree,
@@ -285,7 +294,7 @@ fn put_legal(
 ) -> Result<(), NoMemory>
     requires on_board { IsOnBoard line.old.frame.size turn.now }
     requires in_order { IsInOrder line.old.frame.size (strategy_of child.now) }
-    ensures text { OnOk result (out.new.items ≡ out.old.items ++ legal_text line.old.frame line.old.state turn.now
+    ensures text { OnOk result (out.new.items ≡ out.old.items ++ variation_if_legal line.old.frame line.old.state turn.now
         (variations line.old.frame (after line.old.frame line.old.state turn.now) (strategy_of child.now) left)) }
     ensures same { line.new ≡ line.old }
 {
@@ -309,19 +318,24 @@ fn put_replies(
     line: &mut Line,
     left: usize,
 ) -> Result<(), NoMemory>
-    requires in_order { AreInOrder line.old.frame.size 0 (entries_of_list list.now) }
-    ensures text { OnOk result (out.new.items ≡ out.old.items ++ reply_variations line.old.frame line.old.state (entries_of_list list.now) left) }
+    requires in_order { AreInOrder line.old.frame.size 0 (entries_of_reply list.now) }
+    ensures text { OnOk result (out.new.items ≡ out.old.items ++ reply_variations line.old.frame line.old.state (entries_of_reply list.now) left) }
     ensures same { line.new ≡ line.old }
 {
     for (turn, child) in list {
-        put_legal(out, turn, child, line, left)?;
+        put_variation_if_legal(out, turn, child, line, left)?;
     }
     Ok(())
 }
 
 /// Writes what follows a position behind the text, to so many turns.
 #[cycle(vary)]
-fn put_tree(out: &mut Vec<u8>, tree: &Tree, line: &mut Line, left: usize) -> Result<(), NoMemory>
+fn put_tree_variations(
+    out: &mut Vec<u8>,
+    tree: &Tree,
+    line: &mut Line,
+    left: usize,
+) -> Result<(), NoMemory>
     requires in_order { IsInOrder line.old.frame.size (strategy_of tree.now) }
     ensures text { OnOk result (out.new.items ≡ out.old.items ++ variations line.old.frame line.old.state (strategy_of tree.now) left) }
     ensures same { line.new ≡ line.old }
@@ -330,25 +344,25 @@ fn put_tree(out: &mut Vec<u8>, tree: &Tree, line: &mut Line, left: usize) -> Res
         Tree::Done => put_ending(out, line),
         Tree::Pick(turn, child) => {
             if left == 0 {
-                return put_cut(out);
+                return put_cut_comment(out);
             }
             let count = out.len();
-            put_legal(out, turn, child, line, left - 1)?;
-            put_end(out, line, count)
+            put_variation_if_legal(out, turn, child, line, left - 1)?;
+            put_ending_if_no_turn(out, line, count)
         }
         Tree::Reply(list) => {
             if left == 0 {
-                return put_cut(out);
+                return put_cut_comment(out);
             }
             let count = out.len();
             put_replies(out, list, line, left - 1)?;
-            put_end(out, line, count)
+            put_ending_if_no_turn(out, line, count)
         }
     }
 }
 
 /// Writes that a strategy is one of this colour behind the text.
-fn put_owned(out: &mut Vec<u8>, colour: Colour) -> Result<(), NoMemory>
+fn put_strategy_owner(out: &mut Vec<u8>, colour: Colour) -> Result<(), NoMemory>
     ensures { OnOk result (out.new.items ≡ out.old.items ++ colour_name colour ++ codes "'s strategy") }
 {
     out.extend_from_slice(colour_name(colour))?;
@@ -357,23 +371,23 @@ fn put_owned(out: &mut Vec<u8>, colour: Colour) -> Result<(), NoMemory>
 }
 
 /// Writes whose strategy it is behind the text, or these words where there is none.
-fn put_owner(
+fn put_owner_or_words(
     out: &mut Vec<u8>,
     line: &Line,
     without: &[u8],
     found: &Option<(Side, Tree)>,
 ) -> Result<(), NoMemory>
-    ensures { OnOk result (out.new.items ≡ out.old.items ++ owner_text line.now without.now (found_of found.now)) }
+    ensures { OnOk result (out.new.items ≡ out.old.items ++ owner_or_words_text line.now without.now (found_of found.now)) }
 {
     match found {
         None => Ok(out.extend_from_slice(without)?),
-        Some((side, _)) => put_owned(out, side_colour(line, *side)),
+        Some((side, _)) => put_strategy_owner(out, side_colour(line, *side)),
     }
 }
 
 /// Writes whose strategy it is, or these words where there is none, and how many positions came before the problem, as the root's
 /// name behind the text.
-fn put_name(
+fn put_name_property(
     alloc: Global,
     out: &mut Vec<u8>,
     line: &Line,
@@ -383,8 +397,8 @@ fn put_name(
     ensures { OnOk result (out.new.items ≡ out.old.items ++ name_property line.now without.now (found_of found.now)) }
 {
     out.extend_from_slice(b"N[")?;
-    put_owner(out, line, without, found)?;
-    put_earlier(alloc, out, earlier_count(line))?;
+    put_owner_or_words(out, line, without, found)?;
+    put_earlier_positions(alloc, out, earlier_position_count(line))?;
     out.push(b']')?;
     Ok(())
 }
@@ -397,12 +411,12 @@ fn put_variations(
     depth: usize,
 ) -> Result<(), NoMemory>
     requires in_order { IfSome found.now (λ f. IsInOrder line.old.frame.size (strategy_of f.1)) }
-    ensures text { OnOk result (out.new.items ≡ out.old.items ++ found_variations line.old depth (found_of found.now)) }
+    ensures text { OnOk result (out.new.items ≡ out.old.items ++ strategy_variations line.old depth (found_of found.now)) }
     ensures same { line.new ≡ line.old }
 {
     match found {
         None => Ok(()),
-        Some((_, tree)) => put_tree(out, tree, line, shown_depth(tree, depth)),
+        Some((_, tree)) => put_tree_variations(out, tree, line, shown_depth(tree, depth)),
     }
 }
 
@@ -421,7 +435,7 @@ pub fn put_sgf(
     ensures same { line.new ≡ line.old }
 {
     put_root(alloc, out, line)?;
-    put_name(alloc, out, line, without, found)?;
+    put_name_property(alloc, out, line, without, found)?;
     put_variations(out, line, found, depth)?;
     out.extend_from_slice(b")\n")?;
     Ok(())

@@ -2,10 +2,10 @@
 ghost use Rattle.std.specs.Prelude.{◌≡◌, ◌+◌, ◌-◌, ◌*◌, ◌<◌, ◌≤◌};
 ghost use Rattle.tt_sgf.specs.Sizes.{point_count};
 ghost use Rattle.tsumego_show.specs.inside.Windows.{IsWindow};
-ghost use Rattle.tsumego_show.specs.Diagram.{column_matters, count_along, first_shown, greatest, is_beside, last_shown, least_from, matters, matters_along, row_matters, window};
+ghost use Rattle.tsumego_show.specs.Diagram.{column_matters, count_along, first_shown, last_below, is_stone_beside_region, last_shown, first_at_or_after, matters, matters_along, row_matters, window};
 
-use crate::points::{has, is_inside, is_target, point_numbered};
-use crate::regions::near;
+use crate::points::{has_point_numbered, is_in_region, is_target, point_numbered};
+use crate::regions::adjacent_points;
 use tt_game::Line;
 use tt_sgf::Size;
 
@@ -20,13 +20,13 @@ pub struct Window {
 
 /// What is asked of: columns, or rows.
 #[derive(Clone, Copy)]
-pub enum Along {
+pub enum Axis {
     Columns,
     Rows,
 }
 
 /// The number of the point in a row and a column.
-pub fn number_at(size: Size, row: usize, column: usize) -> usize
+pub fn point_number_at(size: Size, row: usize, column: usize) -> usize
     requires row { row < size.rows }
     requires column { column < size.columns }
     ensures value { result ≡ row * size.columns + column }
@@ -36,13 +36,13 @@ pub fn number_at(size: Size, row: usize, column: usize) -> usize
 }
 
 /// Whether a stone on the point of this number is beside the region.
-fn is_beside(line: &Line, number: usize) -> bool
+fn is_stone_beside_region(line: &Line, number: usize) -> bool
     requires { number < point_count line.now.frame.size }
-    ensures { result ≡ is_beside line.now number }
+    ensures { result ≡ is_stone_beside_region line.now number }
 {
     let size = line.frame().size;
     line.present().at(point_numbered(size, number)).is_some()
-        && has(size, &near(size, &line.frame().region), number)
+        && has_point_numbered(size, &adjacent_points(size, &line.frame().region), number)
 }
 
 /// Whether a point is a target, or one of the region, or has a stone beside the region.
@@ -51,8 +51,8 @@ fn matters(line: &Line, row: usize, column: usize) -> bool
     requires column { column < line.now.frame.size.columns }
     ensures { result ≡ matters line.now (row * line.now.frame.size.columns + column) }
 {
-    let number = number_at(line.frame().size, row, column);
-    is_target(line, number) || is_inside(line, number) || is_beside(line, number)
+    let number = point_number_at(line.frame().size, row, column);
+    is_target(line, number) || is_in_region(line, number) || is_stone_beside_region(line, number)
 }
 
 /// Whether such a point lies in a column.
@@ -82,38 +82,38 @@ fn row_matters(line: &Line, row: usize) -> bool
 }
 
 /// How many columns or rows the board has.
-fn columns_or_rows(size: Size, along: Along) -> usize
+fn count_along(size: Size, along: Axis) -> usize
     ensures value { result ≡ count_along size along }
     ensures some { 1 ≤ result }
     ensures few { result ≤ 19 }
 {
     match along {
-        Along::Columns => usize::from(size.columns()),
-        Along::Rows => usize::from(size.rows()),
+        Axis::Columns => usize::from(size.columns()),
+        Axis::Rows => usize::from(size.rows()),
     }
 }
 
 /// Whether such a point lies in a column or a row.
-fn is_met(line: &Line, along: Along, n: usize) -> bool
+fn matters_along(line: &Line, along: Axis, n: usize) -> bool
     requires { n < count_along line.now.frame.size along }
     ensures { result ≡ matters_along line.now along n }
 {
     match along {
-        Along::Columns => column_matters(line, n),
-        Along::Rows => row_matters(line, n),
+        Axis::Columns => column_matters(line, n),
+        Axis::Rows => row_matters(line, n),
     }
 }
 
 /// The first column or row with such a point, or the last one.
 #[tactic(auto, using(crate::proofs::FirstAndLast::least_end, crate::proofs::FirstAndLast::least_here, crate::proofs::FirstAndLast::least_next))]
-fn least(line: &Line, along: Along) -> usize
-    ensures value { result ≡ least_from (matters_along line.now along) 0 (count_along line.now.frame.size along - 1) }
+fn first_that_matters(line: &Line, along: Axis) -> usize
+    ensures value { result ≡ first_at_or_after (matters_along line.now along) 0 (count_along line.now.frame.size along - 1) }
     ensures bound { result ≤ count_along line.now.frame.size along - 1 }
 {
-    let last = columns_or_rows(line.frame().size, along) - 1;
+    let last = count_along(line.frame().size, along) - 1;
     let mut n = 0;
     while n < last {
-        if is_met(line, along, n) {
+        if matters_along(line, along, n) {
             return n;
         }
         n += 1;
@@ -123,13 +123,13 @@ fn least(line: &Line, along: Along) -> usize
 
 /// The last column or row with such a point, or the first one.
 #[tactic(auto, using(crate::proofs::FirstAndLast::greatest_none, crate::proofs::FirstAndLast::greatest_here, crate::proofs::FirstAndLast::greatest_less))]
-fn greatest(line: &Line, along: Along) -> usize
-    ensures value { result ≡ greatest (matters_along line.now along) (count_along line.now.frame.size along) }
+fn last_that_matters(line: &Line, along: Axis) -> usize
+    ensures value { result ≡ last_below (matters_along line.now along) (count_along line.now.frame.size along) }
     ensures bound { result ≤ 18 }
 {
-    let mut n = columns_or_rows(line.frame().size, along);
+    let mut n = count_along(line.frame().size, along);
     while 0 < n {
-        if is_met(line, along, n - 1) {
+        if matters_along(line, along, n - 1) {
             return n - 1;
         }
         n -= 1;
@@ -138,21 +138,21 @@ fn greatest(line: &Line, along: Along) -> usize
 }
 
 /// The first column or row that is drawn.
-fn first_shown(line: &Line, along: Along) -> usize
+fn first_shown(line: &Line, along: Axis) -> usize
     ensures value { result ≡ first_shown (matters_along line.now along) (count_along line.now.frame.size along) }
     ensures bound { result < count_along line.now.frame.size along }
 {
-    least(line, along).saturating_sub(1)
+    first_that_matters(line, along).saturating_sub(1)
 }
 
 /// The last column or row that is drawn.
-fn last_shown(line: &Line, along: Along) -> usize
+fn last_shown(line: &Line, along: Axis) -> usize
     ensures value { result ≡ last_shown (matters_along line.now along) (count_along line.now.frame.size along) }
     ensures first { first_shown (matters_along line.now along) (count_along line.now.frame.size along) ≤ result }
     ensures bound { result < count_along line.now.frame.size along }
 {
-    let last = columns_or_rows(line.frame().size, along) - 1;
-    let wide = (greatest(line, along) + 1).min(last);
+    let last = count_along(line.frame().size, along) - 1;
+    let wide = (last_that_matters(line, along) + 1).min(last);
     first_shown(line, along).max(wide)
 }
 
@@ -163,9 +163,9 @@ pub fn window_of(line: &Line) -> Window
     ensures window { IsWindow line.now.frame.size result }
 {
     Window {
-        left: first_shown(line, Along::Columns),
-        right: last_shown(line, Along::Columns),
-        top: first_shown(line, Along::Rows),
-        bottom: last_shown(line, Along::Rows),
+        left: first_shown(line, Axis::Columns),
+        right: last_shown(line, Axis::Columns),
+        top: first_shown(line, Axis::Rows),
+        bottom: last_shown(line, Axis::Rows),
     }
 }

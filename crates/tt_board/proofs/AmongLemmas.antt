@@ -4,7 +4,7 @@ use Rattle.std.proofs.lemmas.Bool.{cases_lt, cases_eq, true≢false, false≢tru
 use Rattle.std.proofs.lemmas.Option.{none-some}
 use Rattle.tt_sgf.specs.declared.bits.TheConstants.{BITS}
 use Rattle.tt_sgf.specs.Sizes.{point_count}
-use Rattle.tt_sgf.specs.laws.SizeLaws.{few_points}
+use Rattle.tt_sgf.specs.laws.SizeLaws.{point_count_is_bounded}
 use Rattle.tt_sgf.specs.MachineWords.{bit_in, AreBitsOf}
 use Rattle.tt_board.specs.declared.Colour.{Colour}
 use Rattle.tt_board.specs.declared.Colour.TheVariants.{Black, White}
@@ -37,7 +37,7 @@ module _ (b : ChainBoard) (k : Colour) (is : IsChainBoard b) (given points near 
     (stones_is : (q : ℕ) → q < BITS → bit_in stones q ≡ (bit_in near q && bit_in theirs q)) where
   -- a point of the board has its bit
   small : (q : ℕ) → q < point_count b.size → q < BITS
-  small q in_q = omega (arith, few_points b.size)
+  small q in_q = omega (arith, point_count_is_bounded b.size)
 
   -- a point that is kept is an empty one on the board
   bare : (q : ℕ) → q < BITS → bit_in points q ≡ true → (q < point_count b.size) × (bit_in given q ≡ true) × (entry_at b.points q ≡ None)

@@ -19,12 +19,12 @@ use lib.Lanes.{mask_l}
 use Rattle.tt_sgf.specs.declared.size.Size.{Size}
 use Rattle.tt_sgf.specs.declared.bits.TheConstants.{BITS}
 use Rattle.tt_sgf.specs.Sizes.{point_count}
-use Rattle.tt_sgf.specs.laws.SizeLaws.{few_points}
+use Rattle.tt_sgf.specs.laws.SizeLaws.{point_count_is_bounded}
 use Rattle.tt_sgf.specs.MachineWords.{bit_in, AreBitsOf}
 use Rattle.tt_board.specs.declared.Colour.{Colour}
 use Rattle.tt_board.specs.Position.{Colouring}
 use Rattle.tt_board.specs.Reach.{entry_at, Reaches}
-use Rattle.tt_board.specs.Decided.{reaches, reaches_is}
+use Rattle.tt_board.specs.Decided.{reaches, reaches_is_exact}
 use Rattle.tt_board.specs.Play.{other, is_stone_of}
 use Rattle.tt_board.specs.Score.{counts_for, area_of, score_of}
 use Rattle.tt_board.specs.inside.Around.{AreReaching}
@@ -114,14 +114,14 @@ module _ (s : Size) (c : Colouring) (k : Colour) (fits : length c ≡ point_coun
   -- of an empty point the bits say whether it reaches
   empty_bits : (words : List ℕ) (e : Option Colour) → AreReaching s words c None e → (p : ℕ) → p < point_count s → entry_at c p ≡ None → bit_in words p ≡ reaches s c p e
   empty_bits words e are p in_p bare =
-      same_from_decides {P = Reaches s c p e} (bit_in words p) (reaches s c p e) ((λ on. ((are p in_p).0 on).1), (λ r. (are p in_p).1 (bare, r))) (reaches_is s c p e in_p)
+      same_from_decides {P = Reaches s c p e} (bit_in words p) (reaches s c p e) ((λ on. ((are p in_p).0 on).1), (λ r. (are p in_p).1 (bare, r))) (reaches_is_exact s c p e in_p)
 
   -- a point has its bit where it counts
   counts : (p : ℕ) → p < point_count s → bit_in area p ≡ counts_for s c k p
   counts p in_p = here (entry_at c p) refl
     where
       lt : p < BITS
-      lt = omega (arith, in_p, few_points s)
+      lt = omega (arith, in_p, point_count_is_bounded s)
 
       is : bit_in area p ≡ (is_stone_of (entry_at c p) k || (bit_in own p && not (bit_in others p)))
       is = area_is p lt ∙ rw (stones_are.below p (omega (arith, in_p, fits)) lt, alone_is p lt) refl

@@ -5,7 +5,7 @@ use Rattle.std.proofs.lemmas.Nat.{mod-mul-add, div-add-mod', mod_below}
 use Rattle.tt_sgf.specs.declared.size.Size.{Size}
 use Rattle.tt_sgf.specs.declared.bits.TheConstants.{BITS}
 use Rattle.tt_sgf.specs.Sizes.{point_count}
-use Rattle.tt_sgf.specs.laws.SizeLaws.{few_points}
+use Rattle.tt_sgf.specs.laws.SizeLaws.{point_count_is_bounded}
 use Rattle.tt_sgf.specs.MachineWords.{bit_in}
 use Rattle.tt_board.specs.inside.Around.{AreOn, IsBesideSome}
 use Rattle.tt_board.proofs.NearLemmas.{Side, above, left, right, below, side_of, of_side, row_above, row_below, row_before}
@@ -53,7 +53,7 @@ module _ (s : Size) (first points : List ℕ) (column : (p : ℕ) → p < point_
 
   -- a row behind each point there are bits still
   few : (p : ℕ) → p < point_count s → p + s.columns < BITS
-  few p in_p = omega (arith, few_points s, s.columns_in.1)
+  few p in_p = omega (arith, point_count_is_bounded s, s.columns_in.1)
 
   -- what is in the set is on the board
   within : (q : ℕ) → q < BITS → bit_in points q ≡ true → q < point_count s

@@ -2,7 +2,7 @@
 use Rattle.std.proofs.Common.{◌≡◌, suc, List, [], ◌∷◌, map, All, true, ◌&&◌, eqb, refl, sym, ap, ◌∙◌, arith}
 use Rattle.std.proofs.lemmas.Bool.{eqb-true, eq-eqb, and_parts}
 use Rattle.tt_sgf.specs.declared.size.Size.{Size}
-use Rattle.tt_sgf.specs.laws.SizeLaws.{size_by_sides}
+use Rattle.tt_sgf.specs.laws.SizeLaws.{size_is_fixed_by_sides}
 use Rattle.tt_board.specs.Position.{Position, Colouring, colourings}
 use Rattle.tt_board.specs.inside.Boards.{board_of}
 
@@ -15,7 +15,7 @@ shown_boards g (b ∷ bs) all =
 
 -- sizes are the same exactly where their columns and rows are
 pub tests_same : (a b : Size) → (eqb a.columns b.columns && eqb a.rows b.rows) ≡ true → a ≡ b
-tests_same a b h = size_by_sides a b (eqb-true a.columns b.columns (and_parts _ _ h).0) (eqb-true a.rows b.rows (and_parts _ _ h).1)
+tests_same a b h = size_is_fixed_by_sides a b (eqb-true a.columns b.columns (and_parts _ _ h).0) (eqb-true a.rows b.rows (and_parts _ _ h).1)
 
 pub tests_pass : (a b : Size) → a ≡ b → (eqb a.columns b.columns && eqb a.rows b.rows) ≡ true
 tests_pass a b e = rw (eq-eqb a.columns b.columns (ap (λ (s : Size). s.columns) e), eq-eqb a.rows b.rows (ap (λ (s : Size). s.rows) e)) refl

@@ -9,7 +9,7 @@ use Rattle.tt_sgf.specs.Sizes.{point_count}
 use Rattle.tt_board.specs.Position.{Colouring}
 use Rattle.tt_board.specs.Reach.{entry_at}
 use Rattle.tt_board.specs.inside.Chains.{name_at, root_of, Touches, touching, liberty_count, stone_count, renamed, OtherChainsRooted, OtherChainsCounted}
-use Rattle.tt_board.specs.Decided.{decided, decided_is}
+use Rattle.tt_board.specs.Decided.{decision_test, decision_test_is_exact}
 use Rattle.tt_board.proofs.NameLemmas.{count_emptied, at_p, off_p, liberty_count_le}
 use Rattle.tt_board.proofs.StartLemmas.{away}
 use Rattle.tt_board.proofs.JoinLemmas.{IsPartly, partly_more, partly_kept, partly_whole, stones_fewer, none_stones}
@@ -63,17 +63,17 @@ module _ (s : Size) (ns : List ℕ) (p e : ℕ) (in_p : p < point_count s) (wide
           let m = name_at (set ns p 0) q in
           let old = counts m q refl some other in
           let new = count_emptied s ns p 0 in_p wide m (λ z. other (z ∙ stone)) some (λ z. living (sym stone ∙ z)) refl in
-          elim (cases_Bool (decided (touching s (set ns p 0) m p))) [
+          elim (cases_Bool (decision_test (touching s (set ns p 0) m p))) [
             | inl on ↦
-                let one : ◌≡◌ {A = ℕ} (cond (decided (touching s (set ns p 0) m p)) 1 0) 1 = ap (λ b. cond b 1 0) on in
-                let has = (all m).1 (some, other, (decided_is (touching s (set ns p 0) m p)).0 on) in
+                let one : ◌≡◌ {A = ℕ} (cond (decision_test (touching s (set ns p 0) m p)) 1 0) 1 = ap (λ b. cond b 1 0) on in
+                let has = (all m).1 (some, other, (decision_test_is_exact (touching s (set ns p 0) m p)).0 on) in
                 let is : name_at near has.0 ≡ m = get_or_default near has.0 0 m has.1 ∙ has.2 in
                 let h = subst (λ x. name_at raised (root_of x) ≡ name_at liberties (root_of x) + 1) is (more has.0 has.1) in
                 omega (arith, old, new, one, h)
             | inr off ↦
-                let none : ◌≡◌ {A = ℕ} (cond (decided (touching s (set ns p 0) m p)) 1 0) 0 = ap (λ b. cond b 1 0) off in
+                let none : ◌≡◌ {A = ℕ} (cond (decision_test (touching s (set ns p 0) m p)) 1 0) 0 = ap (λ b. cond b 1 0) off in
                 let h = same (root_of m) (away s (set ns p 0) near p beside_rooted only_beside m (rooted_released q some other)
-                (λ t. false≢true (sym off ∙ (decided_is (touching s (set ns p 0) m p)).1 t))) in
+                (λ t. false≢true (sym off ∙ (decision_test_is_exact (touching s (set ns p 0) m p)).1 t))) in
                 omega (arith, old, new, none, h)
           ]
 

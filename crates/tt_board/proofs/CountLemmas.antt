@@ -7,14 +7,14 @@ use Rattle.std.proofs.lemmas.Bool.Decides.{same_from_decides}
 use Rattle.std.proofs.lemmas.List.{get_or_default}
 use Rattle.std.proofs.lemmas.List.Elements.{Contains-get_or}
 use Rattle.std.proofs.lemmas.List.Sums.{sum_by-cons}
-use Rattle.tt_board.specs.Decided.{Decision, some_below, decided, decided_is, decided_not}
+use Rattle.tt_board.specs.Decided.{Decision, decide_some_below, decision_test, decision_test_is_exact, decision_test_is_false}
 use Rattle.tt_board.specs.inside.Chains.{IsEachOnce}
 use Rattle.tt_board.proofs.PlayLemmas.{score_more}
 
 -- decisions of facts that follow from each other are alike
-pub same_decided : {P Q : Type 0} (d : Decision P) (e : Decision Q) → (P → Q) → (Q → P) → decided d ≡ decided e
-same_decided d e there back = same_from_decides {P = Rattle.std.specs.Prelude.IsTrue (decided e)} (decided d) (decided e)
-    ((λ h. (decided_is e).1 (there ((decided_is d).0 h))), (λ h. (decided_is d).1 (back ((decided_is e).0 h)))) ((λ h. h), (λ h. h))
+pub same_decided : {P Q : Type 0} (d : Decision P) (e : Decision Q) → (P → Q) → (Q → P) → decision_test d ≡ decision_test e
+same_decided d e there back = same_from_decides {P = Rattle.std.specs.Prelude.IsTrue (decision_test e)} (decision_test d) (decision_test e)
+    ((λ h. (decision_test_is_exact e).1 (there ((decision_test_is_exact d).0 h))), (λ h. (decision_test_is_exact d).1 (back ((decision_test_is_exact e).0 h)))) ((λ h. h), (λ h. h))
 
 -- a count is more than 0 where something passes
 pub count_some : (f : ℕ → Bool) (n k : ℕ) → k < n → f k ≡ true → 0 < count_by f (range_with_len 0 n)
@@ -102,9 +102,9 @@ and_true false b e = refl
 -- where two or more pass, one other than p does
 pub another_counted : (f : ℕ → Bool) (n p : ℕ) → 1 < count_by f (range_with_len 0 n) → (k : ℕ) × (k < n) × (f k ≡ true) × (k ≢ p)
 another_counted f n p many =
-    let g : ℕ → Bool = λ k. f k && not (decided {P = k ≡ p} (cases_eq k p)) in
-    let change = count_change f g n p (λ k below apart. sym (and_true (f k) _ (ap not (decided_not {P = k ≡ p} (cases_eq k p) apart)))) in
-    let off : g p ≡ false = and_right (f p) _ (ap not ((decided_is {P = p ≡ p} (cases_eq p p)).1 refl)) in
+    let g : ℕ → Bool = λ k. f k && not (decision_test {P = k ≡ p} (cases_eq k p)) in
+    let change = count_change f g n p (λ k below apart. sym (and_true (f k) _ (ap not (decision_test_is_false {P = k ≡ p} (cases_eq k p) apart)))) in
+    let off : g p ≡ false = and_right (f p) _ (ap not ((decision_test_is_exact {P = p ≡ p} (cases_eq p p)).1 refl)) in
     let none : ◌≡◌ {A = ℕ} (cond (g p) 1 0) 0 = ap (λ b. cond b 1 0) off in
     let some : 0 < count_by g (range_with_len 0 n) = elim (cases_lt p n) [
       | inl below ↦ elim (cases_Bool (f p)) [
@@ -115,34 +115,34 @@ another_counted f n p many =
     ] in
     let w = some_counted g n some in
     let parts = and_parts (f w.0) _ w.2 in
-    (w.0, w.1, parts.0, λ same. false≢true (sym (ap not ((decided_is {P = w.0 ≡ p} (cases_eq w.0 p)).1 same)) ∙ parts.1))
+    (w.0, w.1, parts.0, λ same. false≢true (sym (ap not ((decision_test_is_exact {P = w.0 ≡ p} (cases_eq w.0 p)).1 same)) ∙ parts.1))
 
 -- where one passes, and one other, the count is more than one
 pub two_counted : (f : ℕ → Bool) (n p q : ℕ) → p < n → q < n → q ≢ p → f p ≡ true → f q ≡ true → 1 < count_by f (range_with_len 0 n)
 two_counted f n p q in_p in_q apart on also =
-    let g : ℕ → Bool = λ k. f k && not (decided {P = k ≡ p} (cases_eq k p)) in
-    let change = (count_change f g n p (λ k below away. sym (and_true (f k) _ (ap not (decided_not {P = k ≡ p} (cases_eq k p) away))))).0 in_p in
-    let off : g p ≡ false = and_right (f p) _ (ap not ((decided_is {P = p ≡ p} (cases_eq p p)).1 refl)) in
+    let g : ℕ → Bool = λ k. f k && not (decision_test {P = k ≡ p} (cases_eq k p)) in
+    let change = (count_change f g n p (λ k below away. sym (and_true (f k) _ (ap not (decision_test_is_false {P = k ≡ p} (cases_eq k p) away))))).0 in_p in
+    let off : g p ≡ false = and_right (f p) _ (ap not ((decision_test_is_exact {P = p ≡ p} (cases_eq p p)).1 refl)) in
     let none : ◌≡◌ {A = ℕ} (cond (g p) 1 0) 0 = ap (λ b. cond b 1 0) off in
     let one : ◌≡◌ {A = ℕ} (cond (f p) 1 0) 1 = ap (λ b. cond b 1 0) on in
-    let still : g q ≡ true = and_from (f q) _ also (ap not (decided_not {P = q ≡ p} (cases_eq q p) apart)) in
+    let still : g q ≡ true = and_from (f q) _ also (ap not (decision_test_is_false {P = q ≡ p} (cases_eq q p) apart)) in
     let some = count_some g n q in_q still in
     omega (arith, change, none, one, some)
 
 -- whether a list has a number
 pub in_list : (xs : List ℕ) (q : ℕ) → Decision (Contains xs q)
-in_list xs q = elim (some_below (λ i. get_or xs i 0 ≡ q) (λ i. cases_eq (get_or xs i 0) q) (length xs)) [
+in_list xs q = elim (decide_some_below (λ i. get_or xs i 0 ≡ q) (λ i. cases_eq (get_or xs i 0) q) (length xs)) [
   | inl h ↦ inl (subst (Contains xs) h.2 (Contains-get_or xs h.0 0 h.1))
   | inr none ↦ inr (λ h. none (h.0, h.1, get_or_default xs h.0 0 q h.1 ∙ h.2))
 ]
 
 -- the points of a list that has each once, counted over the board
 pub count_within : (f : ℕ → Bool) (n : ℕ) (xs : List ℕ) → IsEachOnce xs → ((q : ℕ) → Contains xs q → q < n)
-    → count_by (λ q. f q && decided (in_list xs q)) (range_with_len 0 n) ≡ count_by f xs
+    → count_by (λ q. f q && decision_test (in_list xs q)) (range_with_len 0 n) ≡ count_by f xs
 count_within f n [] once inside = none n
   where
-    none : (m : ℕ) → count_by (λ q. f q && decided (in_list [] q)) (range_with_len 0 m) ≡ 0
-    none m = count_same (λ q. false) (λ q. f q && decided (in_list [] q)) m (λ k below. sym (and_right (f k) _ (decided_not (in_list [] k) (λ h. omega arith)))) ∙ zeros m
+    none : (m : ℕ) → count_by (λ q. f q && decision_test (in_list [] q)) (range_with_len 0 m) ≡ 0
+    none m = count_same (λ q. false) (λ q. f q && decision_test (in_list [] q)) m (λ k below. sym (and_right (f k) _ (decision_test_is_false (in_list [] k) (λ h. omega arith)))) ∙ zeros m
       where
         zeros : (m : ℕ) → count_by (λ (q : ℕ). false) (range_with_len 0 m) ≡ 0
         zeros zero = refl
@@ -153,11 +153,11 @@ count_within f n (x ∷ xs) once inside =
     let later : (q : ℕ) → Contains xs q → Contains (x ∷ xs) q = λ q h. (suc h.0, omega (arith, h.1), h.2) in
     let fresh : Contains xs x → ⊥ = λ h. once 0 (suc h.0) (omega arith) (omega (arith, h.1)) (sym (get_or_default xs h.0 0 x h.1 ∙ h.2)) in
     let rest = count_within f n xs (λ i j lt in'. once (suc i) (suc j) (omega arith) (omega arith)) (λ q h. inside q (later q h)) in
-    let old : ℕ → Bool = λ q. f q && decided (in_list xs q) in
-    let new : ℕ → Bool = λ q. f q && decided (in_list (x ∷ xs) q) in
+    let old : ℕ → Bool = λ q. f q && decision_test (in_list xs q) in
+    let new : ℕ → Bool = λ q. f q && decision_test (in_list (x ∷ xs) q) in
     let change = (count_change old new n x (λ k below apart. ap (λ b. f k && b) (same_decided (in_list xs k) (in_list (x ∷ xs) k) (later k) (earlier k apart)))).0 (inside x head) in
-    let off : ◌≡◌ {A = ℕ} (cond (old x) 1 0) 0 = ap (λ b. cond b 1 0) (and_right (f x) _ (decided_not (in_list xs x) fresh)) in
-    let on : ◌≡◌ {A = ℕ} (cond (new x) 1 0) (cond (f x) 1 0) = ap (λ b. cond b 1 0) (and_true (f x) _ ((decided_is (in_list (x ∷ xs) x)).1 head)) in
+    let off : ◌≡◌ {A = ℕ} (cond (old x) 1 0) 0 = ap (λ b. cond b 1 0) (and_right (f x) _ (decision_test_is_false (in_list xs x) fresh)) in
+    let on : ◌≡◌ {A = ℕ} (cond (new x) 1 0) (cond (f x) 1 0) = ap (λ b. cond b 1 0) (and_true (f x) _ ((decision_test_is_exact (in_list (x ∷ xs) x)).1 head)) in
     omega (arith, change, off, on, rest, sum_by-cons (λ q. cond (f q) 1 0) x xs)
   where
     -- another number that the longer list has, the shorter one has

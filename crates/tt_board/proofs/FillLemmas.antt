@@ -8,7 +8,7 @@ use Rattle.std.proofs.lemmas.Option.{none-some}
 use Rattle.tt_sgf.specs.declared.size.Size.{Size}
 use Rattle.tt_sgf.specs.declared.bits.TheConstants.{BITS}
 use Rattle.tt_sgf.specs.Sizes.{point_count}
-use Rattle.tt_sgf.specs.laws.SizeLaws.{few_points}
+use Rattle.tt_sgf.specs.laws.SizeLaws.{point_count_is_bounded}
 use Rattle.tt_sgf.specs.MachineWords.{bit_in, AreBitsOf}
 use Rattle.tt_board.specs.declared.Colour.{Colour}
 use Rattle.tt_board.specs.declared.Colour.TheVariants.{Black, White}
@@ -27,7 +27,7 @@ use Rattle.tt_board.proofs.PlaneLemmas.{neither}
 module _ (s : Size) (c : Colouring) (fits : length c ≡ point_count s) where
   -- a point of the board has its bit
   pub small : (p : ℕ) → p < point_count s → p < BITS
-  small p in_p = omega (arith, few_points s)
+  small p in_p = omega (arith, point_count_is_bounded s)
 
   -- bits of the stones of a colour are on the board
   pub stones_on : (k : Colour) (words : List ℕ) → AreBitsOf words (length c) (λ p. is_stone_of (entry_at c p) k) → AreOn s words
@@ -62,7 +62,7 @@ pub record IsFound (s : Size) (own wanted found : List ℕ) : Type 0 where
 module _ (s : Size) (own wanted : List ℕ) (on : AreOn s own) where
   -- a point of the board has its bit
   fits : (p : ℕ) → p < point_count s → p < BITS
-  fits p in_p = omega (arith, few_points s)
+  fits p in_p = omega (arith, point_count_is_bounded s)
 
   -- what is found is on the board
   pub found_on : (found : List ℕ) → IsFound s own wanted found → AreOn s found

@@ -11,8 +11,8 @@ use Rattle.tt_sgf.specs.Sizes.{point_count}
 use Rattle.tt_board.specs.Position.{Colouring}
 use Rattle.tt_board.specs.Reach.{entry_at}
 use Rattle.tt_board.specs.inside.Chains.{AreLinked, name_at, root_of, IsNamed, touching, is_liberty, liberty_count, stone_count, renamed, AreCounted, AreNamesBut, AreGathered, Touches}
-use Rattle.tt_board.specs.Decided.{decided}
-use Rattle.tt_board.specs.declared.counted.play_kind.TheConstants.{NOWHERE}
+use Rattle.tt_board.specs.Decided.{decision_test}
+use Rattle.tt_board.specs.declared.counted.play_kind.TheConstants.{NO_POINT_NAME}
 use Rattle.tt_board.proofs.CountLemmas.{same_decided, count_same}
 use Rattle.tt_board.proofs.LiftLemmas.{near_back}
 use Rattle.tt_board.proofs.LinkLemmas.{linked_trans, linked_sym, linked_on, linked_self, named_bare}
@@ -195,7 +195,7 @@ pub liberties_others : (s : Size) (a b m : ℕ) (ns : List ℕ) → a ≢ 0 → 
 unfolding liberty_count
 liberties_others s a b m ns living_a living_b old new =
     count_same (is_liberty s ns m) (is_liberty s (map (renamed a b) ns) m) (point_count s) (λ k below.
-    ap (λ t. t && decided (touching s ns m k)) (sym (empty_same k))
+    ap (λ t. t && decision_test (touching s ns m k)) (sym (empty_same k))
     ∙ ap (λ t. eqb (name_at (map (renamed a b) ns) k) 0 && t) (same_decided (touching s ns m k) (touching s (map (renamed a b) ns) m k)
     (λ t. (t.0, t.1, (t.2.0, name_renamed a b ns t.0 living_a ∙ renamed_not a b _ (λ e. old (sym t.2.1 ∙ e)) ∙ t.2.1)))
     (λ t. (t.0, t.1, (t.2.0, back t.0 t.2.1)))))
@@ -405,7 +405,7 @@ module _ (s : Size) (ns : List ℕ) (p m a b : ℕ) (in_p : p < point_count s) (
   codes_back w = ap (λ x. x / 512) w.1 ∙ codes ∙ ap (λ x. x / 512) (sym w.0)
 
   -- where a stone of m is beside p they are linked, in each colouring that the names fit
-  pub gathered_united : (m ≢ NOWHERE → Touches s ns m p) → AreGathered s ns (map (renamed a b) ns) p
+  pub gathered_united : (m ≢ NO_POINT_NAME → Touches s ns m p) → AreGathered s ns (map (renamed a b) ns) p
   gathered_united touch = record {
     ends = λ r past. now_same r (λ e. living_a (sym e ∙ ends r past)) ∙ ends r past;
     stone = elim which [

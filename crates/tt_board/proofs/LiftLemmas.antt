@@ -10,7 +10,7 @@ use Rattle.tt_board.specs.Near.{IsNeighbour}
 use Rattle.tt_board.specs.Position.{Colouring}
 use Rattle.tt_board.specs.Reach.{entry_at, Reaches}
 use Rattle.tt_board.specs.ReachLaws.{reaches_beside, reaches_on, reaches_all}
-use Rattle.tt_board.specs.Decided.{reaches, reaches_is, same_entry}
+use Rattle.tt_board.specs.Decided.{reaches, reaches_is_exact, decide_same_entry}
 use Rattle.tt_board.specs.Play.{other, clear, play_of}
 use Rattle.tt_board.specs.Setup.{AllHaveLiberties}
 use Rattle.tt_board.proofs.PlayLemmas.{cleared_gone, cleared_kept_other, cleared_kept_alive, clear_from, other_differs}
@@ -42,13 +42,13 @@ pub cleared : (s : Size) (c : Colouring) (k : Colour) (d : Colouring) → IsLift
 cleared s c k d l looked = clear_from s c d k l.fits (λ p in_p.
     elim (l.each p) [
       | inr gone ↦ gone.0 ∙ sym (cleared_gone s c k p gone.1 (elim (cases_Bool (reaches s c p None)) [
-        | inl alive ↦ absurd (gone.2 ((reaches_is s c p None in_p).0 alive))
+        | inl alive ↦ absurd (gone.2 ((reaches_is_exact s c p None in_p).0 alive))
         | inr dead ↦ dead
       ]))
-      | inl same ↦ elim (same_entry (entry_at c p) (Some k)) [
+      | inl same ↦ elim (decide_same_entry (entry_at c p) (Some k)) [
         | inr apart ↦ same ∙ sym (cleared_kept_other s c k p apart)
         | inl mine ↦ elim (looked p in_p mine) [
-          | inl r ↦ same ∙ sym (cleared_kept_alive s c k p ((reaches_is s c p None in_p).1 r))
+          | inl r ↦ same ∙ sym (cleared_kept_alive s c k p ((reaches_is_exact s c p None in_p).1 r))
           | inr gone ↦ absurd (none-some k (sym gone ∙ same ∙ mine))
         ]
       ]

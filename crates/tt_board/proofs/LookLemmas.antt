@@ -12,12 +12,12 @@ use Rattle.tt_board.specs.declared.Colour.{Colour}
 use Rattle.tt_board.specs.declared.Colour.TheVariants.{Black, White}
 use Rattle.tt_sgf.specs.declared.size.Size.{Size}
 use Rattle.tt_sgf.specs.Sizes.{point_count}
-use Rattle.tt_board.specs.declared.counted.play_kind.Names.{Names}
+use Rattle.tt_board.specs.declared.counted.play_kind.NeighbourNames.{NeighbourNames}
 use Rattle.tt_board.specs.Near.{IsNeighbour}
 use Rattle.tt_board.specs.Position.{Colouring}
 use Rattle.tt_board.specs.Reach.{entry_at, Reaches}
 use Rattle.tt_board.specs.ReachLaws.{reaches_beside, reaches_on, reaches_all}
-use Rattle.tt_board.specs.Decided.{decided, decided_is, decided_not}
+use Rattle.tt_board.specs.Decided.{decision_test, decision_test_is_exact, decision_test_is_false}
 use Rattle.tt_board.specs.Play.{other, play_of}
 use Rattle.tt_board.specs.inside.Chains.{name_at, root_of, colour_number, IsNamed, Touches, touching, is_liberty, liberty_count, ChainBoard, IsChainBoard, IsEachOnce, IsOneName, AreNear}
 use Rattle.tt_board.proofs.CountLemmas.{count_some, another_counted, two_counted, in_list}
@@ -124,7 +124,7 @@ module _ (b : ChainBoard) (k : Colour) (p : ℕ) (is : IsChainBoard b) (in_p : p
 
   -- p is a liberty of each chain beside it
   liberty_p : (m : ℕ) → Touches b.size b.names m p → is_liberty b.size b.names m p ≡ true
-  liberty_p m t = and_from _ _ (eq-eqb (name_at b.names p) 0 bare_p) ((decided_is (touching b.size b.names m p)).1 t)
+  liberty_p m t = and_from _ _ (eq-eqb (name_at b.names p) 0 bare_p) ((decision_test_is_exact (touching b.size b.names m p)).1 t)
 
   -- where p is a chain's one liberty, no other point beside it is empty
   one_liberty : (m x q : ℕ) → Touches b.size b.names m p → liberty_count b.size b.names m ≡ 1 → m ≢ 0 → name_at b.names x ≡ m → IsNeighbour b.size x q → q ≢ p → entry_at b.points q ≢ None
@@ -132,7 +132,7 @@ module _ (b : ChainBoard) (k : Colour) (p : ℕ) (is : IsChainBoard b) (in_p : p
   one_liberty m x q t one some of near apart bare =
       let in_x = on_board x (named_here x (λ z. some (sym of ∙ z))) in
       let also : is_liberty b.size b.names m q ≡ true = and_from _ _ (eq-eqb (name_at b.names q) 0 (named_bare _ _ (is.named.named q) bare))
-      ((decided_is (touching b.size b.names m q)).1 (x, in_x, (near_back b.size x q in_x near, of))) in
+      ((decision_test_is_exact (touching b.size b.names m q)).1 (x, in_x, (near_back b.size x q in_x near, of))) in
       let two = two_counted (is_liberty b.size b.names m) (point_count b.size) p q in_p near.0 apart (liberty_p m t) also in
       omega (arith, one, two)
 
@@ -148,7 +148,7 @@ module _ (b : ChainBoard) (k : Colour) (p : ℕ) (is : IsChainBoard b) (in_p : p
       let least = some_liberty m t in
       let f = another_counted (is_liberty b.size b.names m) (point_count b.size) p (omega (arith, least, several)) in
       let parts = and_parts _ _ f.2 in
-      let r = (decided_is (touching b.size b.names m f.0)).0 parts.1 in
+      let r = (decision_test_is_exact (touching b.size b.names m f.0)).0 parts.1 in
       let bare = bare_named _ _ (is.named.named f.0) (eqb-true (name_at b.names f.0) 0 parts.0) in
       let stone_x = named_here x (λ z. some (sym of ∙ z)) in
       let stone_r = named_here r.0 (λ z. some (sym r.2.1 ∙ z)) in
@@ -223,16 +223,16 @@ module _ (b : ChainBoard) (k : Colour) (p : ℕ) (is : IsChainBoard b) (in_p : p
 
     -- the board with the stone, and without these
     abbrev taken : Colouring
-    taken = emptied b.size (λ q. decided (in_list weak (name_at b.names q))) (set b.points p (Some k))
+    taken = emptied b.size (λ q. decision_test (in_list weak (name_at b.names q))) (set b.points p (Some k))
 
     put_fits : length (set b.points p (Some k)) ≡ point_count b.size
     put_fits = length-set b.points p (Some k) ∙ is.fits
 
     taken_gone : (q : ℕ) → Contains weak (name_at b.names q) → entry_at taken q ≡ None
-    taken_gone q has = emptied_gone b.size _ (set b.points p (Some k)) q ((decided_is (in_list weak (name_at b.names q))).1 has)
+    taken_gone q has = emptied_gone b.size _ (set b.points p (Some k)) q ((decision_test_is_exact (in_list weak (name_at b.names q))).1 has)
 
     taken_kept : (q : ℕ) → (Contains weak (name_at b.names q) → ⊥) → entry_at taken q ≡ entry_at (set b.points p (Some k)) q
-    taken_kept q none = emptied_kept b.size _ (set b.points p (Some k)) q put_fits (decided_not (in_list weak (name_at b.names q)) none)
+    taken_kept q none = emptied_kept b.size _ (set b.points p (Some k)) q put_fits (decision_test_is_false (in_list weak (name_at b.names q)) none)
 
     -- a stone of a chain that goes
     weak_stone : (q : ℕ) → Contains weak (name_at b.names q) → (entry_at b.points q ≡ Some (other k)) × (q ≢ p)
@@ -350,13 +350,13 @@ module _ (b : ChainBoard) (k : Colour) (p : ℕ) (is : IsChainBoard b) (in_p : p
 
       -- the board without these, and without the stone
       abbrev left : Colouring
-      left = emptied b.size (λ q. decided (in_list mine (name_at b.names q))) b.points
+      left = emptied b.size (λ q. decision_test (in_list mine (name_at b.names q))) b.points
 
       left_gone : (q : ℕ) → Contains mine (name_at b.names q) → entry_at left q ≡ None
-      left_gone q has = emptied_gone b.size _ b.points q ((decided_is (in_list mine (name_at b.names q))).1 has)
+      left_gone q has = emptied_gone b.size _ b.points q ((decision_test_is_exact (in_list mine (name_at b.names q))).1 has)
 
       left_kept : (q : ℕ) → (Contains mine (name_at b.names q) → ⊥) → entry_at left q ≡ entry_at b.points q
-      left_kept q none = emptied_kept b.size _ b.points q is.fits (decided_not (in_list mine (name_at b.names q)) none)
+      left_kept q none = emptied_kept b.size _ b.points q is.fits (decision_test_is_false (in_list mine (name_at b.names q)) none)
 
       left_p : entry_at left p ≡ None
       left_p = left_kept p (λ has. (mine_is _ has).0 bare_p) ∙ free
@@ -449,7 +449,7 @@ module _ (b : ChainBoard) (k : Colour) (p : ℕ) (is : IsChainBoard b) (in_p : p
 -- ---- four names
 
 -- a chain of a colour is one of the names beside p exactly where one of its stones is beside p
-pub one_beside : (s : Size) (ns : List ℕ) (p : ℕ) (near : Names) (k : Colour) (Q : ℕ → Type 0) → AreNear s ns p near
+pub one_beside : (s : Size) (ns : List ℕ) (p : ℕ) (near : NeighbourNames) (k : Colour) (Q : ℕ → Type 0) → AreNear s ns p near
     → (m : ℕ) → (IsOneName near.above near.left near.right near.below m × (m / 512 ≡ colour_number k) × Q m)
     ↔ (((m ≢ 0) × (m ≢ 0) × Touches s ns m p) × (m / 512 ≡ colour_number k) × Q m)
 one_beside s ns p near k Q at m = (

@@ -8,7 +8,7 @@ use Rattle.tt_sgf.specs.declared.size.Size.{Size}
 use Rattle.tt_sgf.specs.Sizes.{point_count}
 use Rattle.tt_board.specs.Position.{Colouring}
 use Rattle.tt_board.specs.Reach.{entry_at}
-use Rattle.tt_board.specs.Decided.{same_entry}
+use Rattle.tt_board.specs.Decided.{decide_same_entry}
 use Rattle.tt_board.specs.Play.{other, clear, play_of}
 use Rattle.tt_board.specs.inside.Chains.{name_at, root_of, renamed, IsEachOnce}
 use Rattle.tt_board.proofs.CountLemmas.{in_list}
@@ -41,7 +41,7 @@ module _ (s : Size) (c d : Colouring) (k : Colour) (p : ℕ) (ns goes : List ℕ
   elsewhere : (q : ℕ) → q ≢ p → entry_at d q ≡ entry_at (play_of s c k p) q
   elsewhere q apart =
       let put = get_or-set_other c p q (Some k) None apart in
-      elim (same_entry (entry_at c q) None) [
+      elim (decide_same_entry (entry_at c q) None) [
         | inl bare ↦
             let now : entry_at (play_of s c k p) q ≡ None = elim (play_either s c k p q) [ inl b ↦ b | inr same ↦ same ∙ put ∙ bare ] in
             (elim (in_list goes (name_at ns q)) [ inl has ↦ gone q has | inr none ↦ kept q none ∙ bare ]) ∙ sym now

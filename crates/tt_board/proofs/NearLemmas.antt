@@ -5,7 +5,7 @@ use Rattle.std.proofs.lemmas.Nat.{div-mul-add, mod-mul-add, div-add-mod', mod_be
 use Rattle.std.proofs.lemmas.Option.{none-some}
 use Rattle.tt_sgf.specs.declared.size.Size.{Size}
 use Rattle.tt_sgf.specs.Sizes.{point_count}
-use Rattle.tt_board.specs.Near.{IsBeside, IsNeighbour}
+use Rattle.tt_board.specs.Near.{AreConsecutive, IsNeighbour}
 use Rattle.tt_board.specs.inside.Neighbours.{IsThere, IsOneOf, ahead, neighbours_there}
 use Rattle.tt_board.specs.inside.Chains.{IsEachOnce}
 use Rattle.tt_board.proofs.CountLemmas.{once_first}
@@ -19,7 +19,7 @@ pub data Side : ℕ → ℕ → ℕ → ℕ → Type 0 where
 
 -- a point beside p is one of the four
 pub side_of : (w h p q : ℕ) → 0 < w → p < w * h → q < w * h
-    → ((p / w ≡ q / w) × IsBeside (p % w) (q % w)) ⊎ ((p % w ≡ q % w) × IsBeside (p / w) (q / w)) → Side w h p q
+    → ((p / w ≡ q / w) × AreConsecutive (p % w) (q % w)) ⊎ ((p % w ≡ q % w) × AreConsecutive (p / w) (q / w)) → Side w h p q
 side_of w h p q pos in_p in_q (inl (same, inl step)) =
     let rows = ap (λ r. r * w) same in
     right w h p q (omega (arith, mod_below q w pos)) (omega (arith, div-add-mod' p w, div-add-mod' q w))

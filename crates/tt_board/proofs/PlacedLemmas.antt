@@ -8,7 +8,7 @@ use Rattle.tt_sgf.specs.Sizes.{point_count}
 use Rattle.tt_board.specs.Position.{Colouring}
 use Rattle.tt_board.specs.Reach.{entry_at, Reaches}
 use Rattle.tt_board.specs.ReachLaws.{reaches_beside, reaches_on, reaches_all}
-use Rattle.tt_board.specs.Decided.{same_entry}
+use Rattle.tt_board.specs.Decided.{decide_same_entry}
 use Rattle.tt_board.specs.Setup.{AllHaveLiberties}
 use Rattle.tt_board.specs.inside.Chains.{AreLinked, name_at, root_of, colour_number, IsNamed, stone_count, renamed, AreCounted, AreNames, AreNamesBut, OtherChainsCounted, IsChainBoard}
 use Rattle.tt_board.proofs.LinkLemmas.{linked_self, linked_kept, named_bare, stone_named, one_name}
@@ -24,7 +24,7 @@ alive_fewer s c d alive fewer x in_x stone =
     let r = alive x in_x (λ bare. stone (same ∙ bare)) in
     reaches_all s c None (λ y. entry_at d y ≢ None → Reaches s d y None)
     (λ y q in_y not_e near has there. reaches_beside s d None y q there near (elim (fewer q) [ inl e ↦ e ∙ has | inr bare ↦ bare ]))
-    (λ y q in_y not_e near alike later there. elim (same_entry (entry_at d q) None) [
+    (λ y q in_y not_e near alike later there. elim (decide_same_entry (entry_at d q) None) [
       | inl bare ↦ reaches_beside s d None y q there near bare
       | inr some ↦
           let kept = λ (z : ℕ) (h : entry_at d z ≢ None). (let e : entry_at d z ≡ entry_at c z = elim (fewer z) [ inl e' ↦ e' | inr bare ↦ absurd (h bare) ] in e) in

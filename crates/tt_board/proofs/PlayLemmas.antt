@@ -10,7 +10,7 @@ use Rattle.tt_sgf.specs.declared.size.Size.{Size}
 use Rattle.tt_sgf.specs.Sizes.{point_count}
 use Rattle.tt_board.specs.Reach.{entry_at, Reaches}
 use Rattle.tt_board.specs.ReachLaws.{reaches_beside, reaches_on, reaches_all}
-use Rattle.tt_board.specs.Decided.{reaches, reaches_is}
+use Rattle.tt_board.specs.Decided.{reaches, reaches_is_exact}
 use Rattle.tt_board.specs.Play.{other, same_colour, is_stone_of, cleared_entry, clear, play_of}
 use Rattle.tt_board.specs.Setup.{AllHaveLiberties}
 
@@ -57,7 +57,7 @@ length-clear s c k = length-map-range_with_len (cleared_entry s c k) 0 (point_co
 module _ (s : Size) (c : List (Option Colour)) (k : Colour) where
   -- what reaches empty stays
   stays_alive : (p : ℕ) → p < point_count s → Reaches s c p None → entry_at (clear s c k) p ≡ entry_at c p
-  stays_alive p in_p r = entry_at_clear s c k p in_p ∙ cleared_kept_alive s c k p ((reaches_is s c p None in_p).1 r)
+  stays_alive p in_p r = entry_at_clear s c k p in_p ∙ cleared_kept_alive s c k p ((reaches_is_exact s c p None in_p).1 r)
 
   -- and goes on to reach empty
   pub survives : (p : ℕ) → p < point_count s → Reaches s c p None → Reaches s (clear s c k) p None
@@ -76,7 +76,7 @@ module _ (s : Size) (c : List (Option Colour)) (k : Colour) where
   pub alive_after : (p : ℕ) → p < point_count s → entry_at (clear s c k) p ≢ None → (entry_at c p ≢ Some k → Reaches s c p None) → Reaches s (clear s c k) p None
   alive_after p in_p stone others =
       elim (cases_Bool (reaches s c p None)) [
-        | inl alive ↦ survives p in_p ((reaches_is s c p None in_p).0 alive)
+        | inl alive ↦ survives p in_p ((reaches_is_exact s c p None in_p).0 alive)
         | inr dead ↦ survives p in_p (others (λ mine. stone (entry_at_clear s c k p in_p ∙ cleared_gone s c k p mine dead)))
       ]
 

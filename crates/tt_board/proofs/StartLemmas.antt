@@ -6,7 +6,7 @@ use Rattle.std.proofs.lemmas.List.Elements.{Contains-get_or}
 use Rattle.tt_sgf.specs.declared.size.Size.{Size}
 use Rattle.tt_sgf.specs.Sizes.{point_count}
 use Rattle.tt_board.specs.inside.Chains.{name_at, root_of, Touches, touching, liberty_count, stone_count, count_beside, AreCounted, IsEachOnce, IsOneName, IsNewName, AreRootsApart}
-use Rattle.tt_board.specs.Decided.{decided, decided_is}
+use Rattle.tt_board.specs.Decided.{decision_test, decision_test_is_exact}
 use Rattle.tt_board.proofs.NameLemmas.{count_filled, count_alone, at_p, off_p}
 use Rattle.tt_board.proofs.JoinLemmas.{roots_apart, root_below, stones_none, stones_more, stones_same}
 
@@ -122,7 +122,7 @@ module _ (s : Size) (ns stones liberties : List ℕ) (p e : ℕ) (in_p : p < poi
   some_liberty m some t =
       let true' : name_at liberties (root_of m) ≡ liberty_count s ns m = subst (λ x. name_at liberties (root_of x) ≡ liberty_count s ns x) t.2.1
       (counted.liberties_true t.0 (λ z. some (sym t.2.1 ∙ z))) in
-      let one : ◌≡◌ {A = ℕ} (cond (decided (touching s ns m p)) 1 0) 1 = ap (λ b. cond b 1 0) ((decided_is (touching s ns m p)).1 t) in
+      let one : ◌≡◌ {A = ℕ} (cond (decision_test (touching s ns m p)) 1 0) 1 = ap (λ b. cond b 1 0) ((decision_test_is_exact (touching s ns m p)).1 t) in
       let filled = count_filled s ns p e in_p wide m (λ h. some (h ∙ free)) (λ h. fresh t.0 (t.2.1 ∙ h)) free living in
       omega (arith, true', one, filled)
 
@@ -178,14 +178,14 @@ module _ (s : Size) (ns stones liberties : List ℕ) (p e : ℕ) (in_p : p < poi
           let m = name_at ns q in
           let filled = count_filled s ns p e in_p wide m (λ h. was (h ∙ free)) (λ h. fresh q h) free living in
           let true' = counted.liberties_true q was in
-          elim (cases_Bool (decided (touching s ns m p))) [
+          elim (cases_Bool (decision_test (touching s ns m p))) [
             | inl on ↦
-                let one : ◌≡◌ {A = ℕ} (cond (decided (touching s ns m p)) 1 0) 1 = ap (λ b. cond b 1 0) on in
-                let h = less m was ((decided_is (touching s ns m p)).0 on) in
+                let one : ◌≡◌ {A = ℕ} (cond (decision_test (touching s ns m p)) 1 0) 1 = ap (λ b. cond b 1 0) on in
+                let h = less m was ((decision_test_is_exact (touching s ns m p)).0 on) in
                 omega (arith, one, filled, true', h)
             | inr off ↦
-                let none : ◌≡◌ {A = ℕ} (cond (decided (touching s ns m p)) 1 0) 0 = ap (λ b. cond b 1 0) off in
+                let none : ◌≡◌ {A = ℕ} (cond (decision_test (touching s ns m p)) 1 0) 0 = ap (λ b. cond b 1 0) off in
                 let h = same (root_of m) (λ k some t. roots_apart ns k m (touch_rooted s ns p counted.rooted k t some) (counted.rooted q was)
-                (λ e. false≢true (sym off ∙ (decided_is (touching s ns m p)).1 (subst (λ x. Touches s ns x p) e t)))) in
+                (λ e. false≢true (sym off ∙ (decision_test_is_exact (touching s ns m p)).1 (subst (λ x. Touches s ns x p) e t)))) in
                 omega (arith, none, filled, true', h)
           ]

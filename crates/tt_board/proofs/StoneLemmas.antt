@@ -8,8 +8,8 @@ use Rattle.std.specs.Ordering.{nat_cmp, eq_by_cmp}
 use Rattle.std.proofs.lemmas.Bool.{cases_lt, true≢false, false≢true, or_cases, and_from, and_parts, eqb-true, eq-eqb}
 use Rattle.tt_sgf.specs.declared.size.Size.{Size}
 use Rattle.tt_sgf.specs.Sizes.{point_count}
-use Rattle.tt_sgf.specs.laws.SizeLaws.{few_points}
-use Rattle.tt_sgf.specs.MachineWords.{bit_in, AreBitsOf, AreCovered}
+use Rattle.tt_sgf.specs.laws.SizeLaws.{point_count_is_bounded}
+use Rattle.tt_sgf.specs.MachineWords.{bit_in, AreBitsOf, IsWithinUnion}
 use Rattle.tt_board.specs.declared.Colour.{Colour}
 use Rattle.tt_board.specs.declared.Colour.TheVariants.{Black, White}
 use Rattle.tt_board.specs.Position.{Colouring}
@@ -57,33 +57,33 @@ all_or_one test (x ∷ xs) = step (test x) (list_all test xs) (list_any (λ p. n
     step false c d e = refl
 
 -- a test that can't be true is false
-denied : (b : Bool) → (b ≡ true → ⊥) → b ≡ false
-denied true h = absurd (h refl)
-denied false h = refl
+decide_not : (b : Bool) → (b ≡ true → ⊥) → b ≡ false
+decide_not true h = absurd (h refl)
+decide_not false h = refl
 
 -- words with the bits of the set, over two words of which one has the bit of each point that fails a test no
 module _ (s : Points) (n : ℕ) (small : n ≤ 361) (within : (p : ℕ) → set.contains s p ≡ true → p < n) (ws xs ys : List ℕ)
     (is : AreBitsOf ws 361 (λ p. set.contains s p)) (test : ℕ → Bool)
     (out : (p : ℕ) → p < n → test p ≡ true → (bit_in xs p || bit_in ys p) ≡ false) (in' : (p : ℕ) → p < n → test p ≡ false → (bit_in xs p || bit_in ys p) ≡ true) where
   -- where the two words cover the set, no point of it passes the test
-  none_fails : AreCovered ws xs ys → list_any test (set.items s) ≡ false
-  none_fails covered = denied _ (λ some.
+  none_fails : IsWithinUnion ws xs ys → list_any test (set.items s) ≡ false
+  none_fails covered = decide_not _ (λ some.
       let p = some_passes test (set.items s) some in
       let has = set.contains-items s p.0 ∙ p.1 in
       let lt = within p.0 has in
       true≢false (sym (covered p.0 (omega arith) (is.below p.0 (omega arith) (omega arith) ∙ has)) ∙ out p.0 lt p.2))
 
   -- where no point of the set passes the test, the two words cover it
-  covered_if : list_any test (set.items s) ≡ false → AreCovered ws xs ys
+  covered_if : list_any test (set.items s) ≡ false → IsWithinUnion ws xs ys
   covered_if none q lt on = elim (cases_lt q 361) [
     | inr past ↦ absurd (false≢true (sym (is.behind q past lt) ∙ on))
     | inl below ↦
         let has : set.contains s q ≡ true = sym (is.below q below lt) ∙ on in
-        in' q (within q has) (denied (test q) (λ yes'. false≢true (sym none ∙ passes_some test (set.items s) q (sym (set.contains-items s q) ∙ has) yes')))
+        in' q (within q has) (decide_not (test q) (λ yes'. false≢true (sym none ∙ passes_some test (set.items s) q (sym (set.contains-items s q) ∙ has) yes')))
   ]
 
   -- so whether they cover it tells whether some point passes
-  pub covers_is : (b : Bool) → ((b ≡ true → AreCovered ws xs ys) × (AreCovered ws xs ys → b ≡ true)) → not b ≡ list_any test (set.items s)
+  pub covers_is : (b : Bool) → ((b ≡ true → IsWithinUnion ws xs ys) × (IsWithinUnion ws xs ys → b ≡ true)) → not b ≡ list_any test (set.items s)
   covers_is true h = sym (none_fails (h.0 refl))
   covers_is false h = sym (by (list_any test (set.items s)) refl)
     where
@@ -108,7 +108,7 @@ module _ (s : Points) (n : ℕ) (small : n ≤ 361) (within : (p : ℕ) → set.
     (ws : List ℕ) (is : AreBitsOf ws 361 (λ p. set.contains s p)) where
   -- over the words of both colours' stones
   pub empty_is : (xs ys : List ℕ) → AreBitsOf xs n (λ p. is_stone_of (entry_at c p) Black) → AreBitsOf ys n (λ p. is_stone_of (entry_at c p) White)
-      → (b : Bool) → ((b ≡ true → AreCovered ws xs ys) × (AreCovered ws xs ys → b ≡ true)) → not b ≡ any_empty s c
+      → (b : Bool) → ((b ≡ true → IsWithinUnion ws xs ys) × (IsWithinUnion ws xs ys → b ≡ true)) → not b ≡ any_empty s c
   unfolding any_empty
   empty_is xs ys blacks whites =
       let told = λ (p : ℕ) (lt : p < n). (let h : (bit_in xs p || bit_in ys p) ≡ not (is_empty (entry_at c p))
@@ -117,7 +117,7 @@ module _ (s : Points) (n : ℕ) (small : n ≤ 361) (within : (p : ℕ) → set.
 
   -- over the words of one colour's stones
   pub all_is : (k : Colour) (xs : List ℕ) → AreBitsOf xs n (λ p. is_stone_of (entry_at c p) k)
-      → (b : Bool) → ((b ≡ true → AreCovered ws xs xs) × (AreCovered ws xs xs → b ≡ true)) → b ≡ all_stones_of s c k
+      → (b : Bool) → ((b ≡ true → IsWithinUnion ws xs xs) × (IsWithinUnion ws xs xs → b ≡ true)) → b ≡ all_stones_of s c k
   unfolding all_stones_of
   all_is k xs stones b h =
       let test = λ (p : ℕ). not (is_stone_of (entry_at c p) k) in
@@ -144,7 +144,7 @@ module _ (size : Size) (s : Points) (c : Colouring) (ws xs ys : List ℕ) (is : 
   left_told : (rest left : List ℕ) (p : ℕ) → p < point_count size → bit_in rest p ≡ (bit_in ws p && not (bit_in xs p)) → bit_in left p ≡ (bit_in rest p && not (bit_in ys p))
       → bit_in left p ≡ (set.contains s p && is_empty (entry_at c p))
   left_told rest left p lt first second =
-      let few : point_count size ≤ 361 = few_points size in
+      let few : point_count size ≤ 361 = point_count_is_bounded size in
       let small : p < 384 = omega (arith, lt, few) in
       second ∙ ap (λ b. b && not (bit_in ys p)) first ∙ neither (bit_in ws p) (bit_in xs p) (bit_in ys p)
       ∙ ap (λ b. b && not (bit_in xs p || bit_in ys p)) (is.below p (omega (arith, lt, few)) small)

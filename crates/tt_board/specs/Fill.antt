@@ -18,16 +18,16 @@ IsBesideFilled s c e m p =
     (entry_at c p ≢ e) × ((q : ℕ) × IsNeighbour s p q × ((entry_at c q ≡ e) ⊎ ((entry_at c q ≡ entry_at c p) × IsTrue (is_flagged m q))))
 
 -- only points that reach e are filled
-abbrev pub IsSound : Size → Colouring → Option Colour → List Bool → Type 0
-IsSound s c e m = (p : ℕ) → p < point_count s → IsTrue (is_flagged m p) → Reaches s c p e
+abbrev pub IsSoundFill : Size → Colouring → Option Colour → List Bool → Type 0
+IsSoundFill s c e m = (p : ℕ) → p < point_count s → IsTrue (is_flagged m p) → Reaches s c p e
 
 -- all that is next to the fill is filled
-abbrev pub IsClosed : Size → Colouring → Option Colour → List Bool → Type 0
-IsClosed s c e m = (p : ℕ) → p < point_count s → IsBesideFilled s c e m p → IsTrue (is_flagged m p)
+abbrev pub IsClosedFill : Size → Colouring → Option Colour → List Bool → Type 0
+IsClosedFill s c e m = (p : ℕ) → p < point_count s → IsBesideFilled s c e m p → IsTrue (is_flagged m p)
 
 -- exactly the points that reach e are filled
-abbrev pub IsFilled : Size → Colouring → Option Colour → List Bool → Type 0
-IsFilled s c e m = (p : ℕ) → p < point_count s → (IsTrue (is_flagged m p) → Reaches s c p e) × (Reaches s c p e → IsTrue (is_flagged m p))
+abbrev pub IsReachingFill : Size → Colouring → Option Colour → List Bool → Type 0
+IsReachingFill s c e m = (p : ℕ) → p < point_count s → (IsTrue (is_flagged m p) → Reaches s c p e) × (Reaches s c p e → IsTrue (is_flagged m p))
 
 -- how many points of the list aren't filled
 abbrev pub unfilled_count : List Bool → ℕ

@@ -8,5 +8,5 @@ use Rattle.tt_board.specs.Reach.{Reaches}
 use Rattle.tt_board.specs.Decided.{reaches}
 
 -- `reaches` is true exactly of the points from which a path leads
-abbrev pub TestDecides : Type 0
-TestDecides = (s : Size) (c : Colouring) (p : ℕ) (e : Option Colour) → p < point_count s → IsTrue (reaches s c p e) ↔ Reaches s c p e
+abbrev pub ReachesTestIsExact : Type 0
+ReachesTestIsExact = (s : Size) (c : Colouring) (p : ℕ) (e : Option Colour) → p < point_count s → IsTrue (reaches s c p e) ↔ Reaches s c p e

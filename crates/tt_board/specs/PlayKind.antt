@@ -8,7 +8,7 @@ use Rattle.tt_board.specs.Position.{Colouring}
 use Rattle.tt_board.specs.Play.{play_of}
 
 -- a play that captures nothing puts its stone and takes none off, a suicide of one stone leaves all as it was, and of others nothing is told
-abbrev pub IsKind : PlayKind → Size → Colouring → Colour → ℕ → Type 0
-IsKind NoCapture s c k p = play_of s c k p ≡ slice_set c p (Some k)
-IsKind SingleStoneSuicide s c k p = play_of s c k p ≡ c
-IsKind NeedsBoard s c k p = Unit {0}
+abbrev pub IsPlayOfKind : PlayKind → Size → Colouring → Colour → ℕ → Type 0
+IsPlayOfKind NoCapture s c k p = play_of s c k p ≡ slice_set c p (Some k)
+IsPlayOfKind SingleStoneSuicide s c k p = play_of s c k p ≡ c
+IsPlayOfKind NeedsBoard s c k p = Unit {0}

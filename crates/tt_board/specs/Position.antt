@@ -1,5 +1,5 @@
 -- What a board shows (the Tromp-Taylor rules of Go: each point of the grid is black, white or empty).
-use Rattle.std.specs.Prelude.{List, Option, map}
+use Rattle.std.specs.Prelude.{List, Option, map, Contains}
 use Rattle.tt_board.specs.declared.Colour.{Colour}
 use Rattle.tt_sgf.specs.declared.size.Size.{Size}
 
@@ -15,3 +15,7 @@ pub record Position : Type 0 where
 -- the colourings of boards
 abbrev pub colourings : List Position → List Colouring
 colourings bs = map (λ b. b.points) bs
+
+-- the colouring is in the history: positional superko bars a play that makes it
+abbrev pub HasBeen : List Colouring → Colouring → Type 0
+HasBeen history c = Contains history c

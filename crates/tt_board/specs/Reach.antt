@@ -15,9 +15,9 @@ IsPath s p [] = Unit {0}
 IsPath s p (q ∷ rest) = IsNeighbour s p q × IsPath s q rest
 
 -- where a path from p ends
-abbrev pub last_of : ℕ → List ℕ → ℕ
-last_of p [] = p
-last_of p (q ∷ rest) = last_of q rest
+abbrev pub path_end : ℕ → List ℕ → ℕ
+path_end p [] = p
+path_end p (q ∷ rest) = path_end q rest
 
 -- A path of adjacent points begins with p, all its points have p's entry, which is not e, and its last
 -- point has a neighbour with entry e
@@ -27,5 +27,5 @@ pub record Reaches (s : Size) (c : Colouring) (p : ℕ) (e : Option Colour) : Ty
   pub alike : All (λ q. entry_at c q ≡ entry_at c p) path
   pub other : entry_at c p ≢ e
   pub found : ℕ
-  pub beside : IsNeighbour s (last_of p path) found
+  pub beside : IsNeighbour s (path_end p path) found
   pub has_entry : entry_at c found ≡ e

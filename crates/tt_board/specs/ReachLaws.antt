@@ -9,8 +9,8 @@ use Rattle.tt_sgf.specs.declared.size.Size.{Size}
 use Rattle.tt_sgf.specs.Sizes.{point_count}
 use Rattle.tt_board.specs.Near.{IsNeighbour}
 use Rattle.tt_board.specs.Position.{Colouring}
-use Rattle.tt_board.specs.Reach.{entry_at, IsPath, last_of, Reaches}
-use Rattle.tt_board.specs.Fill.{is_flagged, IsBesideFilled, IsSound, IsClosed, IsFilled, unfilled_count}
+use Rattle.tt_board.specs.Reach.{entry_at, IsPath, path_end, Reaches}
+use Rattle.tt_board.specs.Fill.{is_flagged, IsBesideFilled, IsSoundFill, IsClosedFill, IsReachingFill, unfilled_count}
 
 module _ (s : Size) (c : Colouring) (e : Option Colour) where
   -- a point beside one with entry e reaches it
@@ -43,7 +43,7 @@ module _ (s : Size) (c : Colouring) (e : Option Colour) where
       → ((p q : ℕ) → p < point_count s → entry_at c p ≢ e → IsNeighbour s p q → entry_at c q ≡ e → S p)
       → ((p q : ℕ) → p < point_count s → entry_at c p ≢ e → IsNeighbour s p q → entry_at c q ≡ entry_at c p → S q → S p)
       → (p : ℕ) (path : List ℕ) → p < point_count s → IsPath s p path → All (λ q. entry_at c q ≡ entry_at c p) path
-      → entry_at c p ≢ e → (found : ℕ) → IsNeighbour s (last_of p path) found → entry_at c found ≡ e → S p
+      → entry_at c p ≢ e → (found : ℕ) → IsNeighbour s (path_end p path) found → entry_at c found ≡ e → S p
   reaches_all S at_edge spread p [] in_p linked alike other found near has = at_edge p found in_p other near has
   reaches_all S at_edge spread p (q ∷ rest) in_p linked alike other found near has =
       let same = All-head (λ x. entry_at c x ≡ entry_at c p) q rest alike in
@@ -54,12 +54,12 @@ module _ (s : Size) (c : Colouring) (e : Option Colour) where
       (λ h. other (sym same ∙ h)) found near has)
 
   -- a step of the fill takes only what reaches e
-  pub next_reaches : (m : List Bool) (p : ℕ) → IsSound s c e m → IsBesideFilled s c e m p → Reaches s c p e
+  pub next_reaches : (m : List Bool) (p : ℕ) → IsSoundFill s c e m → IsBesideFilled s c e m p → Reaches s c p e
   next_reaches m p sound (other, (q, near, inl has)) = reaches_beside p q other near has
   next_reaches m p sound (other, (q, near, inr like)) = reaches_on p q near like.0 (sound q near.0 like.1)
 
   -- a fill that can't go on has all that reaches e
-  pub filled : (m : List Bool) → IsSound s c e m → IsClosed s c e m → IsFilled s c e m
+  pub filled : (m : List Bool) → IsSoundFill s c e m → IsClosedFill s c e m → IsReachingFill s c e m
   filled m sound closed p in_p = (
     sound p in_p,
     λ r.
@@ -70,7 +70,7 @@ module _ (s : Size) (c : Colouring) (e : Option Colour) where
   )
 
   -- a point that is next may be filled
-  pub sound_more : (m : List Bool) (p : ℕ) → p < length m → IsSound s c e m → IsBesideFilled s c e m p → IsSound s c e (set m p true)
+  pub sound_more : (m : List Bool) (p : ℕ) → p < length m → IsSoundFill s c e m → IsBesideFilled s c e m p → IsSoundFill s c e (set m p true)
   sound_more m p in_m sound next q in_q in_fill =
       elim (cases_eq q p) [
         | inl same ↦ subst (λ x. Reaches s c x e) (sym same) (next_reaches m p sound next)

@@ -9,7 +9,7 @@ use crate::area::{count_area, empty_reaching};
 use crate::colouring::Colouring;
 use crate::colouring::fill::empty_points;
 use crate::counted::CountedBoard;
-use crate::setup::{cover, first_lifeless};
+use crate::setup::{first_without_liberty, place_stones};
 use std::marker::Model;
 use tt_sgf::{Bits, Point, PointSet, Size};
 
@@ -60,7 +60,7 @@ impl Board {
     }
 
     /// The board that shows this colouring, in which each stone reaches empty.
-    pub(crate) fn showing(size: Size, points: Colouring) -> Board
+    pub(crate) fn from_colouring(size: Size, points: Colouring) -> Board
         requires fits { length points ≡ point_count size }
         requires alive { AllHaveLiberties size points }
         ensures { result ≡ record { size = size; points = points } }
@@ -69,7 +69,7 @@ impl Board {
     }
 
     /// Becomes the board that shows this colouring, in which each stone reaches empty. It is written in place.
-    pub(crate) fn show(&mut self, size: Size, points: &Colouring)
+    pub(crate) fn set_to_colouring(&mut self, size: Size, points: &Colouring)
         requires fits { length points.now ≡ point_count size }
         requires alive { AllHaveLiberties size points.now }
         ensures { self.new ≡ record { size = size; points = points.now } }
@@ -168,11 +168,11 @@ impl Board {
             (λ e. IsLeastWithoutLiberty self.now.size points e.0) }
     {
         let mut points = self.points.copy();
-        cover(self.size, &mut points, black, white, clear);
+        place_stones(self.size, &mut points, black, white, clear);
         if points.same(&self.points) {
             return Ok(self.copy());
         }
-        if let Some(p) = first_lifeless(self.size, &points) {
+        if let Some(p) = first_without_liberty(self.size, &points) {
             return Err(Lifeless(p));
         }
         Ok(Board {
@@ -185,11 +185,11 @@ impl Board {
     pub fn same(&self, other: &Board) -> bool
         ensures { IsTrue result ↔ (self.now ≡ other.now) }
     {
-        self.shows(other.size, &other.points)
+        self.has_colouring(other.size, &other.points)
     }
 
     /// The colouring, with an entry for each point of the board, in which each stone reaches empty.
-    pub(crate) fn points(&self) -> &Colouring
+    pub(crate) fn colouring(&self) -> &Colouring
         ensures value { result.now ≡ self.now.points }
         ensures fits { length self.now.points ≡ point_count self.now.size }
         ensures alive { AllHaveLiberties self.now.size self.now.points }
@@ -198,7 +198,7 @@ impl Board {
     }
 
     /// Whether the board has this size and colouring.
-    pub(crate) fn shows(&self, size: Size, points: &Colouring) -> bool
+    pub(crate) fn has_colouring(&self, size: Size, points: &Colouring) -> bool
         ensures { IsTrue result ↔ (self.now ≡ record { size = size; points = points.now }) }
     {
         if !self.points.same(points) {

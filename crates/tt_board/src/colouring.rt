@@ -45,7 +45,7 @@ fn is_stone_of(entry: Option<Colour>, colour: Colour) -> bool
 }
 
 /// No stone on any point.
-fn no_stones() -> [Option<Colour>; 361]
+fn empty_entries() -> [Option<Colour>; 361]
     ensures { result ≡ replicate MOST_POINTS None }
 {
     [None; 361]
@@ -140,7 +140,7 @@ impl Colouring {
 
     /// Bits that are 1 wherever the entries differ. Contracts say that where a bit is 0 they are alike, which is all that
     /// keeping boards rests on.
-    pub(crate) fn apart(&self, other: &Colouring) -> Bits
+    pub(crate) fn differing_points(&self, other: &Colouring) -> Bits
         ensures { (q : ℕ) → q < BITS → bit_in result.words q ≡ false → entry_at self.now q ≡ entry_at other.now q }
     {
         self.black
@@ -154,7 +154,7 @@ impl Colouring {
         ensures wide { length result ≡ MOST_POINTS }
         ensures rest { (k : ℕ) → length self.now ≤ k → entry_at result k ≡ None }
     {
-        let mut entries = no_stones();
+        let mut entries = empty_entries();
         for p in 0..self.count {
             entries[p] = self.at(p);
         }

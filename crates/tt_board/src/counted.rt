@@ -3,15 +3,15 @@
 //! It has some two thousand bytes and a `Board` a hundred, so a history keeps that.
 
 pub(crate) mod captures;
+pub(crate) mod chain_names;
 pub(crate) mod chains;
 pub(crate) mod joins;
-pub(crate) mod looks;
-pub(crate) mod names;
+pub(crate) mod play_effects;
 pub(crate) mod play_kind;
 
 ghost use Rattle.tt_board.specs.Reach.{entry_at};
 ghost use Rattle.tt_board.specs.Play.{play_of};
-ghost use Rattle.tt_board.specs.PlayKind.{IsKind};
+ghost use Rattle.tt_board.specs.PlayKind.{IsPlayOfKind};
 ghost use Rattle.tt_sgf.specs.declared.bits.TheConstants.{BITS};
 ghost use Rattle.tt_sgf.specs.Sizes.{point_count};
 ghost use Rattle.tt_sgf.specs.MachineWords.{bit_in};
@@ -44,7 +44,7 @@ impl CountedBoard {
         ensures { result ≡ board.now }
     {
         CountedBoard {
-            chains: Chains::of(board.size(), board.points()),
+            chains: Chains::of(board.size(), board.colouring()),
         }
     }
 
@@ -68,14 +68,14 @@ impl CountedBoard {
     pub fn board(&self) -> Board
         ensures { result ≡ self.now }
     {
-        Board::showing(self.chains.size(), self.chains.points().copy())
+        Board::from_colouring(self.chains.size(), self.chains.colouring().copy())
     }
 
     /// Makes another board the plain board that this one is. It is written in place, so that no board is moved.
-    pub fn show_on(&self, board: &mut Board)
+    pub fn write_to_board(&self, board: &mut Board)
         ensures { board.new ≡ self.now }
     {
-        board.show(self.chains.size(), self.chains.points());
+        board.set_to_colouring(self.chains.size(), self.chains.colouring());
     }
 
     /// What is told of a play of `colour` on `p`, an empty point, by the points beside it.
@@ -84,7 +84,7 @@ impl CountedBoard {
         requires on_board { p < point_count self.now.size }
         requires free { entry_at self.now.points p ≡ None }
         ensures fits { length self.now.points ≡ point_count self.now.size }
-        ensures kind { IsKind result self.now.size self.now.points colour p }
+        ensures kind { IsPlayOfKind result self.now.size self.now.points colour p }
     {
         self.chains.play_kind(colour, usize::from(p.number()))
     }
@@ -113,13 +113,13 @@ impl CountedBoard {
     pub fn after_of_kind(&self, colour: Colour, p: Point, kind: PlayKind) -> Board
         requires on_board { p < point_count self.now.size }
         requires free { entry_at self.now.points p ≡ None }
-        requires kind { IsKind kind self.now.size self.now.points colour p }
+        requires kind { IsPlayOfKind kind self.now.size self.now.points colour p }
         ensures { result ≡ record { size = self.now.size; points = play_of self.now.size self.now.points colour p } }
     {
         let points = self
             .chains
-            .points_after(colour, usize::from(p.number()), kind);
-        Board::showing(self.chains.size(), points)
+            .colouring_after(colour, usize::from(p.number()), kind);
+        Board::from_colouring(self.chains.size(), points)
     }
 
     /// Plays `colour` on `p`, an empty point.
@@ -128,7 +128,7 @@ impl CountedBoard {
         requires free { entry_at self.old.points p ≡ None }
         ensures { self.new ≡ record { size = self.old.size; points = play_of self.old.size self.old.points colour p } }
     {
-        self.chains.make(colour, usize::from(p.number()));
+        self.chains.play_stone(colour, usize::from(p.number()));
     }
 
     /// Becomes what another board is after a play of `colour` on `p`, an empty point of that one.

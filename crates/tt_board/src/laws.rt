@@ -1,8 +1,8 @@
 //! Laws of the definitions, each the contract of a function that does nothing.
 
-ghost use Rattle.tt_board.specs.Laws.{TestDecides};
+ghost use Rattle.tt_board.specs.Laws.{ReachesTestIsExact};
 
 /// The test `reaches` of the definitions is true exactly of the points from which a path leads.
 pub fn reaches_decides()
-    ensures { TestDecides }
+    ensures { ReachesTestIsExact }
 {}

@@ -18,7 +18,7 @@ pub(crate) struct Neighbours {
 }
 
 /// The point at a distance before `p`, where there is one.
-fn before(there: bool, p: usize, distance: usize) -> Option<usize>
+fn point_before_if(there: bool, p: usize, distance: usize) -> Option<usize>
     requires { IsTrue there → distance ≤ p }
     ensures { IsThere result (IsTrue there) (p - distance) }
 {
@@ -26,7 +26,7 @@ fn before(there: bool, p: usize, distance: usize) -> Option<usize>
 }
 
 /// The point at a distance after `p`, where there is one.
-fn after(there: bool, p: usize, distance: usize) -> Option<usize>
+fn point_after_if(there: bool, p: usize, distance: usize) -> Option<usize>
     requires { p + distance < 1000 }
     ensures { IsThere result (IsTrue there) (p + distance) }
 {
@@ -35,7 +35,7 @@ fn after(there: bool, p: usize, distance: usize) -> Option<usize>
 
 /// The neighbours of `p` by their points, for those who look at each once and may stop early.
 #[inline]
-pub(crate) fn beside(size: Size, p: usize) -> Neighbours
+pub(crate) fn neighbours_of(size: Size, p: usize) -> Neighbours
     requires { p < point_count size }
     ensures all { (q : ℕ) → IsOneOf result.above result.left result.right result.below q ↔ IsNeighbour size p q }
     ensures once { IsEachOnce (neighbours_there result.above result.left result.right result.below) }
@@ -44,9 +44,9 @@ pub(crate) fn beside(size: Size, p: usize) -> Neighbours
     let columns = usize::from(size.columns());
     let column = p % columns;
     Neighbours {
-        above: before(columns <= p, p, columns),
-        left: before(0 < column, p, 1),
-        right: after(column + 1 < columns, p, 1),
-        below: after(p + columns < count, p, columns),
+        above: point_before_if(columns <= p, p, columns),
+        left: point_before_if(0 < column, p, 1),
+        right: point_after_if(column + 1 < columns, p, 1),
+        below: point_after_if(p + columns < count, p, columns),
     }
 }

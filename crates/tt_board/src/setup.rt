@@ -10,7 +10,7 @@ use crate::colouring::fill::{empty_points, reaching};
 use tt_sgf::{Point, PointSet, Size};
 
 /// Puts the points of the sets over what stands there.
-pub(crate) fn cover(
+pub(crate) fn place_stones(
     size: Size,
     points: &mut Colouring,
     black: &PointSet,
@@ -34,7 +34,7 @@ pub(crate) fn cover(
 }
 
 /// The least point whose stone doesn't reach empty.
-pub(crate) fn first_lifeless(size: Size, points: &Colouring) -> Option<Point>
+pub(crate) fn first_without_liberty(size: Size, points: &Colouring) -> Option<Point>
     requires { length points.now ≡ point_count size }
     ensures { MatchOption result (AllHaveLiberties size points.now) (IsLeastWithoutLiberty size points.now) }
 {

@@ -7,7 +7,7 @@ use tt_sgf::NoMemory;
 
 /// How many positions may still be visited. Each visit takes one off.
 #[derive(Clone, Copy, Debug, PartialEq, Eq)]
-pub struct Visits {
+pub struct VisitsLeft {
     pub left: u32,
 }
 
@@ -19,7 +19,7 @@ pub trait Advice {
         &mut self,
         line: &Line,
         refused: u16,
-        visits: &mut Visits,
+        visits: &mut VisitsLeft,
     ) -> Result<Option<Turn>, NoMemory>
         ensures fewer { visits.new.left ≤ visits.old.left };
 }

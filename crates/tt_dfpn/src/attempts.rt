@@ -3,9 +3,9 @@
 ghost use Rattle.std.specs.Prelude.{◌≡◌, ◌≤◌, IfOk, IfSome};
 ghost use Rattle.tt_proof.specs.declared.tree.TheConstants.{MOST_DEPTH};
 ghost use Rattle.tt_proof.specs.Strategy as strategy;
-ghost use Rattle.tt_proof.specs.Proven.{StandsAt};
+ghost use Rattle.tt_proof.specs.ProofClaim.{StandsAt};
 
-use crate::advice::Visits;
+use crate::advice::VisitsLeft;
 use crate::certifier::certify;
 use crate::finder::Advisor;
 use std::alloc::Global;
@@ -26,7 +26,7 @@ pub fn find_proof(
     alloc: Global,
     line: &mut Line,
     depth: u16,
-    visits: &mut Visits,
+    visits: &mut VisitsLeft,
 ) -> Result<Option<Proof>, NoMemory>
     requires depth { depth ≤ MOST_DEPTH }
     ensures stands { IfOk result (λ o. IfSome o (λ p. StandsAt p line.old.frame line.old.state)) }
@@ -35,9 +35,9 @@ pub fn find_proof(
     ensures same { line.new ≡ line.old }
 {
     let mut memo = PrivateStore::with_capacity(alloc, visits.left as usize);
-    let mut advisor = Advisor::at(alloc, line, visits.left)?;
+    let mut advisor = Advisor::new(alloc, line, visits.left)?;
     for attempt in 0..MOST_ATTEMPTS {
-        let Some(side) = advisor.winner(line, visits)? else {
+        let Some(side) = advisor.search_winner(line, visits)? else {
             return Ok(None);
         };
         let found = certify(alloc, line, side, depth, &mut advisor, &mut memo, visits)?;
@@ -45,7 +45,7 @@ pub fn find_proof(
             return Ok(found);
         }
         if attempt == 0 {
-            advisor.look_at_all();
+            advisor.restart_without_pruning();
         }
     }
     Ok(None)

@@ -4,10 +4,10 @@ ghost use Rattle.std.specs.Prelude.{◌≡◌, ◌≤◌, ◌<◌, ◌+◌, true
 ghost use Rattle.tt_game.specs.Game.{winner_of, opponent, IsLegal};
 ghost use Rattle.tt_proof.specs.declared.tree.TheConstants.{MOST_DEPTH};
 ghost use Rattle.tt_proof.specs.Strategy.{depth};
-ghost use Rattle.tt_proof.specs.Proven.{StandsAt, IsChild};
+ghost use Rattle.tt_proof.specs.ProofClaim.{StandsAt, IsChild};
 
-use crate::advice::{Advice, Visits};
-use crate::memo::{keep, known};
+use crate::advice::{Advice, VisitsLeft};
+use crate::memo::{keep, known_proof};
 use std::alloc::Global;
 use tt_game::{Line, Side, Turn};
 use tt_proof::Proof;
@@ -15,10 +15,10 @@ use tt_search::Store;
 use tt_sgf::NoMemory;
 
 /// How many turns the certifier asks for at one line.
-const MOST_ASKED: u16 = 362;
+const MOST_ADVISED_TURNS: u16 = 362;
 
 /// Whether two sides are the same.
-fn is_same(a: Side, b: Side) -> bool
+fn is_same_side(a: Side, b: Side) -> bool
     ensures yes { result ≡ true → a ≡ b }
     ensures no { result ≡ false → b ≡ opponent a }
 {
@@ -34,7 +34,7 @@ pub fn certify<A: Advice, S: Store>(
     room: u16,
     advice: &mut A,
     memo: &mut S,
-    visits: &mut Visits,
+    visits: &mut VisitsLeft,
 ) -> Result<Option<Proof>, NoMemory>
     requires room { room ≤ MOST_DEPTH }
     ensures stands { IfOk result (λ o. IfSome o (λ p. StandsAt p line.old.frame line.old.state)) }
@@ -44,18 +44,18 @@ pub fn certify<A: Advice, S: Store>(
     ensures same { line.new ≡ line.old }
 {
     match line.winner() {
-        Some(winner) => won(alloc, line, side, winner),
+        Some(winner) => proof_if_won(alloc, line, side, winner),
         None => {
-            if is_same(line.to_move(), side) {
-                let known = known(alloc, line, side, room, memo)?;
-                if known.is_some() {
-                    return Ok(known);
+            if is_same_side(line.to_move(), side) {
+                let known_proof = known_proof(alloc, line, side, room, memo)?;
+                if known_proof.is_some() {
+                    return Ok(known_proof);
                 }
             }
             if room == 0 || visits.left == 0 {
                 return Ok(None);
             }
-            visited(alloc, line, side, room, advice, memo, visits)
+            proof_by_visit(alloc, line, side, room, advice, memo, visits)
         }
     }
 }
@@ -63,14 +63,14 @@ pub fn certify<A: Advice, S: Store>(
 /// The same where nobody has won and nothing is known: a visit. A proof is kept where the side is to move: fewer lines lead to the
 /// others.
 #[cycle(certifying)]
-fn visited<A: Advice, S: Store>(
+fn proof_by_visit<A: Advice, S: Store>(
     alloc: Global,
     line: &mut Line,
     side: Side,
     room: u16,
     advice: &mut A,
     memo: &mut S,
-    visits: &mut Visits,
+    visits: &mut VisitsLeft,
 ) -> Result<Option<Proof>, NoMemory>
     requires room { room ≤ MOST_DEPTH }
     requires some { 0 < room }
@@ -83,16 +83,21 @@ fn visited<A: Advice, S: Store>(
     ensures same { line.new ≡ line.old }
 {
     visits.left -= 1;
-    if !is_same(line.to_move(), side) {
-        return replied(alloc, line, side, room, advice, memo, visits);
+    if !is_same_side(line.to_move(), side) {
+        return proof_by_reply(alloc, line, side, room, advice, memo, visits);
     }
-    let found = picked(alloc, line, side, room, advice, memo, visits)?;
+    let found = proof_by_advice(alloc, line, side, room, advice, memo, visits)?;
     keep(alloc, line, &found, memo);
     Ok(found)
 }
 
 /// The proof where the winner has won, if this is the side.
-fn won(alloc: Global, line: &Line, side: Side, winner: Side) -> Result<Option<Proof>, NoMemory>
+fn proof_if_won(
+    alloc: Global,
+    line: &Line,
+    side: Side,
+    winner: Side,
+) -> Result<Option<Proof>, NoMemory>
     requires { winner_of line.now.frame line.now.state ≡ Some winner }
     ensures stands { IfOk result (λ o. IfSome o (λ p. StandsAt p line.now.frame line.now.state)) }
     ensures side { IfOk result (λ o. IfSome o (λ p. p.side ≡ side)) }
@@ -107,7 +112,7 @@ fn won(alloc: Global, line: &Line, side: Side, winner: Side) -> Result<Option<Pr
 
 /// The proof behind a legal turn, for the side, or none. The line stands as before.
 #[cycle(certifying)]
-fn behind<A: Advice, S: Store>(
+fn proof_after<A: Advice, S: Store>(
     alloc: Global,
     line: &mut Line,
     side: Side,
@@ -115,7 +120,7 @@ fn behind<A: Advice, S: Store>(
     turn: &Turn,
     advice: &mut A,
     memo: &mut S,
-    visits: &mut Visits,
+    visits: &mut VisitsLeft,
 ) -> Result<Option<Proof>, NoMemory>
     requires room { room < MOST_DEPTH }
     requires legal { IsLegal line.old.frame line.old.state turn.now }
@@ -144,14 +149,14 @@ fn is_legal(line: &Line, turn: &Turn) -> bool
 
 /// The proof that plays an advised turn, where the side is to move. Each turn that is refused is asked for again.
 #[cycle(certifying)]
-fn picked<A: Advice, S: Store>(
+fn proof_by_advice<A: Advice, S: Store>(
     alloc: Global,
     line: &mut Line,
     side: Side,
     room: u16,
     advice: &mut A,
     memo: &mut S,
-    visits: &mut Visits,
+    visits: &mut VisitsLeft,
 ) -> Result<Option<Proof>, NoMemory>
     requires room { room ≤ MOST_DEPTH }
     requires some { 0 < room }
@@ -163,13 +168,13 @@ fn picked<A: Advice, S: Store>(
     ensures fewer { visits.new.left ≤ visits.old.left }
     ensures same { line.new ≡ line.old }
 {
-    for refused in 0..MOST_ASKED {
+    for refused in 0..MOST_ADVISED_TURNS {
         let Some(turn) = advice.advise(line, refused, visits)? else {
             return Ok(None);
         };
-        let tried = tried(alloc, line, side, room, &turn, advice, memo, visits)?;
-        if tried.is_some() {
-            return Ok(tried);
+        let proof_by_turn = proof_by_turn(alloc, line, side, room, &turn, advice, memo, visits)?;
+        if proof_by_turn.is_some() {
+            return Ok(proof_by_turn);
         }
     }
     Ok(None)
@@ -177,7 +182,7 @@ fn picked<A: Advice, S: Store>(
 
 /// The proof that plays this turn, where it is legal and the side wins behind it.
 #[cycle(certifying)]
-fn tried<A: Advice, S: Store>(
+fn proof_by_turn<A: Advice, S: Store>(
     alloc: Global,
     line: &mut Line,
     side: Side,
@@ -185,7 +190,7 @@ fn tried<A: Advice, S: Store>(
     turn: &Turn,
     advice: &mut A,
     memo: &mut S,
-    visits: &mut Visits,
+    visits: &mut VisitsLeft,
 ) -> Result<Option<Proof>, NoMemory>
     requires room { room ≤ MOST_DEPTH }
     requires some { 0 < room }
@@ -199,12 +204,12 @@ fn tried<A: Advice, S: Store>(
     if !is_legal(line, turn) {
         return Ok(None);
     }
-    let child = behind(alloc, line, side, room - 1, turn, advice, memo, visits)?;
-    played(alloc, line, room, turn, child)
+    let child = proof_after(alloc, line, side, room - 1, turn, advice, memo, visits)?;
+    proof_from_child(alloc, line, room, turn, child)
 }
 
 /// The proof that plays the turn and goes on with the child, where there is one.
-fn played(
+fn proof_from_child(
     alloc: Global,
     line: &Line,
     room: u16,
@@ -227,14 +232,14 @@ fn played(
 
 /// The proof that answers each legal turn, where the other side is to move.
 #[cycle(certifying)]
-fn replied<A: Advice, S: Store>(
+fn proof_by_reply<A: Advice, S: Store>(
     alloc: Global,
     line: &mut Line,
     side: Side,
     room: u16,
     advice: &mut A,
     memo: &mut S,
-    visits: &mut Visits,
+    visits: &mut VisitsLeft,
 ) -> Result<Option<Proof>, NoMemory>
     requires room { room ≤ MOST_DEPTH }
     requires some { 0 < room }
@@ -249,7 +254,8 @@ fn replied<A: Advice, S: Store>(
     let turns = line.turns();
     let mut children = Vec::with_capacity(alloc, turns.len())?;
     for turn in turns.as_slice() {
-        let Some(child) = behind(alloc, line, side, room - 1, turn, advice, memo, visits)? else {
+        let Some(child) = proof_after(alloc, line, side, room - 1, turn, advice, memo, visits)?
+        else {
             return Ok(None);
         };
         children.push((*turn, child))?;

@@ -13,7 +13,7 @@ mod certifier;
 mod finder;
 mod memo;
 
-pub use advice::{Advice, Visits};
+pub use advice::{Advice, VisitsLeft};
 pub use attempts::{MOST_POSITIONS, find_proof};
 pub use certifier::certify;
 pub use finder::Advisor;

@@ -14,7 +14,7 @@ use Rattle.tt_board.specs.Play.{is_stone_of}
 use Rattle.tt_sgf.specs.declared.size.Size.{Size}
 use Rattle.tt_sgf.specs.Sizes.{point_count}
 use Rattle.tt_sgf.specs.MachineWords.{bit_in, AreBitsOf}
-use Rattle.tt_sgf.specs.laws.SizeLaws.{few_points}
+use Rattle.tt_sgf.specs.laws.SizeLaws.{point_count_is_bounded}
 use Rattle.tt_game.specs.declared.frame.Frame.{Frame}
 use Rattle.tt_game.specs.Game.{State}
 use Rattle.tt_game.specs.Keys.{bits_of, value_of_bits, words_of, bit_words, key_of}
@@ -67,7 +67,7 @@ pub bit_words_tells : (size : Size) (test tell : ℕ → Bool) → words_of 6 (b
 unfolding bits_of
 bit_words_tells size test tell h p lt =
     let n = point_count size in
-    let few = few_points size in
+    let few = point_count_is_bounded size in
     let wide = λ (t : ℕ → Bool). (let w : length (map t (range_with_len 0 n) ++ replicate (384 - n) false) ≡ 64 * 6 = omega
     (arith, few, length-append (map t (range_with_len 0 n)) (replicate (384 - n) false), length-map-range_with_len t 0 n, length-replicate (384 - n) false) in w) in
     let bits = append_cancel_right (map test (range_with_len 0 n)) (map tell (range_with_len 0 n)) (replicate (384 - n) false) (words_tell 6 _ _ (wide test) (wide tell) h) in

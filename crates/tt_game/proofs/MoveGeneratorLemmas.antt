@@ -15,11 +15,11 @@ use Rattle.tt_game.specs.declared.frame.Frame.{Frame}
 use Rattle.tt_game.specs.declared.frame.Side.TheVariants.{Attacker}
 use Rattle.tt_game.specs.GameHistory.{HasBeen}
 use Rattle.tt_game.specs.Game.{State, history, side_colour, made, winner_of, winner_on}
-use Rattle.tt_game.specs.MoveGenerators.{IsKindAt}
+use Rattle.tt_game.specs.MoveGenerators.{IsForetoldKind}
 
 -- a stone that comes alone, on a point where its colour never stood, makes a colouring that hasn't been
 pub no_capture_where_new : (f : Frame) (s : State) (k : Colour) (p : ℕ) → k ≡ side_colour f s.to_move → length s.present ≡ point_count f.size → p < point_count f.size
-    → play_of f.size s.present k p ≡ set s.present p (Some k) → ((c : Colouring) → HasBeen (history s) c → entry_at c p ≡ Some k → ⊥) → IsKindAt NoCapture f s p
+    → play_of f.size s.present k p ≡ set s.present p (Some k) → ((c : Colouring) → HasBeen (history s) c → entry_at c p ≡ Some k → ⊥) → IsForetoldKind NoCapture f s p
 no_capture_where_new f s k p colour fits on no_capture never =
     let here : entry_at (set s.present p (Some k)) p ≡ Some k = get_or-set_same s.present p (Some k) None (omega (arith, fits, on)) in
     rw (sym colour) (λ has. never _ has (ap (λ xs. entry_at xs p) no_capture ∙ here), no_capture)

@@ -10,7 +10,7 @@ use Rattle.std.proofs.lemmas.List.Folds.{list_all-append, list_any-append}
 use lib.Pointwise.{pointwise}
 use Rattle.tt_sgf.specs.declared.size.Size.{Size}
 use Rattle.tt_sgf.specs.declared.nodes.Property.{Property}
-use Rattle.tt_sgf.specs.Entries.{set_of, covers, is_entry}
+use Rattle.tt_sgf.specs.PointLists.{set_of, covers, is_entry}
 use Rattle.tt_sgf.specs.Points.{passing}
 use Rattle.tt_sgf.specs.laws.PointLaws.{contains-passing}
 use Rattle.std.proofs.lemmas.Option.{none-some}

@@ -13,8 +13,8 @@ use Rattle.tt_game.specs.Game.{winner_of}
 use Rattle.tt_game.specs.Games.{GameState}
 use Rattle.tt_game.specs.Line.{LineWithUndo}
 use Rattle.tt_game.specs.Nodes.{TR, has, set_named}
-use Rattle.tt_game.specs.Problems.{common_colour, posed, problem_of_sets, problem_of, problem_on, problem_with, region_of, run_to_mark}
-use Rattle.tt_game.specs.Records.{and_then, begin_line, step_node}
+use Rattle.tt_game.specs.Problems.{common_colour, posed_problem, problem_of_sets, problem_of, problem_on, problem_with, region_of, problem_at_targets}
+use Rattle.tt_game.specs.Records.{and_then, begin_record, step_node}
 
 -- nobody has won at it
 abbrev IsOpen : LineWithUndo → Type 0
@@ -34,8 +34,8 @@ either false x y z e = inr e
 open_with : (s : GameState) (region targets : Points) (o : Option Colour) (q : LineWithUndo) → any_empty targets s.present ≡ false → problem_with s region targets o ≡ Ok q → IsOpen q
 open_with s region targets None q full h = let bad : Err _ ≡ Ok q = h in cc
 open_with s region targets (Some k) q full h =
-    let same : posed s region targets k ≡ q = cc in
-    let won : winner_of (posed s region targets k).frame (posed s region targets k).state ≡ None =
+    let same : posed_problem s region targets k ≡ q = cc in
+    let won : winner_of (posed_problem s region targets k).frame (posed_problem s region targets k).state ≡ None =
     ap (λ (b : Bool). if b then Some Attacker else (if 0 == 2 then Some Defender else None)) full in
     subst IsOpen same won
 
@@ -56,8 +56,8 @@ open_at s (Some targets) None q h = let bad : Err _ ≡ Ok q = h in cc
 open_at s (Some targets) (Some region) q h = open_on s region targets q h
 
 -- and one that nodes come to
-open_nodes : (r : GameSoFar) (ns : List Node) (q : LineWithUndo) → run_to_mark r ns ≡ Ok q → IsOpen q
-unfolding run_to_mark
+open_nodes : (r : GameSoFar) (ns : List Node) (q : LineWithUndo) → problem_at_targets r ns ≡ Ok q → IsOpen q
+unfolding problem_at_targets
 open_nodes r [] q h = let bad : Err _ ≡ Ok q = h in cc
 open_nodes r (n ∷ ns) q h =
     let made = step_made (step_node r n) _ q h in
@@ -69,4 +69,4 @@ open_nodes r (n ∷ ns) q h =
 -- nobody has won at a problem
 pub problem_open : (ns : List Node) (q : LineWithUndo) → problem_of ns ≡ Ok q → winner_of q.frame q.state ≡ None
 unfolding problem_of
-problem_open ns q h = let made = step_made (begin_line ns) _ q h in open_nodes made.0 ns q made.2
+problem_open ns q h = let made = step_made (begin_record ns) _ q h in open_nodes made.0 ns q made.2

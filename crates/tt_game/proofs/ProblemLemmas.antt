@@ -8,19 +8,19 @@ use Rattle.std.proofs.lemmas.Option.{none-some}
 use Rattle.tt_sgf.specs.declared.size.Size.{Size}
 use Rattle.tt_sgf.specs.declared.nodes.Node.{Node}
 use Rattle.tt_sgf.specs.Sizes.{point_count}
-use Rattle.tt_sgf.specs.Entries.{set_of, covers, covers_by, entry_of, in_rectangle, is_entry}
+use Rattle.tt_sgf.specs.PointLists.{set_of, covers, rectangle_covers, rectangle_of_text, in_rectangle, is_entry}
 use Rattle.tt_sgf.specs.Values.{trimmed}
 use Rattle.tt_sgf.specs.Points.{passing}
 use Rattle.tt_sgf.specs.laws.PointLaws.{contains-passing}
 use Rattle.tt_game.specs.declared.faults.GameFault.{GameFault}
 use Rattle.tt_game.specs.declared.faults.GameFault.TheVariants.{NoTarget}
 use Rattle.tt_game.specs.declared.records.GameSoFar.{GameSoFar}
-use Rattle.tt_game.specs.Nodes.{TR, has, moves_in, set_named}
+use Rattle.tt_game.specs.Nodes.{TR, has, move_count, set_named}
 use Rattle.tt_game.specs.Records.{and_then, step_node}
-use Rattle.tt_game.specs.Problems.{nodes_before_solution, puts_stones, region_of, problem_of_sets, run_to_mark}
+use Rattle.tt_game.specs.Problems.{nodes_before_solution, puts_stones, region_of, problem_of_sets, problem_at_targets}
 
 -- what a value covers is on the board
-covered_on : (size : Size) (e : Option _) (q : ℕ) → covers_by size e q ≡ true → q < point_count size
+covered_on : (size : Size) (e : Option _) (q : ℕ) → rectangle_covers size e q ≡ true → q < point_count size
 covered_on size None q h = absurd (false≢true h)
 covered_on size (Some e) q h = ltb-true q (size.columns * size.rows) (and_parts _ (in_rectangle size.columns e q) h).0
 
@@ -28,7 +28,7 @@ covered_on size (Some e) q h = ltb-true q (size.columns * size.rows) (and_parts 
 any_on : (size : Size) (vs : List (List ℕ)) (q : ℕ) → list_any (λ v. covers size v q) vs ≡ true → q < point_count size
 any_on size [] q h = absurd (false≢true h)
 any_on size (v ∷ vs) q h = elim (or_cases (covers size v q) (list_any (λ w. covers size w q) vs) h) [
-  | inl here ↦ covered_on size (entry_of size (trimmed v)) q here
+  | inl here ↦ covered_on size (rectangle_of_text size (trimmed v)) q here
   | inr there ↦ any_on size vs q there
 ]
 
@@ -44,25 +44,25 @@ set_on_board size vs s q e h = elim (cases_Bool (list_all (is_entry size) vs)) [
 ]
 
 -- the way to the mark: at its end no target, then a refused node, a node without a mark, and one with it
-pub mark-nil : (s : GameSoFar) → run_to_mark s [] ≡ Err NoTarget
-unfolding run_to_mark
+pub mark-nil : (s : GameSoFar) → problem_at_targets s [] ≡ Err NoTarget
+unfolding problem_at_targets
 mark-nil s = refl
 
-pub mark-stop : (s : GameSoFar) (e : GameFault) (n : Node) (ns : List Node) → step_node s n ≡ Err e → run_to_mark s (n ∷ ns) ≡ Err e
-unfolding run_to_mark
-mark-stop s e n ns h = ap (λ r. and_then r (λ t. cond (has TR n) (problem_of_sets t.game (set_named t.game.size TR n) (region_of t.game.size n)) (run_to_mark t ns))) h
+pub mark-stop : (s : GameSoFar) (e : GameFault) (n : Node) (ns : List Node) → step_node s n ≡ Err e → problem_at_targets s (n ∷ ns) ≡ Err e
+unfolding problem_at_targets
+mark-stop s e n ns h = ap (λ r. and_then r (λ t. cond (has TR n) (problem_of_sets t.game (set_named t.game.size TR n) (region_of t.game.size n)) (problem_at_targets t ns))) h
 
-pub mark-step : (s t : GameSoFar) (n : Node) (ns : List Node) → step_node s n ≡ Ok t → has TR n ≡ false → run_to_mark s (n ∷ ns) ≡ run_to_mark t ns
-unfolding run_to_mark
+pub mark-step : (s t : GameSoFar) (n : Node) (ns : List Node) → step_node s n ≡ Ok t → has TR n ≡ false → problem_at_targets s (n ∷ ns) ≡ problem_at_targets t ns
+unfolding problem_at_targets
 mark-step s t n ns h off =
-    ap (λ r. and_then r (λ x. cond (has TR n) (problem_of_sets x.game (set_named x.game.size TR n) (region_of x.game.size n)) (run_to_mark x ns))) h
-    ∙ ap (λ b. cond b (problem_of_sets t.game (set_named t.game.size TR n) (region_of t.game.size n)) (run_to_mark t ns)) off
+    ap (λ r. and_then r (λ x. cond (has TR n) (problem_of_sets x.game (set_named x.game.size TR n) (region_of x.game.size n)) (problem_at_targets x ns))) h
+    ∙ ap (λ b. cond b (problem_of_sets t.game (set_named t.game.size TR n) (region_of t.game.size n)) (problem_at_targets t ns)) off
 
-pub mark-here : (s t : GameSoFar) (n : Node) (ns : List Node) → step_node s n ≡ Ok t → has TR n ≡ true → run_to_mark s (n ∷ ns) ≡ problem_of_sets t.game (set_named t.game.size TR n) (region_of t.game.size n)
-unfolding run_to_mark
+pub mark-here : (s t : GameSoFar) (n : Node) (ns : List Node) → step_node s n ≡ Ok t → has TR n ≡ true → problem_at_targets s (n ∷ ns) ≡ problem_of_sets t.game (set_named t.game.size TR n) (region_of t.game.size n)
+unfolding problem_at_targets
 mark-here s t n ns h on =
-    ap (λ r. and_then r (λ x. cond (has TR n) (problem_of_sets x.game (set_named x.game.size TR n) (region_of x.game.size n)) (run_to_mark x ns))) h
-    ∙ ap (λ b. cond b (problem_of_sets t.game (set_named t.game.size TR n) (region_of t.game.size n)) (run_to_mark t ns)) on
+    ap (λ r. and_then r (λ x. cond (has TR n) (problem_of_sets x.game (set_named x.game.size TR n) (region_of x.game.size n)) (problem_at_targets x ns))) h
+    ∙ ap (λ b. cond b (problem_of_sets t.game (set_named t.game.size TR n) (region_of t.game.size n)) (problem_at_targets t ns)) on
 
 -- ---- the nodes in front of a solution
 
@@ -71,11 +71,11 @@ unfolding nodes_before_solution
 asked_nil up = refl
 
 -- a solution begins
-pub asked_stop : (up : Bool) (n : Node) (ns : List Node) → (up && nat_le 1 (moves_in n)) ≡ true → nodes_before_solution up (n ∷ ns) ≡ 0
+pub asked_stop : (up : Bool) (n : Node) (ns : List Node) → (up && nat_le 1 (move_count n)) ≡ true → nodes_before_solution up (n ∷ ns) ≡ 0
 unfolding nodes_before_solution
 asked_stop up n ns h = rw h refl
 
 -- or it doesn't yet
-pub asked_step : (up : Bool) (n : Node) (ns : List Node) → (up && nat_le 1 (moves_in n)) ≡ false → nodes_before_solution up (n ∷ ns) ≡ suc (nodes_before_solution (up || puts_stones n) ns)
+pub asked_step : (up : Bool) (n : Node) (ns : List Node) → (up && nat_le 1 (move_count n)) ≡ false → nodes_before_solution up (n ∷ ns) ≡ suc (nodes_before_solution (up || puts_stones n) ns)
 unfolding nodes_before_solution
 asked_step up n ns h = rw h refl

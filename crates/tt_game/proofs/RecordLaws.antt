@@ -15,7 +15,7 @@ use Rattle.tt_sgf.specs.declared.size.PointOrPass.TheVariants.{On}
 use Rattle.tt_sgf.specs.declared.size.PointOrPass.TheVariants as values
 use Rattle.tt_sgf.specs.declared.nodes.Node.{Node}
 use Rattle.tt_sgf.specs.Sizes.{point_count, sized}
-use Rattle.tt_sgf.specs.laws.SizeLaws.{sized_is}
+use Rattle.tt_sgf.specs.laws.SizeLaws.{sized_returns_size}
 use Rattle.tt_sgf.specs.Values.{lettered_point, point_of, trimmed}
 use Rattle.tt_board.specs.declared.Colour.{Colour}
 use Rattle.tt_board.specs.declared.Colour.TheVariants.{Black, White}
@@ -32,15 +32,15 @@ use Rattle.tt_game.specs.declared.records.GameSoFar.{GameSoFar}
 use Rattle.tt_game.specs.declared.turns.Turn.{Turn}
 use Rattle.tt_game.specs.declared.turns.Turn.TheVariants.{Play, Pass}
 use Rattle.tt_game.specs.Game.{history}
-use Rattle.tt_game.specs.Games.{GameState, all_of, begun_with, empty_game, colouring_after_move, refusal_of, turned}
-use Rattle.tt_game.specs.History.{repeats, repeats_is}
+use Rattle.tt_game.specs.Games.{GameState, game_colourings, begun_with, empty_game, colouring_after_move, refusal_of, game_after_turn}
+use Rattle.tt_game.specs.Superko.{repeats, repeats_is_exact}
 use Rattle.tt_game.specs.Line.{LineWithUndo}
-use Rattle.tt_game.specs.Nodes.{AB, AE, AW, B, GM, PL, SZ, TR, W, apart, colour_named, has, is_go, is_setup, moves_in, set_named, size_named, values_of}
-use Rattle.tt_game.specs.Problems.{common_colour, posed, problem_of_sets, problem_of, problem_on, problem_with, region_of, run_to_mark}
-use Rattle.tt_game.specs.Records.{all_have_liberties, and_then, as_turn, begin_at, begin_line, begin_node, begun, turn_or_fault, game_after_move, record_at, record_of, run_nodes, set_up_by, step_node}
-use Rattle.tt_game.specs.Records.{replay_turn_by, turn_named, replay_with}
+use Rattle.tt_game.specs.Nodes.{AB, AE, AW, B, GM, PL, SZ, TR, W, apart, mover_of_values, has, is_go, is_setup, move_count, set_named, size_or_default, values_of}
+use Rattle.tt_game.specs.Problems.{common_colour, posed_problem, problem_of_sets, problem_of, problem_on, problem_with, region_of, problem_at_targets}
+use Rattle.tt_game.specs.Records.{all_have_liberties, and_then, as_turn, begin_at, begin_record, begin_node, game_after_setup, turn_or_fault, play_node_move, record_at, record_of, run_nodes, set_up_by, step_node}
+use Rattle.tt_game.specs.Records.{play_turn_by, play_named_turn, play_next_turn}
 use Rattle.tt_game.specs.RecordLaws.{UnmarkedAreNoProblems}
-use Rattle.tt_game.specs.RecordLaws.{ArePlays, IsByTheRules, IsOfLeastNode, IsPlay, LeastNodesRefuse, ProblemsAreGames, ProblemsAreRecords, RecordsAreGames, SetupsBeginHistories, SuperkoDecides}
+use Rattle.tt_game.specs.RecordLaws.{ArePlays, IsByTheRules, IsRefusalOfFirstNode, IsPlay, FirstRefusalDecides, ProblemsAreGames, RefusalsCarryToProblems, RecordsAreGames, SetupsBeginHistories, SuperkoDecides}
 use Rattle.tt_game.specs.Turns.{IsOnBoard}
 use Rattle.tt_game.proofs.OpenProblems.{step_made}
 
@@ -61,7 +61,7 @@ step_refused (Err c) f e h = inl (let same : c ≡ e = cc in ap Err same)
 
 -- the test of superko is true exactly where the colouring is in the history
 pub superko_decides : SuperkoDecides
-superko_decides h c = ((repeats_is h c).0, (repeats_is h c).1)
+superko_decides h c = ((repeats_is_exact h c).0, (repeats_is_exact h c).1)
 
 -- one more play behind a history of plays
 plays_on : (size : Size) (h : List Colouring) (c d : Colouring) → ArePlays size (h ++ c ∷ []) → IsPlay size c d → ArePlays size ((h ++ c ∷ []) ++ d ∷ [])
@@ -84,14 +84,14 @@ empty_entry None e = refl
 empty_entry (Some k) e = absurd (false≢true e)
 
 -- a lawful play is on an empty point, and its colouring is new
-lawful : (s : GameState) (p : ℕ) → refusal_of s (Play p) ≡ None → (entry_at s.present p ≡ None) × (Contains (all_of s) (colouring_after_move s p) → ⊥)
+lawful : (s : GameState) (p : ℕ) → refusal_of s (Play p) ≡ None → (entry_at s.present p ≡ None) × (Contains (game_colourings s) (colouring_after_move s p) → ⊥)
 lawful s p e = elim (choice (s.passes == 2) _ _ _ e) [
   | inl over ↦ let bad : Some _ ≡ None = over.1 in cc
   | inr on ↦ elim (choice (is_empty (entry_at s.present p)) _ _ _ on.1) [
     | inr stone ↦ let bad : Some _ ≡ None = stone.1 in cc
-    | inl free ↦ elim (choice (repeats (all_of s) (colouring_after_move s p)) _ _ _ free.1) [
+    | inl free ↦ elim (choice (repeats (game_colourings s) (colouring_after_move s p)) _ _ _ free.1) [
       | inl been ↦ let bad : Some _ ≡ None = been.1 in cc
-      | inr new ↦ (empty_entry (entry_at s.present p) free.0, λ has. false≢true (sym new.0 ∙ (repeats_is (all_of s) (colouring_after_move s p)).1 has))
+      | inr new ↦ (empty_entry (entry_at s.present p) free.0, λ has. false≢true (sym new.0 ∙ (repeats_is_exact (game_colourings s) (colouring_after_move s p)).1 has))
     ]
   ]
 ]
@@ -100,11 +100,11 @@ lawful s p e = elim (choice (s.passes == 2) _ _ _ e) [
 
 -- the history is by the rules, and the turns are few
 abbrev IsLawful : GameSoFar → Type 0
-IsLawful r = IsByTheRules r.game.size (all_of r.game) × (r.turns ≤ 2000)
+IsLawful r = IsByTheRules r.game.size (game_colourings r.game) × (r.turns ≤ 2000)
 
 -- the history stays, or gets the present colouring at its end
 abbrev Grows : GameSoFar → GameSoFar → Type 0
-Grows r q = (all_of q.game ≡ all_of r.game) ⊎ (all_of q.game ≡ all_of r.game ++ q.game.present ∷ [])
+Grows r q = (game_colourings q.game ≡ game_colourings r.game) ⊎ (game_colourings q.game ≡ game_colourings r.game ++ q.game.present ∷ [])
 
 -- what turns do to a replay
 record GoesOn (r q : GameSoFar) : Type 0 where
@@ -113,10 +113,10 @@ record GoesOn (r q : GameSoFar) : Type 0 where
 
 -- one more turn
 abbrev after_turn : GameSoFar → Turn → GameSoFar
-after_turn r t = record { game = turned r.game t; turns = r.turns + 1 }
+after_turn r t = record { game = game_after_turn r.game t; turns = r.turns + 1 }
 
 -- a turn that is taken is a lawful one, and the 2,000th at most
-turn_made : (r : GameSoFar) (t : Turn) (q : GameSoFar) → replay_with r t ≡ Ok q → (refusal_of r.game t ≡ None) × (r.turns < 2000) × (after_turn r t ≡ q)
+turn_made : (r : GameSoFar) (t : Turn) (q : GameSoFar) → play_next_turn r t ≡ Ok q → (refusal_of r.game t ≡ None) × (r.turns < 2000) × (after_turn r t ≡ q)
 turn_made r t q e = elim (choice (r.game.passes == 2) _ _ _ e) [
   | inl over ↦ let bad : Err _ ≡ Ok q = over.1 in cc
   | inr on ↦ elim (choice (nat_le 2000 r.turns) _ _ _ on.1) [
@@ -139,7 +139,7 @@ goes_on r (Play p) on taken few =
       lawful = λ h. (
         record {
           plays = plays_on s.size s.earlier s.present (colouring_after_move s p) h.0.plays (s.to_move, p, on, free.0, refl);
-          once = once_more (all_of s) (colouring_after_move s p) h.0.once free.1;
+          once = once_more (game_colourings s) (colouring_after_move s p) h.0.once free.1;
         },
         omega (arith, few),
       );
@@ -147,17 +147,17 @@ goes_on r (Play p) on taken few =
     }
 
 -- so does a turn that was taken
-one_turn : (r : GameSoFar) (t : Turn) (q : GameSoFar) → IsOnBoard r.game.size t → replay_with r t ≡ Ok q → GoesOn r q
+one_turn : (r : GameSoFar) (t : Turn) (q : GameSoFar) → IsOnBoard r.game.size t → play_next_turn r t ≡ Ok q → GoesOn r q
 one_turn r t q on e = let made = turn_made r t q e in subst (λ (x : GameSoFar). GoesOn r x) made.2 (goes_on r t on made.0 made.1)
 
 -- and a turn of a colour, with the pass before it where that is needed
-turns_by : (r : GameSoFar) (k : Colour) (t : Turn) (q : GameSoFar) → IsOnBoard r.game.size t → replay_turn_by r k t ≡ Ok q → GoesOn r q
+turns_by : (r : GameSoFar) (k : Colour) (t : Turn) (q : GameSoFar) → IsOnBoard r.game.size t → play_turn_by r k t ≡ Ok q → GoesOn r q
 turns_by r k t q on e = elim (choice (same_colour r.game.to_move k) _ _ _ e) [
   | inl its ↦ one_turn r t q on its.1
   | inr others ↦
-      let passed = step_made (replay_with r Pass) (λ x. replay_with x t) q others.1 in
+      let passed = step_made (play_next_turn r Pass) (λ x. play_next_turn x t) q others.1 in
       let first = turn_made r Pass passed.0 passed.1 in
-      let second : replay_with (after_turn r Pass) t ≡ Ok q = subst (λ (x : GameSoFar). replay_with x t ≡ Ok q) (sym first.2) passed.2 in
+      let second : play_next_turn (after_turn r Pass) t ≡ Ok q = subst (λ (x : GameSoFar). play_next_turn x t ≡ Ok q) (sym first.2) passed.2 in
       let on_it = goes_on r Pass tt first.0 first.1 in
       let behind = one_turn (after_turn r Pass) t q on second in
       record { lawful = λ h. behind.lawful (on_it.lawful h); grows = behind.grows }
@@ -187,12 +187,12 @@ value_on size (c ∷ d ∷ []) (On p) e = elim (choice (c == 116 && d == 116) _ 
 value_on size (c ∷ d ∷ x ∷ xs) (On p) e = let bad : None ≡ Some (On p) = e in cc
 
 -- a turn by the value of its property does what turns do
-turn_goes : (r : GameSoFar) (k : Colour) (text : List ℕ) (o : Option PointOrPass) (q : GameSoFar) → point_of r.game.size text ≡ o → turn_named r k o ≡ Ok q → GoesOn r q
+turn_goes : (r : GameSoFar) (k : Colour) (text : List ℕ) (o : Option PointOrPass) (q : GameSoFar) → point_of r.game.size text ≡ o → play_named_turn r k o ≡ Ok q → GoesOn r q
 turn_goes r k text None q is e = let bad : Err _ ≡ Ok q = e in cc
 turn_goes r k text (Some v) q is e = turns_by r k (as_turn v) q (value_on r.game.size text v is) e
 
 -- so does a node's move, or none
-move_goes : (r : GameSoFar) (vs ws : List (List ℕ)) (q : GameSoFar) → game_after_move r vs ws ≡ Ok q → GoesOn r q
+move_goes : (r : GameSoFar) (vs ws : List (List ℕ)) (q : GameSoFar) → play_node_move r vs ws ≡ Ok q → GoesOn r q
 move_goes r (v ∷ vs) ws q e = turn_goes r Black (trimmed v) (point_of r.game.size (trimmed v)) q refl e
 move_goes r [] (w ∷ ws) q e = turn_goes r White (trimmed w) (point_of r.game.size (trimmed w)) q refl e
 move_goes r [] [] q e =
@@ -204,10 +204,10 @@ move_goes r [] [] q e =
 -- what a setup does to a replay
 record BeginsAnew (r q : GameSoFar) : Type 0 where
   lawful : IsLawful r → IsLawful q
-  alone : all_of q.game ≡ q.game.present ∷ []
+  alone : game_colourings q.game ≡ q.game.present ∷ []
 
 -- a colouring begins the history anew
-begun_anew : (r : GameSoFar) (c : Colouring) (k : Colour) (q : GameSoFar) → begun r c k ≡ Ok q → BeginsAnew r q
+begun_anew : (r : GameSoFar) (c : Colouring) (k : Colour) (q : GameSoFar) → game_after_setup r c k ≡ Ok q → BeginsAnew r q
 begun_anew r c k q e = elim (choice (all_have_liberties r.game.size c) _ _ _ e) [
   | inl alive ↦
       let same : record { game = begun_with r.game.size c k; turns = r.turns } ≡ q = let is = alive.1 in cc in
@@ -232,11 +232,11 @@ set_up_anew r (Some black) (Some white) (Some bare) (Some k) q e = elim (choice 
 node_does : (r : GameSoFar) (n : Node) (q : GameSoFar) → step_node r n ≡ Ok q → ((is_setup n ≡ true) × BeginsAnew r q) ⊎ ((is_setup n ≡ false) × GoesOn r q)
 unfolding step_node
 node_does r n q e = elim (choice (is_setup n) _ _ _ e) [
-  | inl setup ↦ elim (choice (nat_le 1 (moves_in n)) _ _ _ setup.1) [
+  | inl setup ↦ elim (choice (nat_le 1 (move_count n)) _ _ _ setup.1) [
     | inl mixed ↦ let bad : Err _ ≡ Ok q = mixed.1 in cc
-    | inr pure ↦ inl (setup.0, set_up_anew r (set_named r.game.size AB n) (set_named r.game.size AW n) (set_named r.game.size AE n) (colour_named (values_of PL n.properties)) q pure.1)
+    | inr pure ↦ inl (setup.0, set_up_anew r (set_named r.game.size AB n) (set_named r.game.size AW n) (set_named r.game.size AE n) (mover_of_values (values_of PL n.properties)) q pure.1)
   ]
-  | inr moves ↦ elim (choice (nat_le 2 (moves_in n)) _ _ _ moves.1) [
+  | inr moves ↦ elim (choice (nat_le 2 (move_count n)) _ _ _ moves.1) [
     | inl mixed ↦ let bad : Err _ ≡ Ok q = mixed.1 in cc
     | inr pure ↦ inr (moves.0, move_goes r (values_of B n.properties) (values_of W n.properties) q pure.1)
   ]
@@ -269,18 +269,18 @@ empty_lawful (Some size) q e =
     subst IsLawful same (alone size (empty_game size).present, omega arith)
 
 -- a line begins with a history by the rules
-begin_lawful : (ns : List Node) (q : GameSoFar) → begin_line ns ≡ Ok q → IsLawful q
+begin_lawful : (ns : List Node) (q : GameSoFar) → begin_record ns ≡ Ok q → IsLawful q
 unfolding begin_node
 begin_lawful [] q e = empty_lawful (sized 19 19) q e
 begin_lawful (n ∷ ns) q e = elim (choice (is_go (values_of GM n.properties)) _ _ _ e) [
-  | inl go ↦ empty_lawful (size_named (values_of SZ n.properties)) q go.1
+  | inl go ↦ empty_lawful (size_or_default (values_of SZ n.properties)) q go.1
   | inr other ↦ let bad : Err _ ≡ Ok q = other.1 in cc
 ]
 
 -- the history of a record's game is by the rules
 pub records_are_games : RecordsAreGames
 records_are_games ns r e =
-    let made = step_made (begin_line ns) _ r e in
+    let made = step_made (begin_record ns) _ r e in
     run_lawful made.0 ns r made.2 (begin_lawful ns made.0 made.1)
 
 -- ---- problems
@@ -288,13 +288,13 @@ records_are_games ns r e =
 -- a problem has the history of the game that it is posed in
 record IsOfGame (s : GameState) (q : LineWithUndo) : Type 0 where
   size : s.size ≡ q.frame.size
-  history : all_of s ≡ history q.state
+  history : game_colourings s ≡ history q.state
 
 -- a problem posed in a game has that game's history and size
 of_game_with : (s : GameState) (region targets : Points) (o : Option Colour) (q : LineWithUndo) → problem_with s region targets o ≡ Ok q → IsOfGame s q
 of_game_with s region targets None q e = let bad : Err _ ≡ Ok q = e in cc
 of_game_with s region targets (Some k) q e =
-    let same : posed s region targets k ≡ q = cc in
+    let same : posed_problem s region targets k ≡ q = cc in
     subst (λ (x : LineWithUndo). IsOfGame s x) same (record { size = refl; history = refl })
 
 -- so has one posed on sets
@@ -314,8 +314,8 @@ of_game s (Some targets) None q e = let bad : Err _ ≡ Ok q = e in cc
 of_game s (Some targets) (Some region) q e = of_game_on s region targets q e
 
 -- the history of a problem that nodes come to is by the rules
-mark_lawful : (r : GameSoFar) (ns : List Node) (q : LineWithUndo) → run_to_mark r ns ≡ Ok q → IsLawful r → IsByTheRules q.frame.size (history q.state)
-unfolding run_to_mark
+mark_lawful : (r : GameSoFar) (ns : List Node) (q : LineWithUndo) → problem_at_targets r ns ≡ Ok q → IsLawful r → IsByTheRules q.frame.size (history q.state)
+unfolding problem_at_targets
 mark_lawful r [] q e h = let bad : Err _ ≡ Ok q = e in cc
 mark_lawful r (n ∷ ns) q e h =
     let made = step_made (step_node r n) _ q e in
@@ -332,7 +332,7 @@ mark_lawful r (n ∷ ns) q e h =
 pub problems_are_games : ProblemsAreGames
 unfolding problem_of
 problems_are_games ns q e =
-    let made = step_made (begin_line ns) _ q e in
+    let made = step_made (begin_record ns) _ q e in
     mark_lawful made.0 ns q made.2 (begin_lawful ns made.0 made.1)
 
 -- ---- refusals
@@ -380,12 +380,12 @@ unfolding run_nodes
 ends_run q n ns e h = ap (λ x. and_then x (λ s. run_nodes s ns)) h
 
 -- the record of nodes, where the begin of the line is known
-record_begun : (ns : List Node) (r : GameSoFar) → begin_line ns ≡ Ok r → record_of ns ≡ and_then (run_nodes r ns) (λ q. Ok (record_at q.game))
+record_begun : (ns : List Node) (r : GameSoFar) → begin_record ns ≡ Ok r → record_of ns ≡ and_then (run_nodes r ns) (λ q. Ok (record_at q.game))
 unfolding record_of
 record_begun ns r e = ap (λ x. and_then x (λ s. and_then (run_nodes s ns) (λ q. Ok (record_at q.game)))) e
 
 -- a record that isn't begun is refused
-never_begun : (ns : List Node) (e : GameFault) → begin_line ns ≡ Err e → record_of ns ≡ Err e
+never_begun : (ns : List Node) (e : GameFault) → begin_record ns ≡ Err e → record_of ns ≡ Err e
 unfolding record_of
 never_begun ns e h = ap (λ x. and_then x (λ s. and_then (run_nodes s ns) (λ q. Ok (record_at q.game)))) h
 
@@ -396,27 +396,27 @@ common_size = record { columns = 19; rows = 19; columns_in = (omega arith, omega
 -- the record without a node
 empty_record : (r : Record) × (record_of [] ≡ Ok r)
 unfolding record_of run_nodes common_size
-empty_record = (record_at (empty_game common_size), ap (λ o. and_then (begin_at o) (λ r. and_then (run_nodes r []) (λ q. Ok (record_at q.game)))) (sized_is common_size))
+empty_record = (record_at (empty_game common_size), ap (λ o. and_then (begin_at o) (λ r. and_then (run_nodes r []) (λ q. Ok (record_at q.game)))) (sized_returns_size common_size))
 
 -- a line without a node is never refused
 never_empty : (e : GameFault) → record_of [] ≡ Err e → ⊥
 never_empty e h = let r = empty_record in let bad : Ok r.0 ≡ Err e = sym r.1 ∙ h in cc
 
 -- a line begins by its first node alone
-begins_alike : (front : List Node) (n : Node) (ns others : List Node) → begin_line (front ++ n ∷ others) ≡ begin_line (front ++ n ∷ ns)
+begins_alike : (front : List Node) (n : Node) (ns others : List Node) → begin_record (front ++ n ∷ others) ≡ begin_record (front ++ n ∷ ns)
 begins_alike [] n ns others = refl
 begins_alike (m ∷ front) n ns others = refl
 
 -- the nodes before a refused one are a record
-front_taken : (front : List Node) (n : Node) (ns : List Node) (r q : GameSoFar) → begin_line (front ++ n ∷ ns) ≡ Ok r → run_nodes r front ≡ Ok q → (s : Record) × (record_of front ≡ Ok s)
+front_taken : (front : List Node) (n : Node) (ns : List Node) (r q : GameSoFar) → begin_record (front ++ n ∷ ns) ≡ Ok r → run_nodes r front ≡ Ok q → (s : Record) × (record_of front ≡ Ok s)
 front_taken [] n ns r q begins runs = empty_record
 front_taken (m ∷ front) n ns r q begins runs =
     (record_at q.game, record_begun (m ∷ front) r begins ∙ ap (λ x. and_then x (λ s. Ok (record_at s.game))) runs)
 
 -- where a run stops, the record stops
-least_of : (ns : List Node) (r : GameSoFar) (e : GameFault) → begin_line ns ≡ Ok r → StopsAt r ns e → IsOfLeastNode ns e
+least_of : (ns : List Node) (r : GameSoFar) (e : GameFault) → begin_record ns ≡ Ok r → StopsAt r ns e → IsRefusalOfFirstNode ns e
 least_of ns r e begins stop =
-    let begins_so : begin_line (stop.front ++ stop.node ∷ stop.behind) ≡ Ok r = ap begin_line (sym stop.parts) ∙ begins in
+    let begins_so : begin_record (stop.front ++ stop.node ∷ stop.behind) ≡ Ok r = ap begin_record (sym stop.parts) ∙ begins in
     let taken = front_taken stop.front stop.node stop.behind r stop.last begins_so stop.taken in
     record {
       front = stop.front;
@@ -432,9 +432,9 @@ least_of ns r e begins stop =
     }
 
 -- a record is refused before its first node, or by a run
-refused_by : (ns : List Node) (e : GameFault) → record_of ns ≡ Err e → (begin_line ns ≡ Err e) ⊎ ((r : GameSoFar) × (begin_line ns ≡ Ok r) × (run_nodes r ns ≡ Err e))
+refused_by : (ns : List Node) (e : GameFault) → record_of ns ≡ Err e → (begin_record ns ≡ Err e) ⊎ ((r : GameSoFar) × (begin_record ns ≡ Ok r) × (run_nodes r ns ≡ Err e))
 unfolding record_of
-refused_by ns e h = elim (step_refused (begin_line ns) _ e h) [
+refused_by ns e h = elim (step_refused (begin_record ns) _ e h) [
   | inl never ↦ inl never
   | inr on ↦ elim (step_refused (run_nodes on.0 ns) _ e on.2) [
     | inl stops ↦ inr (on.0, on.1, stops)
@@ -443,7 +443,7 @@ refused_by ns e h = elim (step_refused (begin_line ns) _ e h) [
 ]
 
 -- a refusal is that of the record's least node that has one
-pub least_nodes_refuse : LeastNodesRefuse
+pub least_nodes_refuse : FirstRefusalDecides
 least_nodes_refuse [] e h = absurd (never_empty e h)
 least_nodes_refuse (m ∷ ms) e h = elim (refused_by (m ∷ ms) e h) [
   | inl never ↦ record {
@@ -459,44 +459,44 @@ least_nodes_refuse (m ∷ ms) e h = elim (refused_by (m ∷ ms) e h) [
 ]
 
 -- a run that is refused before a mark is refused on the way to the mark
-mark_refused : (r : GameSoFar) (ns behind : List Node) (e : GameFault) → All (λ n. has TR n ≡ false) ns → run_nodes r ns ≡ Err e → run_to_mark r (ns ++ behind) ≡ Err e
-unfolding run_nodes run_to_mark
+mark_refused : (r : GameSoFar) (ns behind : List Node) (e : GameFault) → All (λ n. has TR n ≡ false) ns → run_nodes r ns ≡ Err e → problem_at_targets r (ns ++ behind) ≡ Err e
+unfolding run_nodes problem_at_targets
 mark_refused r [] behind e unmarked h = let bad : Ok r ≡ Err e = h in cc
 mark_refused r (n ∷ ns) behind e unmarked h =
-    let go = λ (q : GameSoFar). cond (has TR n) (problem_of_sets q.game (set_named q.game.size TR n) (region_of q.game.size n)) (run_to_mark q (ns ++ behind)) in
+    let go = λ (q : GameSoFar). cond (has TR n) (problem_of_sets q.game (set_named q.game.size TR n) (region_of q.game.size n)) (problem_at_targets q (ns ++ behind)) in
     elim (step_refused (step_node r n) _ e h) [
       | inl here ↦ ap (λ x. and_then x go) here
       | inr on ↦
           ap (λ x. and_then x go) on.1
-          ∙ ap (λ b. cond b (problem_of_sets on.0.game (set_named on.0.game.size TR n) (region_of on.0.game.size n)) (run_to_mark on.0 (ns ++ behind))) (All-head (λ m. has TR m ≡ false) n ns unmarked)
+          ∙ ap (λ b. cond b (problem_of_sets on.0.game (set_named on.0.game.size TR n) (region_of on.0.game.size n)) (problem_at_targets on.0 (ns ++ behind))) (All-head (λ m. has TR m ≡ false) n ns unmarked)
           ∙ mark_refused on.0 ns behind e (All-tail (λ m. has TR m ≡ false) n ns unmarked) on.2
     ]
 
 -- a record that is refused and marks no target is refused as a problem too, whatever follows
-pub problems_are_records : ProblemsAreRecords
+pub refusals_carry_to_problems : RefusalsCarryToProblems
 unfolding problem_of
-problems_are_records [] behind e unmarked h = absurd (never_empty e h)
-problems_are_records (m ∷ ms) behind e unmarked h =
-    let go = λ (r : GameSoFar). run_to_mark r ((m ∷ ms) ++ behind) in
+refusals_carry_to_problems [] behind e unmarked h = absurd (never_empty e h)
+refusals_carry_to_problems (m ∷ ms) behind e unmarked h =
+    let go = λ (r : GameSoFar). problem_at_targets r ((m ∷ ms) ++ behind) in
     elim (refused_by (m ∷ ms) e h) [
       | inl never ↦ ap (λ x. and_then x go) never
       | inr on ↦ ap (λ x. and_then x go) on.1 ∙ mark_refused on.0 (m ∷ ms) behind e unmarked on.2
     ]
 
 -- nodes without a mark come to the end of the way to the mark
-mark_missing : (r q : GameSoFar) (ns : List Node) → All (λ n. has TR n ≡ false) ns → run_nodes r ns ≡ Ok q → run_to_mark r ns ≡ Err NoTarget
-unfolding run_nodes run_to_mark
+mark_missing : (r q : GameSoFar) (ns : List Node) → All (λ n. has TR n ≡ false) ns → run_nodes r ns ≡ Ok q → problem_at_targets r ns ≡ Err NoTarget
+unfolding run_nodes problem_at_targets
 mark_missing r q [] unmarked h = refl
 mark_missing r q (n ∷ ns) unmarked h =
-    let go = λ (x : GameSoFar). cond (has TR n) (problem_of_sets x.game (set_named x.game.size TR n) (region_of x.game.size n)) (run_to_mark x ns) in
+    let go = λ (x : GameSoFar). cond (has TR n) (problem_of_sets x.game (set_named x.game.size TR n) (region_of x.game.size n)) (problem_at_targets x ns) in
     let on = step_made (step_node r n) _ q h in
     ap (λ x. and_then x go) on.1
-    ∙ ap (λ b. cond b (problem_of_sets on.0.game (set_named on.0.game.size TR n) (region_of on.0.game.size n)) (run_to_mark on.0 ns)) (All-head (λ m. has TR m ≡ false) n ns unmarked)
+    ∙ ap (λ b. cond b (problem_of_sets on.0.game (set_named on.0.game.size TR n) (region_of on.0.game.size n)) (problem_at_targets on.0 ns)) (All-head (λ m. has TR m ≡ false) n ns unmarked)
     ∙ mark_missing on.0 q ns (All-tail (λ m. has TR m ≡ false) n ns unmarked) on.2
 
 -- nodes that come to a game and mark no target are no problem
 pub unmarked_are_no_problems : UnmarkedAreNoProblems
 unfolding problem_of
 unmarked_are_no_problems nodes r unmarked h =
-    let on = step_made (begin_line nodes) _ r h in
-    ap (λ x. and_then x (λ q. run_to_mark q nodes)) on.1 ∙ mark_missing on.0 r nodes unmarked on.2
+    let on = step_made (begin_record nodes) _ r h in
+    ap (λ x. and_then x (λ q. problem_at_targets q nodes)) on.1 ∙ mark_missing on.0 r nodes unmarked on.2

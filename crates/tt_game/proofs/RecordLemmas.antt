@@ -8,10 +8,10 @@ use Rattle.std.proofs.lemmas.Option.{none-some}
 use Rattle.tt_sgf.specs.declared.size.Size.{Size}
 use Rattle.tt_sgf.specs.Sizes.{point_count}
 use Rattle.tt_board.specs.Reach.{entry_at, Reaches}
-use Rattle.tt_board.specs.Decided.{reaches, reaches_is}
+use Rattle.tt_board.specs.Decided.{reaches, reaches_is_exact}
 use Rattle.tt_board.specs.Play.{is_empty}
 use Rattle.tt_board.specs.Setup.{AllHaveLiberties, IsLeastWithoutLiberty}
-use Rattle.tt_game.specs.History.{repeats, repeats_is}
+use Rattle.tt_game.specs.Superko.{repeats, repeats_is_exact}
 use Rattle.tt_game.specs.declared.records.GameSoFar.{GameSoFar}
 use Rattle.tt_game.specs.Records.{have_liberties_below, all_have_liberties, run_nodes, step_node, and_then}
 use Rattle.tt_game.specs.declared.faults.GameFault.{GameFault}
@@ -22,13 +22,13 @@ use Rattle.tt_game.proofs.FrameLemmas.{bools}
 
 -- the test of a repeat is what says exactly whether the colouring has been
 pub been_is : (h : List (List (Option Colour))) (c : List (Option Colour)) (r : Bool) → (IsTrue r → HasBeen h c) × (HasBeen h c → IsTrue r) → r ≡ repeats h c
-been_is h c r told = bools r (repeats h c) (λ y. (repeats_is h c).1 (told.0 y)) (λ y. told.1 ((repeats_is h c).0 y))
+been_is h c r told = bools r (repeats h c) (λ y. (repeats_is_exact h c).1 (told.0 y)) (λ y. told.1 ((repeats_is_exact h c).0 y))
 
 -- a point whose stone, if any, reaches empty passes the test
 alive_at : (size : Size) (c : List (Option Colour)) (p : ℕ) → p < point_count size → (entry_at c p ≢ None → Reaches size c p None) → (is_empty (entry_at c p) || reaches size c p None) ≡ true
 alive_at size c p lt h = elim (entry_at c p) as (λ o. entry_at c p ≡ o → (is_empty o || reaches size c p None) ≡ true) [
   | None ↦ λ e. refl
-  | Some k ↦ λ e. (reaches_is size c p None lt).1 (h (λ n. none-some k (sym n ∙ e)))
+  | Some k ↦ λ e. (reaches_is_exact size c p None lt).1 (h (λ n. none-some k (sym n ∙ e)))
 ] refl
 
 -- so do all points below a bound, where each stone reaches empty
@@ -49,7 +49,7 @@ and_false false = refl
 dead_at : (size : Size) (c : List (Option Colour)) (p : ℕ) → p < point_count size → entry_at c p ≢ None → (Reaches size c p None → ⊥) → (is_empty (entry_at c p) || reaches size c p None) ≡ false
 dead_at size c p lt some dead = elim (entry_at c p) as (λ o. entry_at c p ≡ o → (is_empty o || reaches size c p None) ≡ false) [
   | None ↦ λ e. absurd (some e)
-  | Some k ↦ λ e. elim (cases_Bool (reaches size c p None)) [ inl y ↦ absurd (dead ((reaches_is size c p None lt).0 y)) | inr n ↦ n ]
+  | Some k ↦ λ e. elim (cases_Bool (reaches size c p None)) [ inl y ↦ absurd (dead ((reaches_is_exact size c p None lt).0 y)) | inr n ↦ n ]
 ] refl
 
 -- and so does each bound above it

@@ -19,37 +19,37 @@ use Rattle.tt_game.specs.declared.faults.Why.{Why}
 use Rattle.tt_game.specs.declared.records.GameSoFar.{GameSoFar}
 use Rattle.tt_game.specs.declared.turns.Turn.{Turn}
 use Rattle.tt_game.specs.declared.turns.Turn.TheVariants.{Play, Pass}
-use Rattle.tt_game.specs.Games.{GameState, all_of, begun_with, empty_game, colouring_after_move, refusal_of, turned}
+use Rattle.tt_game.specs.Games.{GameState, game_colourings, begun_with, empty_game, colouring_after_move, refusal_of, game_after_turn}
 use Rattle.tt_game.specs.GameLaws.{IsState, ProblemsAreStates}
 use Rattle.tt_game.specs.Line.{LineWithUndo}
-use Rattle.tt_game.specs.Nodes.{AB, AE, AW, B, GM, PL, SZ, TR, W, apart, colour_named, has, is_go, is_setup, moves_in, set_named, size_named, values_of}
-use Rattle.tt_game.specs.Problems.{common_colour, posed, problem_of_sets, problem_of, problem_on, problem_with, region_of, run_to_mark}
-use Rattle.tt_game.specs.Records.{all_have_liberties, as_turn, begin_at, begin_line, begin_node, begun, turn_or_fault, game_after_move, set_up_by, step_node, replay_turn_by, turn_named, replay_with}
+use Rattle.tt_game.specs.Nodes.{AB, AE, AW, B, GM, PL, SZ, TR, W, apart, mover_of_values, has, is_go, is_setup, move_count, set_named, size_or_default, values_of}
+use Rattle.tt_game.specs.Problems.{common_colour, posed_problem, problem_of_sets, problem_of, problem_on, problem_with, region_of, problem_at_targets}
+use Rattle.tt_game.specs.Records.{all_have_liberties, as_turn, begin_at, begin_record, begin_node, game_after_setup, turn_or_fault, play_node_move, set_up_by, step_node, play_turn_by, play_named_turn, play_next_turn}
 use Rattle.tt_game.proofs.OpenProblems.{either, step_made}
 
 -- each colouring of the game has an entry for each point
 abbrev IsSized : GameState → Type 0
-IsSized g = All (λ c. length c ≡ point_count g.size) (all_of g)
+IsSized g = All (λ c. length c ≡ point_count g.size) (game_colourings g)
 
 -- a history of one colouring
 alone : (size : Size) (c : Colouring) → length c ≡ point_count size → All (λ d. length d ≡ point_count size) (c ∷ [])
 alone size c fits = All-push (λ d. length d ≡ point_count size) [] c (All-nil (λ d. length d ≡ point_count size)) fits
 
 -- a turn keeps an entry for each point
-sized_turned : (g : GameState) (t : Turn) → IsSized g → IsSized (turned g t)
+sized_turned : (g : GameState) (t : Turn) → IsSized g → IsSized (game_after_turn g t)
 sized_turned g Pass h = h
-sized_turned g (Play p) h = All-push (λ c. length c ≡ point_count g.size) (all_of g) (colouring_after_move g p) h (length-play_of g.size g.present g.to_move p)
+sized_turned g (Play p) h = All-push (λ c. length c ≡ point_count g.size) (game_colourings g) (colouring_after_move g p) h (length-play_of g.size g.present g.to_move p)
 
 -- ---- turns
 
 -- so does a turn that was taken: alone, of a colour, by a value, or as a node's move
 sized_on : (r : GameSoFar) (t : Turn) (o : Option Why) (q : GameSoFar) → turn_or_fault r t o ≡ Ok q → IsSized r.game → IsSized q.game
 sized_on r t None q e h =
-    let same : record { game = turned r.game t; turns = r.turns + 1 } ≡ q = cc in
+    let same : record { game = game_after_turn r.game t; turns = r.turns + 1 } ≡ q = cc in
     subst (λ (x : GameSoFar). IsSized x.game) same (sized_turned r.game t h)
 sized_on r t (Some why) q e h = let bad : Err _ ≡ Ok q = e in cc
 
-sized_turn : (r : GameSoFar) (t : Turn) (q : GameSoFar) → replay_with r t ≡ Ok q → IsSized r.game → IsSized q.game
+sized_turn : (r : GameSoFar) (t : Turn) (q : GameSoFar) → play_next_turn r t ≡ Ok q → IsSized r.game → IsSized q.game
 sized_turn r t q e h = elim (either (r.game.passes == 2) _ _ _ e) [
   | inl over ↦ let bad : Err _ ≡ Ok q = over in cc
   | inr on ↦ elim (either (nat_le 2000 r.turns) _ _ _ on) [
@@ -58,19 +58,19 @@ sized_turn r t q e h = elim (either (r.game.passes == 2) _ _ _ e) [
   ]
 ]
 
-sized_by : (r : GameSoFar) (k : Colour) (t : Turn) (q : GameSoFar) → replay_turn_by r k t ≡ Ok q → IsSized r.game → IsSized q.game
+sized_by : (r : GameSoFar) (k : Colour) (t : Turn) (q : GameSoFar) → play_turn_by r k t ≡ Ok q → IsSized r.game → IsSized q.game
 sized_by r k t q e h = elim (either (same_colour r.game.to_move k) _ _ _ e) [
   | inl its ↦ sized_turn r t q its h
   | inr others ↦
-      let passed = step_made (replay_with r Pass) (λ x. replay_with x t) q others in
+      let passed = step_made (play_next_turn r Pass) (λ x. play_next_turn x t) q others in
       sized_turn passed.0 t q passed.2 (sized_turn r Pass passed.0 passed.1 h)
 ]
 
-sized_named : (r : GameSoFar) (k : Colour) (o : Option PointOrPass) (q : GameSoFar) → turn_named r k o ≡ Ok q → IsSized r.game → IsSized q.game
+sized_named : (r : GameSoFar) (k : Colour) (o : Option PointOrPass) (q : GameSoFar) → play_named_turn r k o ≡ Ok q → IsSized r.game → IsSized q.game
 sized_named r k None q e h = let bad : Err _ ≡ Ok q = e in cc
 sized_named r k (Some v) q e h = sized_by r k (as_turn v) q e h
 
-sized_move : (r : GameSoFar) (vs ws : List (List ℕ)) (q : GameSoFar) → game_after_move r vs ws ≡ Ok q → IsSized r.game → IsSized q.game
+sized_move : (r : GameSoFar) (vs ws : List (List ℕ)) (q : GameSoFar) → play_node_move r vs ws ≡ Ok q → IsSized r.game → IsSized q.game
 sized_move r (v ∷ vs) ws q e h = sized_named r Black (point_of r.game.size (trimmed v)) q e h
 sized_move r [] (w ∷ ws) q e h = sized_named r White (point_of r.game.size (trimmed w)) q e h
 sized_move r [] [] q e h = let same : r ≡ q = cc in subst (λ (x : GameSoFar). IsSized x.game) same h
@@ -78,7 +78,7 @@ sized_move r [] [] q e h = let same : r ≡ q = cc in subst (λ (x : GameSoFar).
 -- ---- setup
 
 -- a setup's colouring begins a history with an entry for each point
-sized_begun : (r : GameSoFar) (c : Colouring) (k : Colour) (q : GameSoFar) → begun r c k ≡ Ok q → length c ≡ point_count r.game.size → IsSized q.game
+sized_begun : (r : GameSoFar) (c : Colouring) (k : Colour) (q : GameSoFar) → game_after_setup r c k ≡ Ok q → length c ≡ point_count r.game.size → IsSized q.game
 sized_begun r c k q e fits = elim (either (all_have_liberties r.game.size c) _ _ _ e) [
   | inl alive ↦
       let same : record { game = begun_with r.game.size c k; turns = r.turns } ≡ q = cc in
@@ -103,11 +103,11 @@ sized_set_up r (Some black) (Some white) (Some bare) (Some k) q e = elim (either
 sized_step : (r : GameSoFar) (n : Node) (q : GameSoFar) → step_node r n ≡ Ok q → IsSized r.game → IsSized q.game
 unfolding step_node
 sized_step r n q e h = elim (either (is_setup n) _ _ _ e) [
-  | inl setup ↦ elim (either (nat_le 1 (moves_in n)) _ _ _ setup) [
+  | inl setup ↦ elim (either (nat_le 1 (move_count n)) _ _ _ setup) [
     | inl mixed ↦ let bad : Err _ ≡ Ok q = mixed in cc
-    | inr pure ↦ sized_set_up r (set_named r.game.size AB n) (set_named r.game.size AW n) (set_named r.game.size AE n) (colour_named (values_of PL n.properties)) q pure
+    | inr pure ↦ sized_set_up r (set_named r.game.size AB n) (set_named r.game.size AW n) (set_named r.game.size AE n) (mover_of_values (values_of PL n.properties)) q pure
   ]
-  | inr moves ↦ elim (either (nat_le 2 (moves_in n)) _ _ _ moves) [
+  | inr moves ↦ elim (either (nat_le 2 (move_count n)) _ _ _ moves) [
     | inl mixed ↦ let bad : Err _ ≡ Ok q = mixed in cc
     | inr pure ↦ sized_move r (values_of B n.properties) (values_of W n.properties) q pure h
   ]
@@ -121,11 +121,11 @@ sized_empty (Some size) q e =
     subst (λ (x : GameSoFar). IsSized x.game) same (alone size (replicate (point_count size) None) (length-replicate (point_count size) None))
 
 -- and so has the board with which a line begins
-sized_begin : (ns : List Node) (q : GameSoFar) → begin_line ns ≡ Ok q → IsSized q.game
+sized_begin : (ns : List Node) (q : GameSoFar) → begin_record ns ≡ Ok q → IsSized q.game
 unfolding begin_node
 sized_begin [] q e = sized_empty (sized 19 19) q e
 sized_begin (n ∷ ns) q e = elim (either (is_go (values_of GM n.properties)) _ _ _ e) [
-  | inl go ↦ sized_empty (size_named (values_of SZ n.properties)) q go
+  | inl go ↦ sized_empty (size_or_default (values_of SZ n.properties)) q go
   | inr other ↦ let bad : Err _ ≡ Ok q = other in cc
 ]
 
@@ -139,7 +139,7 @@ HasState p = IsState p.frame p.state
 state_with : (s : GameState) (region targets : Points) (o : Option Colour) (q : LineWithUndo) → problem_with s region targets o ≡ Ok q → IsSized s → HasState q
 state_with s region targets None q e h = let bad : Err _ ≡ Ok q = e in cc
 state_with s region targets (Some k) q e h =
-    let same : posed s region targets k ≡ q = cc in
+    let same : posed_problem s region targets k ≡ q = cc in
     subst HasState same (record { sized = h; passes = omega arith })
 
 state_on : (s : GameState) (region targets : Points) (q : LineWithUndo) → problem_on s region targets ≡ Ok q → IsSized s → HasState q
@@ -157,8 +157,8 @@ state_at s (Some targets) None q e h = let bad : Err _ ≡ Ok q = e in cc
 state_at s (Some targets) (Some region) q e h = state_on s region targets q e h
 
 -- so has one that nodes come to
-state_nodes : (r : GameSoFar) (ns : List Node) (q : LineWithUndo) → run_to_mark r ns ≡ Ok q → IsSized r.game → HasState q
-unfolding run_to_mark
+state_nodes : (r : GameSoFar) (ns : List Node) (q : LineWithUndo) → problem_at_targets r ns ≡ Ok q → IsSized r.game → HasState q
+unfolding problem_at_targets
 state_nodes r [] q e h = let bad : Err _ ≡ Ok q = e in cc
 state_nodes r (n ∷ ns) q e h =
     let made = step_made (step_node r n) _ q e in
@@ -172,5 +172,5 @@ state_nodes r (n ∷ ns) q e h =
 pub problem_state : ProblemsAreStates
 unfolding problem_of
 problem_state ns q e =
-    let made = step_made (begin_line ns) _ q e in
+    let made = step_made (begin_record ns) _ q e in
     state_nodes made.0 ns q made.2 (sized_begin ns made.0 made.1)

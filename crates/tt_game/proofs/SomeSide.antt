@@ -14,9 +14,9 @@ use Rattle.tt_game.specs.declared.frame.Side.TheVariants.{Attacker, Defender}
 use Rattle.tt_game.specs.declared.turns.Turn.{Turn}
 use Rattle.tt_game.specs.declared.turns.Turn.TheVariants.{Play, Pass}
 use Rattle.tt_game.specs.declared.frame.Frame.{Frame}
-use Rattle.tt_game.specs.Game.{State, history, winner_of, made, after, opponent, IsLegal, Forces, side_colour, longest}
+use Rattle.tt_game.specs.Game.{State, history, winner_of, made, after, opponent, IsLegal, Forces, side_colour, longest_game}
 use Rattle.tt_game.proofs.GameHistoryLemmas.{twice}
-use Rattle.tt_game.specs.Legality.{legal}
+use Rattle.tt_game.specs.Legality.{decide_legal}
 use Rattle.tt_game.specs.GameLaws.{IsState, SomeSideForces, TurnsKeepStates, ValuesAreForced}
 use Rattle.tt_game.proofs.OneSide.{not_both}
 use Rattle.tt_game.proofs.ValueLemmas.{colourings_of, count_less, complete, length-colourings_of, new_count, is_new, is_new_says}
@@ -64,10 +64,10 @@ room : Frame → State → ℕ
 room f s = 2 * new_count (history s) (point_count f.size) + (2 - s.passes)
 
 -- one side or the other, told for either of the two sides
-turned : (f : Frame) (side to : Side) (n : ℕ) (s : State) → Forces f Attacker n s ⊎ Forces f Defender n s → Forces f side n s ⊎ Forces f (opponent side) n s
-turned f Attacker to n s h = h
-turned f Defender to n s (inl a) = inr a
-turned f Defender to n s (inr d) = inl d
+game_after_turn : (f : Frame) (side to : Side) (n : ℕ) (s : State) → Forces f Attacker n s ⊎ Forces f Defender n s → Forces f side n s ⊎ Forces f (opponent side) n s
+game_after_turn f Attacker to n s h = h
+game_after_turn f Defender to n s (inl a) = inr a
+game_after_turn f Defender to n s (inr d) = inl d
 
 back : (f : Frame) (side : Side) (n : ℕ) (s : State) → Forces f side n s ⊎ Forces f (opponent side) n s → Forces f Attacker n s ⊎ Forces f Defender n s
 back f Attacker n s h = h
@@ -86,7 +86,7 @@ best : (f : Frame) (s : State) (n : ℕ) → winner_of f s ≡ None → ((t : Tu
     → Forces f s.to_move (suc n) s ⊎ Forces f (opponent s.to_move) (suc n) s
 best f s n on behind =
     elim (some_or_all (λ p. IsLegal f s (Play p) × Forces f s.to_move n (after f s (Play p))) (λ p. IsLegal f s (Play p) → Forces f (opponent s.to_move) n (after f s (Play p))) (point_count f.size)
-    (λ p in_p. elim (legal f s (Play p)) [
+    (λ p in_p. elim (decide_legal f s (Play p)) [
       | inr not_ ↦ inr (λ l. absurd (not_ l))
       | inl l ↦ elim (behind (Play p) l) [ inl mine ↦ inl (l, mine) | inr its ↦ inr (λ _. its) ]
     ])) [
@@ -128,11 +128,11 @@ valued (suc n) f s is enough = elim (won f s) [
   | inl w ↦ already f w.0 (suc n) s w.1
   | inr on ↦ back f s.to_move (suc n) s (best f s n on.0 (λ t l.
       let next = smaller f s t is on.1 l in
-      turned f s.to_move s.to_move n (after f s t) (valued n f (after f s t) next.0 (omega (arith, next.1)))))
+      game_after_turn f s.to_move s.to_move n (after f s t) (valued n f (after f s t) next.0 (omega (arith, next.1)))))
 ]
 
 -- the room is at most the bound
-fits : (f : Frame) (s : State) → IsState f s → room f s ≤ longest f
+fits : (f : Frame) (s : State) → IsState f s → room f s ≤ longest_game f
 unfolding room
 fits f s is =
     let some : 0 < length (history s) = omega (arith, length_push s.earlier s.present) in
@@ -142,7 +142,7 @@ fits f s is =
 
 -- at every state one side forces a win, within the bound
 pub some_side : SomeSideForces
-some_side f s is = valued (longest f) f s is (fits f s is)
+some_side f s is = valued (longest_game f) f s is (fits f s is)
 
 -- a legal turn leaves a state
 pub state_after : TurnsKeepStates
@@ -161,7 +161,7 @@ values_forced f s Attacker is = (
   λ v. v,
   λ n mine. elim (some_side f s is) [
     | inl a ↦ a
-    | inr d ↦ absurd (not_both n (longest f) f s mine d)
+    | inr d ↦ absurd (not_both n (longest_game f) f s mine d)
   ],
 )
 values_forced f s Defender is = (
@@ -169,5 +169,5 @@ values_forced f s Defender is = (
     | inl a ↦ absurd (v a)
     | inr d ↦ d
   ],
-  λ n mine a. not_both (longest f) n f s a mine,
+  λ n mine a. not_both (longest_game f) n f s a mine,
 )

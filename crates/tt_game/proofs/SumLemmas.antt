@@ -17,8 +17,8 @@ use Rattle.tt_board.specs.Reach.{entry_at}
 use Rattle.tt_board.specs.Play.{is_stone_of}
 use Rattle.tt_sgf.specs.declared.size.Size.{Size}
 use Rattle.tt_sgf.specs.Sizes.{point_count}
-use Rattle.tt_sgf.specs.laws.SizeLaws.{few_points}
-use Rattle.tt_game.specs.declared.history.bloom_filter.TheConstants.{LOW, MIXER, FILTER_BITS, WEIGHTS}
+use Rattle.tt_sgf.specs.laws.SizeLaws.{point_count_is_bounded}
+use Rattle.tt_game.specs.declared.history.bloom_filter.TheConstants.{FILTER_HASH_DIVISOR, MIXER, FILTER_BITS, MIXER_POWERS}
 use Rattle.tt_game.specs.Keys.{bits_of, value_of_bits, words_of, bit_words}
 use Rattle.tt_game.specs.Mixing.{mix, mix_board}
 use Rattle.tt_game.specs.BloomFilter.{filter_index}
@@ -113,7 +113,7 @@ length-bits : (g : Size) (test : ℕ → Bool) → length (bits_of g test) ≡ 3
 unfolding bits_of
 length-bits g test =
     let n = point_count g in
-    omega (arith, few_points g, length-append (map test (range_with_len 0 n)) (replicate (384 - n) false), length-map-range_with_len test 0 n, length-replicate {A = Bool} (384 - n) false)
+    omega (arith, point_count_is_bounded g, length-append (map test (range_with_len 0 n)) (replicate (384 - n) false), length-map-range_with_len test 0 n, length-replicate {A = Bool} (384 - n) false)
 
 -- a test that one point more passes has one bit more
 mark_more : (g : Size) (test tell : ℕ → Bool) (p : ℕ) → p < point_count g → tell p ≡ true → ((q : ℕ) → q ≢ p → tell q ≡ test q) → bits_of g tell ≡ set (bits_of g test) p true
@@ -124,7 +124,7 @@ mark_more g test tell p on here others =
     at q in' = elim (cases_eq q p) [
       | inl same ↦
           ap (λ j. get_or (bits_of g tell) j false) same ∙ mark_at g tell p on ∙ here
-          ∙ sym (ap (λ j. get_or (set (bits_of g test) p true) j false) same ∙ get_or-set_same (bits_of g test) p true false (omega (arith, on, few_points g, length-bits g test)))
+          ∙ sym (ap (λ j. get_or (set (bits_of g test) p true) j false) same ∙ get_or-set_same (bits_of g test) p true false (omega (arith, on, point_count_is_bounded g, length-bits g test)))
       | inr apart ↦ elim (cases_lt q (point_count g)) [
         | inl below ↦ mark_at g tell q below ∙ others q apart ∙ sym (get_or-set_other (bits_of g test) p q true false apart ∙ mark_at g test q below)
         | inr past ↦ mark_past g tell q past ∙ sym (get_or-set_other (bits_of g test) p q true false apart ∙ mark_past g test q past)
@@ -162,7 +162,7 @@ module _ (g : Size) (c : Colouring) (p : ℕ) (fits : length c ≡ point_count g
   grown_here s k is bare =
       let bits = bits_of g (λ q. is_stone_of (entry_at c q) k) in
       ap (λ x. mix s (words_of 6 x)) (own k is)
-      ∙ grown s 6 bits p (length-bits g (λ q. is_stone_of (entry_at c q) k)) (omega (arith, on, few_points g))
+      ∙ grown s 6 bits p (length-bits g (λ q. is_stone_of (entry_at c q) k)) (omega (arith, on, point_count_is_bounded g))
       (mark_at g (λ q. is_stone_of (entry_at c q) k) p on ∙ ap (λ x. is_stone_of x k) free ∙ bare)
 
   pub summed : (k : Colour) → mix_board g (set c p (Some k)) ≡ (mix_board g c + 2 ^ (p % 64) * MIXER ^ (behind k - p / 64)) % 2 ^ 64
@@ -172,7 +172,7 @@ module _ (g : Size) (c : Colouring) (p : ℕ) (fits : length c ≡ point_count g
       let d = 2 ^ (p % 64) * MIXER ^ (5 - p / 64) in
       let powers : d * MIXER ^ 6 ≡ 2 ^ (p % 64) * MIXER ^ (11 - p / 64) =
       mul_assoc (2 ^ (p % 64)) (MIXER ^ (5 - p / 64)) (MIXER ^ 6)
-      ∙ ap (λ n. 2 ^ (p % 64) * n) (sym (pow-add MIXER (5 - p / 64) 6) ∙ ap (λ e. MIXER ^ e) (omega (arith, on, few_points g))) in
+      ∙ ap (λ n. 2 ^ (p % 64) * n) (sym (pow-add MIXER (5 - p / 64) 6) ∙ ap (λ e. MIXER ^ e) (omega (arith, on, point_count_is_bounded g))) in
       ap (mix (mix 0 (bit_words g (λ q. is_stone_of (entry_at (set c p (Some Black)) q) Black)))) (other Black White refl)
       ∙ ap (λ n. mix n white) (grown_here 0 Black refl refl)
       ∙ shifted s d white
@@ -184,12 +184,12 @@ module _ (g : Size) (c : Colouring) (p : ℕ) (fits : length c ≡ point_count g
 
 -- the hash of a colouring with a stone more, by what the words make without it
 pub hash_more : (g : Size) (c : Colouring) (p : ℕ) (k : Colour) (sum w : ℕ) → length c ≡ point_count g → p < point_count g → entry_at c p ≡ None → sum ≡ mix_board g c
-    → w ≡ MIXER ^ (behind k - p / 64) % 2 ^ 64 → (sum + 2 ^ (p % 64) * w % 2 ^ 64) % 2 ^ 64 * MIXER % 2 ^ 64 / LOW % FILTER_BITS ≡ filter_index g (set c p (Some k))
+    → w ≡ MIXER ^ (behind k - p / 64) % 2 ^ 64 → (sum + 2 ^ (p % 64) * w % 2 ^ 64) % 2 ^ 64 * MIXER % 2 ^ 64 / FILTER_HASH_DIVISOR % FILTER_BITS ≡ filter_index g (set c p (Some k))
 unfolding filter_index
 hash_more g c p k sum w fits on free is weighs =
     let d = 2 ^ (p % 64) in
     let power = MIXER ^ (behind k - p / 64) in
-    ap (λ n. n * MIXER % 2 ^ 64 / LOW % FILTER_BITS) (
+    ap (λ n. n * MIXER % 2 ^ 64 / FILTER_HASH_DIVISOR % FILTER_BITS) (
     ap (λ n. (n + d * w % 2 ^ 64) % 2 ^ 64) is
     ∙ add-mod-mod (mix_board g c) (d * w) (2 ^ 64)
     ∙ ap (λ n. (mix_board g c + d * n) % 2 ^ 64) weighs
@@ -200,7 +200,7 @@ hash_more g c p k sum w fits on free is weighs =
     )
 
 -- the weights are the powers
-pub weight : (e : ℕ) → e < 12 → get_or WEIGHTS e 0 ≡ MIXER ^ e % 2 ^ 64
+pub weight : (e : ℕ) → e < 12 → get_or MIXER_POWERS e 0 ≡ MIXER ^ e % 2 ^ 64
 weight zero lt = refl
 weight (suc zero) lt = refl
 weight (suc (suc zero)) lt = refl

@@ -6,7 +6,7 @@ use Rattle.tt_sgf.specs.Sizes.{point_count}
 use Rattle.tt_game.specs.declared.frame.Frame.{Frame}
 use Rattle.tt_game.specs.declared.turns.Turn.{Turn}
 use Rattle.tt_game.specs.declared.turns.Turn.TheVariants.{Play, Pass}
-use Rattle.tt_game.specs.Turns.{TurnWithWinner, all_turns, is_legal, is_legal_is, legal_turns, turn_with_winner, turns_with_winners, turns_with_winners_from}
+use Rattle.tt_game.specs.Turns.{TurnWithWinner, all_turns, is_legal, is_legal_is_exact, legal_turns, turn_with_winner, turns_with_winners, turns_with_winners_from}
 use Rattle.tt_game.specs.Game.{State, IsLegal, winner_of}
 
 -- the first point of those that are left is the first in the list
@@ -26,11 +26,11 @@ first f s n lt =
 -- a legal play comes first, and none is passed over
 pub from_more : (f : Frame) (s : State) (n : ℕ) → IsLegal f s (Play n) → turns_with_winners_from f s n ≡ turn_with_winner f s (Play n) ∷ turns_with_winners_from f s (n + 1)
 from_more f s n l =
-    first f s n l.1 ∙ ap (λ b. cond b (turn_with_winner f s (Play n) ∷ turns_with_winners_from f s (n + 1)) (turns_with_winners_from f s (n + 1))) ((is_legal_is f s (Play n)).1 l)
+    first f s n l.1 ∙ ap (λ b. cond b (turn_with_winner f s (Play n) ∷ turns_with_winners_from f s (n + 1)) (turns_with_winners_from f s (n + 1))) ((is_legal_is_exact f s (Play n)).1 l)
 
 pub from_skip : (f : Frame) (s : State) (n : ℕ) → n < point_count f.size → (IsLegal f s (Play n) → ⊥) → turns_with_winners_from f s n ≡ turns_with_winners_from f s (n + 1)
 from_skip f s n lt h =
-    first f s n lt ∙ ap (λ b. cond b (turn_with_winner f s (Play n) ∷ turns_with_winners_from f s (n + 1)) (turns_with_winners_from f s (n + 1))) ((is_legal_is f s (Play n)).2 h)
+    first f s n lt ∙ ap (λ b. cond b (turn_with_winner f s (Play n) ∷ turns_with_winners_from f s (n + 1)) (turns_with_winners_from f s (n + 1))) ((is_legal_is_exact f s (Play n)).2 h)
 
 -- so from one point to the next with a legal play nothing changes
 gap_of : (f : Frame) (s : State) (n d : ℕ) → n + d ≤ point_count f.size → ((q : ℕ) → n ≤ q → q < n + d → IsLegal f s (Play q) → ⊥) → turns_with_winners_from f s n ≡ turns_with_winners_from f s (n + d)
@@ -51,7 +51,7 @@ last : (f : Frame) (s : State) → winner_of f s ≡ None → turns_with_winners
 unfolding turns_with_winners_from
 last f s on =
     let none : point_count f.size - point_count f.size ≡ 0 = omega arith in
-    let pass : is_legal f s Pass ≡ true = (is_legal_is f s Pass).1 on in
+    let pass : is_legal f s Pass ≡ true = (is_legal_is_exact f s Pass).1 on in
     ap (λ k. map (turn_with_winner f s) (filter (is_legal f s) (map (λ p. Play p) (range_with_len (point_count f.size) k) ++ Pass ∷ []))) none
     ∙ ap (λ b. map (turn_with_winner f s) (cond b (Pass ∷ []) [])) pass
 
@@ -60,8 +60,8 @@ from_last f s n le on none = from_gap f s n (point_count f.size) le (omega arith
 
 -- no turn is legal once somebody has won
 over : (f : Frame) (s : State) → (winner_of f s ≡ None → ⊥) → (t : Turn) → is_legal f s t ≡ false
-over f s won Pass = (is_legal_is f s Pass).2 won
-over f s won (Play p) = (is_legal_is f s (Play p)).2 (λ l. won l.0)
+over f s won Pass = (is_legal_is_exact f s Pass).2 won
+over f s won (Play p) = (is_legal_is_exact f s (Play p)).2 (λ l. won l.0)
 
 -- a test that nothing passes leaves nothing of a list
 nothing : {X : Type 0} (p : X → Bool) (xs : List X) → ((x : X) → p x ≡ false) → filter p xs ≡ []

@@ -7,7 +7,7 @@ use Rattle.std.proofs.lemmas.List.Sums.{sum_by-cons, sum_by-le-sum_by}
 use Rattle.std.proofs.Math.Nat.{pow-suc}
 use Rattle.tt_board.specs.declared.Colour.{Colour}
 use Rattle.tt_board.specs.declared.Colour.TheVariants.{Black, White}
-use Rattle.tt_game.specs.History.{repeats, repeats_is}
+use Rattle.tt_game.specs.Superko.{repeats, repeats_is_exact}
 
 -- these lists, each with x at its front
 pub led_by : Option Colour → List (List (Option Colour)) → List (List (Option Colour))
@@ -69,7 +69,7 @@ is_new h c = not (repeats h c)
 pub is_new_says : (h : List (List (Option Colour))) (c : List (Option Colour)) → (is_new h c ≡ true → Contains h c → ⊥) × ((Contains h c → ⊥) → is_new h c ≡ true) × (Contains h c → is_new h c ≡ false)
 unfolding is_new
 is_new_says h c =
-    (λ e has. false≢true (sym (ap not ((repeats_is h c).1 has)) ∙ e), λ fresh. ap not ((repeats_is h c).2 fresh), λ has. ap not ((repeats_is h c).1 has))
+    (λ e has. false≢true (sym (ap not ((repeats_is_exact h c).1 has)) ∙ e), λ fresh. ap not ((repeats_is_exact h c).2 fresh), λ has. ap not ((repeats_is_exact h c).1 has))
 
 -- how many colourings of n points are not in the history
 unfoldable pub new_count : List (List (Option Colour)) → ℕ → ℕ

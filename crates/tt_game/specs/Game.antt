@@ -1,9 +1,9 @@
 -- The game of a problem: states, legal turns, who has won, and what a side can force. Turns, superko and the end by two
 -- passes are those of the Tromp-Taylor rules; the region and the targets are the problem's.
-use Rattle.std.specs.Prelude.{◌≡◌, ℕ, zero, suc, ◌+◌, ◌*◌, ◌^◌, ◌<◌, ◌⊎◌, List, [], ◌∷◌, ◌++◌, Contains, Option, Some, None, IsTrue, if◌then◌else◌, ◌==◌}
+use Rattle.std.specs.Prelude.{◌≡◌, ℕ, zero, suc, ◌+◌, ◌*◌, ◌^◌, ◌<◌, ◌⊎◌, List, [], ◌∷◌, ◌++◌, Option, Some, None, IsTrue, if◌then◌else◌, ◌==◌}
 use Rattle.std.specs.FinSet as set
 use Rattle.tt_board.specs.declared.Colour.{Colour}
-use Rattle.tt_board.specs.Position.{Colouring}
+use Rattle.tt_board.specs.Position.{Colouring, HasBeen}
 use Rattle.tt_board.specs.Reach.{entry_at}
 use Rattle.tt_board.specs.Play.{play_of, other}
 use Rattle.tt_board.specs.Stones.{any_empty}
@@ -52,7 +52,7 @@ made f s p = play_of f.size s.present (side_colour f s.to_move) p
 abbrev pub IsLegal : Frame → State → Turn → Type 0
 IsLegal f s Pass = winner_of f s ≡ None
 IsLegal f s (Play p) =
-    (winner_of f s ≡ None) × (p < point_count f.size) × (entry_at s.present p ≡ None) × IsTrue (set.contains f.region p) × (Contains (history s) (made f s p) → ⊥)
+    (winner_of f s ≡ None) × (p < point_count f.size) × (entry_at s.present p ≡ None) × IsTrue (set.contains f.region p) × (HasBeen (history s) (made f s p) → ⊥)
 
 -- a pass appends nothing and is counted; a play appends its colouring and ends the count
 abbrev pub after : Frame → State → Turn → State
@@ -72,14 +72,14 @@ pub data Value : Type 0 where
   lives : Value
 
 -- twice as many turns as there are colourings of the board
-abbrev pub longest : Frame → ℕ
-longest f = 2 * 3 ^ point_count f.size
+abbrev pub longest_game : Frame → ℕ
+longest_game f = 2 * 3 ^ point_count f.size
 
 -- killed where the attacker forces a win within that many turns, else it lives. No win needs more: each play makes a new
 -- colouring, and two passes in a row end the game. Where it lives the defender forces a win: `ValuesAreForced` of GameLaws
 abbrev pub HasValue : Frame → State → Value → Type 0
-HasValue f s killed = Forces f Attacker (longest f) s
-HasValue f s lives = Forces f Attacker (longest f) s → ⊥
+HasValue f s killed = Forces f Attacker (longest_game f) s
+HasValue f s lives = Forces f Attacker (longest_game f) s → ⊥
 
 -- what a state comes to where the side wins
 abbrev pub value_for : Side → Value

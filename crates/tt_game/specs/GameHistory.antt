@@ -1,8 +1,8 @@
 -- The history of a game, of a record or of a problem: its colourings so far, and the passes in a row. Positional superko.
-use Rattle.std.specs.Prelude.{ℕ, ◌+◌, List, [], ◌∷◌, ◌++◌, Contains}
+use Rattle.std.specs.Prelude.{ℕ, ◌+◌, List, [], ◌∷◌, ◌++◌}
 use Rattle.tt_sgf.specs.declared.size.Size.{Size}
 use Rattle.tt_board.specs.Position.{Colouring}
-pub use Rattle.tt_board.specs.Position.{colourings}
+pub use Rattle.tt_board.specs.Position.{colourings, HasBeen}
 
 -- the size of the board; the colourings before the present one, oldest first; the present one; the passes in a row
 pub record GameHistory : Type 0 where
@@ -14,10 +14,6 @@ pub record GameHistory : Type 0 where
 -- all colourings so far, oldest first, the present one last
 abbrev pub so_far : GameHistory → List Colouring
 so_far c = c.earlier ++ c.present ∷ []
-
--- positional superko bars a play that makes a colouring that has been, the present one among them
-abbrev pub HasBeen : List Colouring → Colouring → Type 0
-HasBeen history c = Contains history c
 
 -- a play appends the colouring that it makes, and ends the count of passes
 abbrev pub with_colouring : GameHistory → Colouring → GameHistory

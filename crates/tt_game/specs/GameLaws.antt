@@ -4,7 +4,7 @@ use Rattle.tt_sgf.specs.Sizes.{point_count}
 use Rattle.tt_game.specs.declared.frame.Side.{Side}
 use Rattle.tt_game.specs.declared.frame.Side.TheVariants.{Attacker, Defender}
 use Rattle.tt_game.specs.declared.frame.Frame.{Frame}
-use Rattle.tt_game.specs.Game.{State, history, winner_of, after, IsLegal, Forces, HasValue, longest, value_for}
+use Rattle.tt_game.specs.Game.{State, history, winner_of, after, IsLegal, Forces, HasValue, longest_game, value_for}
 use Rattle.tt_game.specs.Line.{LineWithUndo}
 use Rattle.tt_game.specs.Problems.{problem_of}
 use Rattle.tt_sgf.specs.declared.nodes.Node.{Node}
@@ -23,12 +23,12 @@ pub record IsState (f : Frame) (s : State) : Type 0 where
 
 -- at every such state one side forces a win, within twice as many turns as there are colourings
 abbrev pub SomeSideForces : Type 0
-SomeSideForces = (f : Frame) (s : State) → IsState f s → Forces f Attacker (longest f) s ⊎ Forces f Defender (longest f) s
+SomeSideForces = (f : Frame) (s : State) → IsState f s → Forces f Attacker (longest_game f) s ⊎ Forces f Defender (longest_game f) s
 
 -- such a state has a side's value exactly where that side forces a win, within some number of turns or within the bound
 abbrev pub ValuesAreForced : Type 0
 ValuesAreForced = (f : Frame) (s : State) (side : Side) → IsState f s
-    → (HasValue f s (value_for side) → Forces f side (longest f) s) × ((n : ℕ) → Forces f side n s → HasValue f s (value_for side))
+    → (HasValue f s (value_for side) → Forces f side (longest_game f) s) × ((n : ℕ) → Forces f side n s → HasValue f s (value_for side))
 
 -- a legal turn leads from such a state to another
 abbrev pub TurnsKeepStates : Type 0
@@ -39,8 +39,8 @@ abbrev pub LegalTurnsListed : Type 0
 LegalTurnsListed = (f : Frame) (s : State) → ((t : Turn) → Contains (legal_turns f s) t ↔ IsLegal f s t) × IsRising f (legal_turns f s) × (length (legal_turns f s) ≤ MOST_LEGAL)
 
 -- nobody has won at a problem
-abbrev pub ProblemsOpen : Type 0
-ProblemsOpen = (nodes : List Node) (p : LineWithUndo) → problem_of nodes ≡ Ok p → winner_of p.frame p.state ≡ None
+abbrev pub ProblemsHaveNoWinner : Type 0
+ProblemsHaveNoWinner = (nodes : List Node) (p : LineWithUndo) → problem_of nodes ≡ Ok p → winner_of p.frame p.state ≡ None
 
 -- the state of a problem is such a state
 abbrev pub ProblemsAreStates : Type 0

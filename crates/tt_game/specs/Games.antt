@@ -14,7 +14,7 @@ use Rattle.tt_game.specs.declared.faults.Refused.TheVariants.{Illegal, NoMemory}
 use Rattle.tt_game.specs.declared.turns.Turn.{Turn}
 use Rattle.tt_game.specs.declared.turns.Turn.TheVariants.{Play, Pass}
 use Rattle.tt_game.specs.GameHistory.{GameHistory, so_far, with_colouring, with_pass, new_game_history}
-use Rattle.tt_game.specs.History.{repeats}
+use Rattle.tt_game.specs.Superko.{repeats}
 
 -- a game: its board's size, the colourings before the present one (oldest first), the present one, who moves, and the
 -- passes in a row
@@ -34,8 +34,8 @@ abbrev pub game_at : GameHistory → Colour → GameState
 game_at c k = record { size = c.size; earlier = c.earlier; present = c.present; to_move = k; passes = c.passes }
 
 -- every colouring so far, oldest first, the present one last
-abbrev pub all_of : GameState → List Colouring
-all_of s = so_far (game_history s)
+abbrev pub game_colourings : GameState → List Colouring
+game_colourings s = so_far (game_history s)
 
 -- the colouring that a move on p makes
 abbrev pub colouring_after_move : GameState → ℕ → Colouring
@@ -43,7 +43,7 @@ colouring_after_move s p = play_of s.size s.present s.to_move p
 
 -- why a move is refused: a stone is there, or the colouring has been
 abbrev pub move_refusal : GameState → ℕ → Option Why
-move_refusal s p = cond (is_empty (entry_at s.present p)) (cond (repeats (all_of s) (colouring_after_move s p)) (Some Repeats) None) (Some Occupied)
+move_refusal s p = cond (is_empty (entry_at s.present p)) (cond (repeats (game_colourings s) (colouring_after_move s p)) (Some Repeats) None) (Some Occupied)
 
 -- why a turn is refused: two passes ended the game, or the move is refused
 abbrev pub refusal_of : GameState → Turn → Option Why
@@ -51,14 +51,14 @@ refusal_of s Pass = cond (s.passes == 2) (Some Over) None
 refusal_of s (Play p) = cond (s.passes == 2) (Some Over) (move_refusal s p)
 
 -- the game after a turn
-abbrev pub turned : GameState → Turn → GameState
-turned s Pass = game_at (with_pass (game_history s)) (other s.to_move)
-turned s (Play p) = game_at (with_colouring (game_history s) (colouring_after_move s p)) (other s.to_move)
+abbrev pub game_after_turn : GameState → Turn → GameState
+game_after_turn s Pass = game_at (with_pass (game_history s)) (other s.to_move)
+game_after_turn s (Play p) = game_at (with_colouring (game_history s) (colouring_after_move s p)) (other s.to_move)
 
 -- an error of a push
-abbrev pub IsHalted : GameState → Turn → Refused → Type 0
-IsHalted s t (Illegal why) = refusal_of s t ≡ Some why
-IsHalted s t NoMemory = refusal_of s t ≡ None
+abbrev pub IsGamePushFailure : GameState → Turn → Refused → Type 0
+IsGamePushFailure s t (Illegal why) = refusal_of s t ≡ Some why
+IsGamePushFailure s t NoMemory = refusal_of s t ≡ None
 
 -- a game that begins with this colouring alone
 abbrev pub begun_with : Size → Colouring → Colour → GameState

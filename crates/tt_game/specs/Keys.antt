@@ -16,7 +16,7 @@ use Rattle.tt_game.specs.Game.{State}
 unfoldable pub bits_of : Size → (ℕ → Bool) → List Bool
 bits_of size test = map test (range_with_len 0 (point_count size)) ++ replicate (BITS - point_count size) false
 
--- the number whose value_of_bits digits these bits are, the first bit the least digit
+-- the number whose binary digits these bits are, the first bit the least digit
 abbrev pub value_of_bits : List Bool → ℕ
 value_of_bits [] = 0
 value_of_bits (b ∷ bs) = cond b 1 0 + 2 * value_of_bits bs
@@ -54,5 +54,5 @@ pub record LookAlike (f g : Frame) (s t : State) : Type 0 where
   pub passes : s.passes ≡ t.passes
 
 -- positions have one key exactly where they look alike
-abbrev pub KeysTell : Type 0
-KeysTell = (f g : Frame) (s t : State) → (key_of f s ≡ key_of g t) ↔ LookAlike f g s t
+abbrev pub SameKeyMeansAlike : Type 0
+SameKeyMeansAlike = (f g : Frame) (s t : State) → (key_of f s ≡ key_of g t) ↔ LookAlike f g s t

@@ -3,7 +3,7 @@ use Rattle.std.specs.Prelude.{◌≡◌, ℕ, ◌<◌, Option, Some, None, Bool,
 use Rattle.std.specs.FinSet as set
 use Rattle.std.proofs.Common.{inl, inr, refl, arith}
 use Rattle.std.proofs.lemmas.Bool.{cases_lt, false≢true}
-use Rattle.tt_board.specs.Decided.{Decision, both, denied, same_entry}
+use Rattle.tt_board.specs.Decided.{Decision, decide_both, decide_not, decide_same_entry}
 use Rattle.tt_board.specs.Reach.{entry_at}
 use Rattle.tt_sgf.specs.Sizes.{point_count}
 use Rattle.tt_game.specs.declared.frame.Side.{Side}
@@ -11,7 +11,7 @@ use Rattle.tt_game.specs.declared.frame.Frame.{Frame}
 use Rattle.tt_game.specs.declared.turns.Turn.{Turn}
 use Rattle.tt_game.specs.declared.turns.Turn.TheVariants.{Play, Pass}
 use Rattle.tt_game.specs.Game.{State, history, winner_of, made, IsLegal}
-use Rattle.tt_game.specs.History.{in_history}
+use Rattle.tt_game.specs.Superko.{decide_in_history}
 
 -- whether nobody has won
 nobody : (w : Option Side) → Decision (w ≡ None)
@@ -28,11 +28,11 @@ inside true = inl refl
 inside false = inr false≢true
 
 -- the turn is legal, or it isn't
-pub legal : (f : Frame) (s : State) (t : Turn) → Decision (IsLegal f s t)
-legal f s Pass = nobody (winner_of f s)
-legal f s (Play p) =
-    elim (both (nobody (winner_of f s)) (both (below p (point_count f.size))
-    (both (same_entry (entry_at s.present p) None) (both (inside (set.contains f.region p)) (denied (in_history (history s) (made f s p))))))) [
+pub decide_legal : (f : Frame) (s : State) (t : Turn) → Decision (IsLegal f s t)
+decide_legal f s Pass = nobody (winner_of f s)
+decide_legal f s (Play p) =
+    elim (decide_both (nobody (winner_of f s)) (decide_both (below p (point_count f.size))
+    (decide_both (decide_same_entry (entry_at s.present p) None) (decide_both (inside (set.contains f.region p)) (decide_not (decide_in_history (history s) (made f s p))))))) [
       | inl h ↦ inl (h.0, h.1.0, h.1.1.0, h.1.1.1.0, h.1.1.1.1)
       | inr isnt ↦ inr (λ l. isnt (l.0, (l.1, (l.2, (l.3, l.4)))))
     ]

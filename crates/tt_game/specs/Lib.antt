@@ -2,7 +2,7 @@
 pub mod GameHistory
 pub mod Game
 pub mod Sides
-pub mod History
+pub mod Superko
 pub mod Legality
 pub mod MoveGenerators
 pub mod Turns

@@ -1,5 +1,5 @@
 -- Lines: a frame, a state, and what pops lead back to. Why a turn is refused, and what a push does.
-use Rattle.std.specs.Prelude.{◌≡◌, ◌≢◌, ℕ, ◌<◌, List, ◌∷◌, Contains, None, IsTrue}
+use Rattle.std.specs.Prelude.{◌≡◌, ◌≢◌, ℕ, ◌<◌, List, ◌∷◌, None, IsTrue}
 use Rattle.std.specs.FinSet as set
 use Rattle.tt_sgf.specs.Sizes.{point_count}
 use Rattle.tt_board.specs.Position.{Position}
@@ -16,12 +16,12 @@ use Rattle.tt_game.specs.GameHistory.{HasBeen}
 use Rattle.tt_game.specs.Game.{State, history, winner_of, made, IsLegal, after}
 
 -- a problem has some target, and all are on its board
-abbrev pub HasTargets : Frame → Type 0
-HasTargets f = (0 < set.len f.targets) × LiesOn f.size f.targets
+abbrev pub HasTargetsOnBoard : Frame → Type 0
+HasTargetsOnBoard f = (0 < set.len f.targets) × LiesOn f.size f.targets
 
 -- the play of the side to move on p, an empty point of the region, repeats a colouring of the history
 abbrev pub IsBarredBySuperko : Frame → State → ℕ → Type 0
-IsBarredBySuperko f s p = (p < point_count f.size) × (entry_at s.present p ≡ None) × IsTrue (set.contains f.region p) × Contains (history s) (made f s p)
+IsBarredBySuperko f s p = (p < point_count f.size) × (entry_at s.present p ≡ None) × IsTrue (set.contains f.region p) × HasBeen (history s) (made f s p)
 
 -- a frame, a state, and the states before the pushes that may be undone, the last one first
 pub record LineWithUndo : Type 0 where
@@ -35,8 +35,8 @@ pub record SnapshotState : Type 0 where
   pub state : State
 
 -- the state is of that frame, and has the present colouring, the side to move and the passes that stood there
-abbrev pub IsPosition : SnapshotState → Frame → State → Type 0
-IsPosition p f s = (p.frame ≡ f) × (s.present ≡ p.state.present) × (s.to_move ≡ p.state.to_move) × (s.passes ≡ p.state.passes)
+abbrev pub IsPositionOf : SnapshotState → Frame → State → Type 0
+IsPositionOf p f s = (p.frame ≡ f) × (s.present ≡ p.state.present) × (s.to_move ≡ p.state.to_move) × (s.passes ≡ p.state.passes)
 
 -- the history of the state has the board: it is the frame's, with a colouring that has been
 abbrev pub HasBoard : Frame → State → Position → Type 0
@@ -54,9 +54,9 @@ IsRefusal f s (Play p) Repeats =
     (winner_of f s ≡ None) × (entry_at s.present p ≡ None) × IsTrue (set.contains f.region p) × HasBeen (history s) (made f s p)
 
 -- an error of a push
-abbrev pub IsRefused : Frame → State → Turn → Refused → Type 0
-IsRefused f s t (Illegal why) = IsRefusal f s t why
-IsRefused f s t NoMemory = IsLegal f s t
+abbrev pub IsPushFailure : Frame → State → Turn → Refused → Type 0
+IsPushFailure f s t (Illegal why) = IsRefusal f s t why
+IsPushFailure f s t NoMemory = IsLegal f s t
 
 -- the turn was made, and the state before it may be undone to
 abbrev pub IsLineAfterTurn : LineWithUndo → LineWithUndo → Turn → Type 0

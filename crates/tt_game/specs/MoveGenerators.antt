@@ -6,7 +6,7 @@ use Rattle.tt_sgf.specs.MachineWords.{bit_in}
 use Rattle.tt_board.specs.declared.Colour.{Colour}
 use Rattle.tt_board.specs.declared.counted.play_kind.PlayKind.{PlayKind}
 use Rattle.tt_board.specs.declared.counted.play_kind.PlayKind.TheVariants.{NoCapture, SingleStoneSuicide, NeedsBoard}
-use Rattle.tt_board.specs.PlayKind.{IsKind}
+use Rattle.tt_board.specs.PlayKind.{IsPlayOfKind}
 use Rattle.tt_board.specs.Position.{Colouring}
 use Rattle.tt_board.specs.Reach.{entry_at}
 use Rattle.tt_board.specs.Stones.{IsEmptyIn}
@@ -17,10 +17,10 @@ use Rattle.tt_game.specs.Mixing.{mix_board}
 use Rattle.tt_game.specs.Game.{State, history, side_colour, made}
 
 -- what is foretold of a play: one that captures nothing makes a new colouring by its stone alone, a suicide of one stone the present colouring again
-abbrev pub IsKindAt : PlayKind → Frame → State → ℕ → Type 0
-IsKindAt NoCapture f s p = (HasBeen (history s) (made f s p) → ⊥) × (made f s p ≡ slice_set s.present p (Some (side_colour f s.to_move)))
-IsKindAt SingleStoneSuicide f s p = made f s p ≡ s.present
-IsKindAt NeedsBoard f s p = Unit {0}
+abbrev pub IsForetoldKind : PlayKind → Frame → State → ℕ → Type 0
+IsForetoldKind NoCapture f s p = (HasBeen (history s) (made f s p) → ⊥) × (made f s p ≡ slice_set s.present p (Some (side_colour f s.to_move)))
+IsForetoldKind SingleStoneSuicide f s p = made f s p ≡ s.present
+IsForetoldKind NeedsBoard f s p = Unit {0}
 
 -- the bits are 1 of all points of the board where a stone of this colour has stood in one of these colourings; of others they may be 1 too
 abbrev pub HaveStood : Colour → Size → List Colouring → List ℕ → Type 0
@@ -33,6 +33,6 @@ pub record IsMoveGenerator (v : MoveGenerator) (f : Frame) (s : State) : Type 0 
   pub colour : v.colour ≡ side_colour f s.to_move
   pub empty : (p : ℕ) → p < point_count f.size → (bit_in v.empty.words p ≡ true) ↔ IsEmptyIn f.size f.region s.present p
   pub stood : HaveStood v.colour f.size (history s) v.stood.words
-  pub no_capture : (p : ℕ) → p < point_count f.size → bit_in v.no_capture.words p ≡ true → IsKind NoCapture f.size s.present (side_colour f s.to_move) p
-  pub new_colouring : (p : ℕ) → p < point_count f.size → bit_in v.new_colouring.words p ≡ true → IsKindAt NoCapture f s p
+  pub no_capture : (p : ℕ) → p < point_count f.size → bit_in v.no_capture.words p ≡ true → IsPlayOfKind NoCapture f.size s.present (side_colour f s.to_move) p
+  pub new_colouring : (p : ℕ) → p < point_count f.size → bit_in v.new_colouring.words p ≡ true → IsForetoldKind NoCapture f s p
   pub sum : IfSome v.sum (λ n. n ≡ mix_board f.size s.present)

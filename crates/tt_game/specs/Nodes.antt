@@ -8,7 +8,7 @@ use Rattle.tt_sgf.specs.declared.nodes.Node.{Node}
 use Rattle.tt_sgf.specs.declared.nodes.Property.{Property}
 use Rattle.tt_sgf.specs.Sizes.{sized}
 use Rattle.tt_sgf.specs.Values.{after_blanks, number_of, size_of}
-use Rattle.tt_sgf.specs.Entries.{set_of}
+use Rattle.tt_sgf.specs.PointLists.{set_of}
 use Rattle.tt_board.specs.declared.Colour.{Colour}
 use Rattle.tt_board.specs.declared.Colour.TheVariants.{Black, White}
 use Rattle.tt_board.specs.Stones.{Points}
@@ -53,13 +53,13 @@ SQ = codes "SQ"
 -- ---- what the values say
 
 -- whether there is a value
-abbrev pub some_value : List (List ℕ) → Bool
-some_value [] = false
-some_value (v ∷ vs) = true
+abbrev pub has_some_value : List (List ℕ) → Bool
+has_some_value [] = false
+has_some_value (v ∷ vs) = true
 
 -- a property has a value in the node
 abbrev pub has : List ℕ → Node → Bool
-has name n = some_value (values_of name n.properties)
+has name n = has_some_value (values_of name n.properties)
 
 -- the points that the property names, or none where an entry is bad
 abbrev pub set_named : Size → List ℕ → Node → Option Points
@@ -70,22 +70,22 @@ abbrev pub ReadsSet : {E : Type 0} → Result Points E → Option Points → Typ
 ReadsSet result named = MatchResult result (λ s. named ≡ Some s) (λ _. named ≡ None)
 
 -- a colour by its first letter
-abbrev pub colour_at : List ℕ → Option Colour
-colour_at [] = None
-colour_at (b ∷ bs) = cond (b == 66 || b == 98) (Some Black) (cond (b == 87 || b == 119) (Some White) None)
+abbrev pub colour_of_letter : List ℕ → Option Colour
+colour_of_letter [] = None
+colour_of_letter (b ∷ bs) = cond (b == 66 || b == 98) (Some Black) (cond (b == 87 || b == 119) (Some White) None)
 
 -- the first value's colour, or Black where there is none
-abbrev pub colour_named : List (List ℕ) → Option Colour
-colour_named [] = Some Black
-colour_named (v ∷ vs) = colour_at (after_blanks v)
+abbrev pub mover_of_values : List (List ℕ) → Option Colour
+mover_of_values [] = Some Black
+mover_of_values (v ∷ vs) = colour_of_letter (after_blanks v)
 
 -- no point is in both sets
 abbrev pub apart : Points → Points → Bool
 apart a b = set.len (set.intersection a b) == 0
 
 -- how many moves the node has, of either colour
-abbrev pub moves_in : Node → ℕ
-moves_in n = length (values_of B n.properties) + length (values_of W n.properties)
+abbrev pub move_count : Node → ℕ
+move_count n = length (values_of B n.properties) + length (values_of W n.properties)
 
 -- a node with AB, AW or AE sets up, and one with PL and no move
 abbrev pub is_setup : Node → Bool
@@ -102,6 +102,6 @@ is_go [] = true
 is_go (v ∷ vs) = is_one (number_of v)
 
 -- the size that the first value of SZ says, or 19 by 19 without SZ
-abbrev pub size_named : List (List ℕ) → Option Size
-size_named [] = sized 19 19
-size_named (v ∷ vs) = size_of v
+abbrev pub size_or_default : List (List ℕ) → Option Size
+size_or_default [] = sized 19 19
+size_or_default (v ∷ vs) = size_of v

@@ -18,8 +18,8 @@ use Rattle.tt_game.specs.declared.frame.Side.TheVariants.{Attacker, Defender}
 use Rattle.tt_game.specs.Line.{LineWithUndo}
 use Rattle.tt_game.specs.declared.records.GameSoFar.{GameSoFar}
 use Rattle.tt_game.specs.Games.{GameState}
-use Rattle.tt_game.specs.Nodes.{AB, AW, TR, SQ, has, moves_in, set_named}
-use Rattle.tt_game.specs.Records.{and_then, step_node, begin_line, run_nodes}
+use Rattle.tt_game.specs.Nodes.{AB, AW, TR, SQ, has, move_count, set_named}
+use Rattle.tt_game.specs.Records.{and_then, step_node, begin_record, run_nodes}
 
 -- all points of a board
 abbrev pub whole : Size → Points
@@ -34,8 +34,8 @@ abbrev pub side_of : Colour → Colour → Side
 side_of defender k = cond (same_colour defender k) Defender Attacker
 
 -- the game goes on as a problem: the history and the side to move stay, and the passes are counted anew
-abbrev pub posed : GameState → Points → Points → Colour → LineWithUndo
-posed s region targets k = record {
+abbrev pub posed_problem : GameState → Points → Points → Colour → LineWithUndo
+posed_problem s region targets k = record {
   frame = record { size = s.size; region = region; targets = targets; defender = k };
   state = record { earlier = s.earlier; present = s.present; to_move = side_of k s.to_move; passes = 0 };
   before = [];
@@ -48,7 +48,7 @@ common_colour s c = if all_stones_of s c Black then Some Black else (if all_ston
 -- the defender is the colour of the targets' stones
 abbrev pub problem_with : GameState → Points → Points → Option Colour → Result LineWithUndo GameFault
 problem_with s region targets None = Err MixedTargets
-problem_with s region targets (Some k) = Ok (posed s region targets k)
+problem_with s region targets (Some k) = Ok (posed_problem s region targets k)
 
 -- a problem wants some target, a stone on each, and all of one colour
 abbrev pub problem_on : GameState → Points → Points → Result LineWithUndo GameFault
@@ -62,14 +62,14 @@ problem_of_sets s (Some targets) None = Err BadValue
 problem_of_sets s (Some targets) (Some region) = problem_on s region targets
 
 -- nodes up to and with the first that has TR
-unfoldable pub run_to_mark : GameSoFar → List Node → Result LineWithUndo GameFault
-run_to_mark r [] = Err NoTarget
-run_to_mark r (n ∷ ns) = and_then (step_node r n)
-    (λ q. cond (has TR n) (problem_of_sets q.game (set_named q.game.size TR n) (region_of q.game.size n)) (run_to_mark q ns))
+unfoldable pub problem_at_targets : GameSoFar → List Node → Result LineWithUndo GameFault
+problem_at_targets r [] = Err NoTarget
+problem_at_targets r (n ∷ ns) = and_then (step_node r n)
+    (λ q. cond (has TR n) (problem_of_sets q.game (set_named q.game.size TR n) (region_of q.game.size n)) (problem_at_targets q ns))
 
 -- what problem a main line is
 unfoldable pub problem_of : List Node → Result LineWithUndo GameFault
-problem_of ns = and_then (begin_line ns) (λ r. run_to_mark r ns)
+problem_of ns = and_then (begin_record ns) (λ r. problem_at_targets r ns)
 
 -- ---- main lines without targets
 
@@ -79,8 +79,8 @@ puts_stones n = has AB n || has AW n
 -- how many nodes stand in front of the first move behind stones that are set up, given whether some are already
 unfoldable pub nodes_before_solution : Bool → List Node → ℕ
 nodes_before_solution up [] = 0
-nodes_before_solution up (n ∷ ns) = if up && nat_le 1 (moves_in n) then 0 else suc (nodes_before_solution (up || puts_stones n) ns)
+nodes_before_solution up (n ∷ ns) = if up && nat_le 1 (move_count n) then 0 else suc (nodes_before_solution (up || puts_stones n) ns)
 
 -- the game that those nodes come to: what stands behind them is a solution
 unfoldable pub game_of : List Node → Result GameState GameFault
-game_of ns = and_then (begin_line ns) (λ r. and_then (run_nodes r (take (nodes_before_solution false ns) ns)) (λ q. Ok q.game))
+game_of ns = and_then (begin_record ns) (λ r. and_then (run_nodes r (take (nodes_before_solution false ns) ns)) (λ q. Ok q.game))

@@ -13,12 +13,12 @@ use Rattle.tt_game.specs.declared.records.Record.{Record}
 use Rattle.tt_game.specs.declared.records.GameSoFar.{GameSoFar}
 use Rattle.tt_game.specs.declared.records.TheConstants.{MOST_TURNS}
 use Rattle.tt_game.specs.Game.{history}
-use Rattle.tt_game.specs.Games.{all_of}
-use Rattle.tt_game.specs.History.{repeats}
+use Rattle.tt_game.specs.Games.{game_colourings}
+use Rattle.tt_game.specs.Superko.{repeats}
 use Rattle.tt_game.specs.Line.{LineWithUndo}
 use Rattle.tt_game.specs.Nodes.{TR, has, is_setup}
 use Rattle.tt_game.specs.Problems.{problem_of}
-use Rattle.tt_game.specs.Records.{and_then, begin_line, record_of, run_nodes, step_node}
+use Rattle.tt_game.specs.Records.{and_then, begin_record, record_of, run_nodes, step_node}
 
 -- d is what a play on an empty point of c makes
 abbrev pub IsPlay : Size → Colouring → Colouring → Type 0
@@ -37,11 +37,11 @@ pub record IsByTheRules (size : Size) (h : List Colouring) : Type 0 where
 
 -- the game and the count of turns that a record's nodes come to
 abbrev pub ComesTo : List Node → GameSoFar → Type 0
-ComesTo nodes r = and_then (begin_line nodes) (λ q. run_nodes q nodes) ≡ Ok r
+ComesTo nodes r = and_then (begin_record nodes) (λ q. run_nodes q nodes) ≡ Ok r
 
 -- the history of a record's game is by the rules, and its turns, implied passes among them, are no more than a record has
 abbrev pub RecordsAreGames : Type 0
-RecordsAreGames = (nodes : List Node) (r : GameSoFar) → ComesTo nodes r → IsByTheRules r.game.size (all_of r.game) × (r.turns ≤ MOST_TURNS)
+RecordsAreGames = (nodes : List Node) (r : GameSoFar) → ComesTo nodes r → IsByTheRules r.game.size (game_colourings r.game) × (r.turns ≤ MOST_TURNS)
 
 -- a problem's history is by the rules
 abbrev pub ProblemsAreGames : Type 0
@@ -50,12 +50,12 @@ ProblemsAreGames = (nodes : List Node) (p : LineWithUndo) → problem_of nodes �
 -- a setup begins the history anew, with one colouring; another node leaves it, or a play adds the present one at its end
 abbrev pub SetupsBeginHistories : Type 0
 SetupsBeginHistories = (r q : GameSoFar) (n : Node) → step_node r n ≡ Ok q
-    → (is_setup n ≡ true → all_of q.game ≡ q.game.present ∷ [])
-    × (is_setup n ≡ false → (all_of q.game ≡ all_of r.game) ⊎ (all_of q.game ≡ all_of r.game ++ q.game.present ∷ []))
+    → (is_setup n ≡ true → game_colourings q.game ≡ q.game.present ∷ [])
+    × (is_setup n ≡ false → (game_colourings q.game ≡ game_colourings r.game) ⊎ (game_colourings q.game ≡ game_colourings r.game ++ q.game.present ∷ []))
 
 -- a record's refusal is that of its least node that has one: the nodes before it are a record, with it they are refused,
 -- and what stands behind it changes nothing
-pub record IsOfLeastNode (nodes : List Node) (e : GameFault) : Type 0 where
+pub record IsRefusalOfFirstNode (nodes : List Node) (e : GameFault) : Type 0 where
   pub front : List Node
   pub node : Node
   pub behind : List Node
@@ -65,12 +65,12 @@ pub record IsOfLeastNode (nodes : List Node) (e : GameFault) : Type 0 where
   pub refused : (others : List Node) → record_of (front ++ node ∷ others) ≡ Err e
 
 -- each refusal of a record is that of its least node that has one
-abbrev pub LeastNodesRefuse : Type 0
-LeastNodesRefuse = (nodes : List Node) (e : GameFault) → record_of nodes ≡ Err e → IsOfLeastNode nodes e
+abbrev pub FirstRefusalDecides : Type 0
+FirstRefusalDecides = (nodes : List Node) (e : GameFault) → record_of nodes ≡ Err e → IsRefusalOfFirstNode nodes e
 
 -- where a record is refused, and no node of it marks a target, the problem of a main line that begins so is refused alike
-abbrev pub ProblemsAreRecords : Type 0
-ProblemsAreRecords = (nodes behind : List Node) (e : GameFault) → All (λ n. has TR n ≡ false) nodes → record_of nodes ≡ Err e
+abbrev pub RefusalsCarryToProblems : Type 0
+RefusalsCarryToProblems = (nodes behind : List Node) (e : GameFault) → All (λ n. has TR n ≡ false) nodes → record_of nodes ≡ Err e
     → problem_of (nodes ++ behind) ≡ Err e
 
 -- where the nodes come to a game, and none marks a target, they are no problem: a target is wanted

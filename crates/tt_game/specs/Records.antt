@@ -25,8 +25,8 @@ use Rattle.tt_game.specs.declared.records.GameSoFar.{GameSoFar}
 use Rattle.tt_game.specs.declared.records.TheConstants.{MOST_TURNS}
 use Rattle.tt_game.specs.declared.turns.Turn.{Turn}
 use Rattle.tt_game.specs.declared.turns.Turn.TheVariants.{Play, Pass}
-use Rattle.tt_game.specs.Games.{GameState, refusal_of, turned, empty_game, begun_with}
-use Rattle.tt_game.specs.Nodes.{values_of, set_named, colour_named, apart, moves_in, is_setup, is_go, size_named, AB, AW, AE, PL, B, W, GM, SZ}
+use Rattle.tt_game.specs.Games.{GameState, refusal_of, game_after_turn, empty_game, begun_with}
+use Rattle.tt_game.specs.Nodes.{values_of, set_named, mover_of_values, apart, move_count, is_setup, is_go, size_or_default, AB, AW, AE, PL, B, W, GM, SZ}
 
 -- A GameSoFar is a game and the count of the turns that were played, implied passes among them.
 
@@ -46,16 +46,16 @@ fault_of Repeats = RepeatedBoard
 
 -- a turn that is refused is the fault, any other is made and counted
 abbrev pub turn_or_fault : GameSoFar → Turn → Option Why → Result GameSoFar GameFault
-turn_or_fault r t None = Ok (record { game = turned r.game t; turns = r.turns + 1 })
+turn_or_fault r t None = Ok (record { game = game_after_turn r.game t; turns = r.turns + 1 })
 turn_or_fault r t (Some why) = Err (fault_of why)
 
 -- a turn of the side to move: after the end no turn, no more than a record has, and a legal one
-abbrev pub replay_with : GameSoFar → Turn → Result GameSoFar GameFault
-replay_with r t = cond (r.game.passes == 2) (Err AfterEnd) (cond (nat_le MOST_TURNS r.turns) (Err TooManyTurns) (turn_or_fault r t (refusal_of r.game t)))
+abbrev pub play_next_turn : GameSoFar → Turn → Result GameSoFar GameFault
+play_next_turn r t = cond (r.game.passes == 2) (Err AfterEnd) (cond (nat_le MOST_TURNS r.turns) (Err TooManyTurns) (turn_or_fault r t (refusal_of r.game t)))
 
 -- a turn of a colour; where the other is to move it passes first
-abbrev pub replay_turn_by : GameSoFar → Colour → Turn → Result GameSoFar GameFault
-replay_turn_by r k t = cond (same_colour r.game.to_move k) (replay_with r t) (and_then (replay_with r Pass) (λ q. replay_with q t))
+abbrev pub play_turn_by : GameSoFar → Colour → Turn → Result GameSoFar GameFault
+play_turn_by r k t = cond (same_colour r.game.to_move k) (play_next_turn r t) (and_then (play_next_turn r Pass) (λ q. play_next_turn q t))
 
 -- a point as a play on it, a pass as a pass
 abbrev pub as_turn : PointOrPass → Turn
@@ -63,15 +63,15 @@ as_turn (On p) = Play p
 as_turn NoPoint = Pass
 
 -- a turn of a colour, by the point or pass that its value is; a value that is neither is refused
-abbrev pub turn_named : GameSoFar → Colour → Option PointOrPass → Result GameSoFar GameFault
-turn_named r k None = Err BadValue
-turn_named r k (Some v) = replay_turn_by r k (as_turn v)
+abbrev pub play_named_turn : GameSoFar → Colour → Option PointOrPass → Result GameSoFar GameFault
+play_named_turn r k None = Err BadValue
+play_named_turn r k (Some v) = play_turn_by r k (as_turn v)
 
 -- the move of a node, where it has one
-abbrev pub game_after_move : GameSoFar → List (List ℕ) → List (List ℕ) → Result GameSoFar GameFault
-game_after_move r (v ∷ vs) ws = turn_named r Black (point_of r.game.size (trimmed v))
-game_after_move r [] (w ∷ ws) = turn_named r White (point_of r.game.size (trimmed w))
-game_after_move r [] [] = Ok r
+abbrev pub play_node_move : GameSoFar → List (List ℕ) → List (List ℕ) → Result GameSoFar GameFault
+play_node_move r (v ∷ vs) ws = play_named_turn r Black (point_of r.game.size (trimmed v))
+play_node_move r [] (w ∷ ws) = play_named_turn r White (point_of r.game.size (trimmed w))
+play_node_move r [] [] = Ok r
 
 -- ---- setup
 
@@ -85,29 +85,29 @@ abbrev pub all_have_liberties : Size → Colouring → Bool
 all_have_liberties size c = have_liberties_below size c (point_count size)
 
 -- the colouring that a setup makes is the whole history; the count of turns goes on
-abbrev pub begun : GameSoFar → Colouring → Colour → Result GameSoFar GameFault
-begun r c k = cond (all_have_liberties r.game.size c) (Ok (record { game = begun_with r.game.size c k; turns = r.turns })) (Err StoneWithoutLiberty)
+abbrev pub game_after_setup : GameSoFar → Colouring → Colour → Result GameSoFar GameFault
+game_after_setup r c k = cond (all_have_liberties r.game.size c) (Ok (record { game = begun_with r.game.size c k; turns = r.turns })) (Err StoneWithoutLiberty)
 
 -- the sets of AB, AW and AE, put over the present colouring, and the colour of PL
 abbrev pub set_up_by : GameSoFar → Option Points → Option Points → Option Points → Option Colour → Result GameSoFar GameFault
 set_up_by r (Some black) (Some white) (Some clear) (Some k) =
-    cond (apart black white && apart black clear && apart white clear) (begun r (placed r.game.size r.game.present black white clear) k) (Err PointTwice)
+    cond (apart black white && apart black clear && apart white clear) (game_after_setup r (placed r.game.size r.game.present black white clear) k) (Err PointTwice)
 set_up_by r None white clear k = Err BadValue
 set_up_by r (Some black) None clear k = Err BadValue
 set_up_by r (Some black) (Some white) None k = Err BadValue
 set_up_by r (Some black) (Some white) (Some clear) None = Err BadValue
 
 -- a node's setup: the sets of AB, AW and AE, and the colour of PL
-abbrev pub setup_node : GameSoFar → Node → Result GameSoFar GameFault
-setup_node r n = set_up_by r (set_named r.game.size AB n) (set_named r.game.size AW n) (set_named r.game.size AE n) (colour_named (values_of PL n.properties))
+abbrev pub play_setup_node : GameSoFar → Node → Result GameSoFar GameFault
+play_setup_node r n = set_up_by r (set_named r.game.size AB n) (set_named r.game.size AW n) (set_named r.game.size AE n) (mover_of_values (values_of PL n.properties))
 
 -- ---- nodes
 
 -- a setup node has no move, and a move node one at the most
 unfoldable pub step_node : GameSoFar → Node → Result GameSoFar GameFault
 step_node r n =
-    cond (is_setup n) (cond (nat_le 1 (moves_in n)) (Err MixedNode) (setup_node r n))
-    (cond (nat_le 2 (moves_in n)) (Err MixedNode) (game_after_move r (values_of B n.properties) (values_of W n.properties)))
+    cond (is_setup n) (cond (nat_le 1 (move_count n)) (Err MixedNode) (play_setup_node r n))
+    (cond (nat_le 2 (move_count n)) (Err MixedNode) (play_node_move r (values_of B n.properties) (values_of W n.properties)))
 
 -- the empty board of this size, and no turn played; without a size a fault
 abbrev pub begin_at : Option Size → Result GameSoFar GameFault
@@ -116,12 +116,12 @@ begin_at (Some size) = Ok (record { game = empty_game size; turns = 0 })
 
 -- before the first node: its game and its size
 unfoldable pub begin_node : Node → Result GameSoFar GameFault
-begin_node n = cond (is_go (values_of GM n.properties)) (begin_at (size_named (values_of SZ n.properties))) (Err NotGo)
+begin_node n = cond (is_go (values_of GM n.properties)) (begin_at (size_or_default (values_of SZ n.properties))) (Err NotGo)
 
 -- before the first node; where there is none, on a board of 19 by 19
-abbrev pub begin_line : List Node → Result GameSoFar GameFault
-begin_line [] = begin_at (sized 19 19)
-begin_line (n ∷ ns) = begin_node n
+abbrev pub begin_record : List Node → Result GameSoFar GameFault
+begin_record [] = begin_at (sized 19 19)
+begin_record (n ∷ ns) = begin_node n
 
 -- after all nodes
 unfoldable pub run_nodes : GameSoFar → List Node → Result GameSoFar GameFault
@@ -136,16 +136,16 @@ record_at s = record { black = score_of s.size s.present Black; white = score_of
 
 -- what a main line's record is
 unfoldable pub record_of : List Node → Result Record GameFault
-record_of ns = and_then (begin_line ns) (λ r. and_then (run_nodes r ns) (λ q. Ok (record_at q.game)))
+record_of ns = and_then (begin_record ns) (λ r. and_then (run_nodes r ns) (λ q. Ok (record_at q.game)))
 
 -- an error: but for want of memory it is the definition's
-abbrev pub IsStopped : {A : Type 0} → GameFault → Result A GameFault → Type 0
-IsStopped e want = (e ≡ NoMemory → ⊥) → want ≡ Err e
+abbrev pub IsErrorUnlessNoMemory : {A : Type 0} → GameFault → Result A GameFault → Type 0
+IsErrorUnlessNoMemory e want = (e ≡ NoMemory → ⊥) → want ≡ Err e
 
 -- a function returned what is wanted, or its error; but for want of memory
 abbrev pub ReturnsUnlessNoMemory : {A : Type 0} → Result A GameFault → Result A GameFault → Type 0
-ReturnsUnlessNoMemory result want = MatchResult result (λ x. want ≡ Ok x) (λ e. IsStopped e want)
+ReturnsUnlessNoMemory result want = MatchResult result (λ x. want ≡ Ok x) (λ e. IsErrorUnlessNoMemory e want)
 
 -- a function changed its value to what is wanted, or returned the error; but for want of memory
 abbrev pub UpdatesUnlessNoMemory : {A B : Type 0} → Result B GameFault → A → Result A GameFault → Type 0
-UpdatesUnlessNoMemory result new want = MatchResult result (λ _. want ≡ Ok new) (λ e. IsStopped e want)
+UpdatesUnlessNoMemory result new want = MatchResult result (λ _. want ≡ Ok new) (λ e. IsErrorUnlessNoMemory e want)

@@ -4,6 +4,6 @@ use Rattle.tt_game.specs.declared.frame.Side.{Side}
 use Rattle.tt_game.specs.declared.frame.Side.TheVariants.{Attacker, Defender}
 
 -- what is said where this side wins
-abbrev pub side_word : Side → List ℕ
-side_word Attacker = codes "killed"
-side_word Defender = codes "lives"
+abbrev pub verdict_word : Side → List ℕ
+verdict_word Attacker = codes "killed"
+verdict_word Defender = codes "lives"

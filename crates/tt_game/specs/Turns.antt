@@ -8,8 +8,8 @@ use Rattle.tt_game.specs.declared.turns.Turn.{Turn}
 use Rattle.tt_game.specs.declared.turns.Turn.TheVariants.{Play, Pass}
 use Rattle.tt_game.specs.declared.frame.Side.{Side}
 use Rattle.tt_game.specs.Game.{State, winner_of, after, IsLegal}
-use Rattle.tt_board.specs.Decided.{decided, decided_is, decided_not}
-use Rattle.tt_game.specs.Legality.{legal}
+use Rattle.tt_board.specs.Decided.{decision_test, decision_test_is_exact, decision_test_is_false}
+use Rattle.tt_game.specs.Legality.{decide_legal}
 
 -- the turn is a pass or names a point of a board of this size
 abbrev pub IsOnBoard : Size → Turn → Type 0
@@ -42,12 +42,12 @@ all_turns f = plays (point_count f.size) ++ Pass ∷ []
 
 -- whether a turn is legal, as a test
 pub is_legal : Frame → State → Turn → Bool
-is_legal f s t = decided (legal f s t)
+is_legal f s t = decision_test (decide_legal f s t)
 
 -- the test is true exactly of the legal turns, and false of the others
-pub is_legal_is : (f : Frame) (s : State) (t : Turn) → (is_legal f s t ≡ true → IsLegal f s t) × (IsLegal f s t → is_legal f s t ≡ true) × ((IsLegal f s t → ⊥) → is_legal f s t ≡ false)
+pub is_legal_is_exact : (f : Frame) (s : State) (t : Turn) → (is_legal f s t ≡ true → IsLegal f s t) × (IsLegal f s t → is_legal f s t ≡ true) × ((IsLegal f s t → ⊥) → is_legal f s t ≡ false)
 unfolding is_legal
-is_legal_is f s t = ((decided_is (legal f s t)).0, (decided_is (legal f s t)).1, decided_not (legal f s t))
+is_legal_is_exact f s t = ((decision_test_is_exact (decide_legal f s t)).0, (decision_test_is_exact (decide_legal f s t)).1, decision_test_is_false (decide_legal f s t))
 
 -- the legal turns, in the order of their numbers
 unfoldable pub legal_turns : Frame → State → List Turn

@@ -64,7 +64,7 @@ impl Frame {
         requires on_board { LiesOn self.now.size self.now.targets }
         ensures { result ≡ winner_on self.now board.now.points passes }
     {
-        if board.has_empty(&self.targets) {
+        if board.has_some_empty(&self.targets) {
             Some(Side::Attacker)
         } else if passes == 2 {
             Some(Side::Defender)
@@ -76,7 +76,7 @@ impl Frame {
 
 impl Side {
     ghost use Rattle.tt_game.specs.Game.{opponent};
-    ghost use Rattle.tt_game.specs.Sides.{side_word};
+    ghost use Rattle.tt_game.specs.Sides.{verdict_word};
 
     /// The other side.
     pub fn opponent(self) -> Side
@@ -88,8 +88,8 @@ impl Side {
         }
     }
     /// The word that says that this side wins.
-    pub fn word(self) -> &'static [u8]
-        ensures { result.now ≡ side_word self }
+    pub fn verdict_word(self) -> &'static [u8]
+        ensures { result.now ≡ verdict_word self }
     {
         match self {
             Side::Attacker => b"killed",

@@ -17,7 +17,7 @@ use tt_board::{Board, Colour, CountedBoard, Occupied};
 use tt_sgf::{NoMemory, Point, PointSet, Size};
 
 /// From so many boards on a game notes hashes: to compare a colouring with fewer costs less than their rows.
-const MANY: usize = 32;
+const MANY_BOARDS: usize = 32;
 
 /// A game: its history, who moves, and the passes in a row. Contracts see it as `GameState`.
 ///
@@ -34,7 +34,7 @@ pub struct Game {
 }
 
 /// Counts the chains of the present board, where they aren't counted yet.
-fn count(board: &mut CountedBoard, counted: bool, present: &Board)
+fn count_chains(board: &mut CountedBoard, counted: bool, present: &Board)
     requires { IsTrue counted → board.old ≡ present.now }
     ensures { board.new ≡ present.now }
 {
@@ -44,14 +44,14 @@ fn count(board: &mut CountedBoard, counted: bool, present: &Board)
 }
 
 /// Notes the present board, which has this hash. From so many boards on all are noted.
-fn note(filter: &mut BloomFilter, history: &History, hash: usize)
+fn note_hash(filter: &mut BloomFilter, history: &History, hash: usize)
     requires hash { hash ≡ filter_index history.now.size history.now.present }
     requires before { MayHoldAll filter.old history.now.size history.now.earlier }
     ensures { MayHoldAll filter.new history.now.size (so_far history.now) }
 {
     let boards = history.boards();
-    if boards.len() == MANY {
-        *filter = BloomFilter::of_all(history.alloc(), boards);
+    if boards.len() == MANY_BOARDS {
+        *filter = BloomFilter::of_boards(history.alloc(), boards);
     } else {
         filter.add(hash);
     }
@@ -77,11 +77,11 @@ impl Model for Game {
 impl Game {
     ghost use Rattle.std.specs.FinSet as set;
     ghost use Rattle.tt_board.specs.Reach.{entry_at};
-    ghost use Rattle.tt_game.specs.Games.{GameState, IsHalted, colouring_after_move, all_of, move_refusal, refusal_of, turned, empty_game, begun_with};
+    ghost use Rattle.tt_game.specs.Games.{GameState, IsGamePushFailure, colouring_after_move, game_colourings, move_refusal, refusal_of, game_after_turn, empty_game, begun_with};
     ghost use Rattle.tt_game.specs.Turns.{IsOnBoard};
-    ghost use Rattle.tt_game.specs.History.{repeats};
+    ghost use Rattle.tt_game.specs.Superko.{repeats};
     ghost use Rattle.tt_board.specs.Stones.{LiesOn};
-    ghost use Rattle.tt_game.specs.Problems.{posed};
+    ghost use Rattle.tt_game.specs.Problems.{posed_problem};
     ghost use Rattle.tt_game.specs.declared.turns.Turn.{Turn};
 
     /// The game of an empty board, with Black to move.
@@ -132,16 +132,16 @@ impl Game {
     fn has_been(&self, next: &Board, hash: usize) -> bool
         requires size { next.now.size ≡ self.now.size }
         requires hash { hash ≡ filter_index next.now.size next.now.points }
-        ensures { result ≡ repeats (all_of self.now) next.now.points }
+        ensures { result ≡ repeats (game_colourings self.now) next.now.points }
     {
         if !self.filter.has(hash) {
             return false;
         }
-        self.history.has_been(0, next)
+        self.history.has_been_since(0, next)
     }
 
     /// The board that a move makes, or why the move is refused.
-    fn made(&self, p: Point) -> Result<Board, Why>
+    fn board_after_move(&self, p: Point) -> Result<Board, Why>
         requires { p < point_count self.now.size }
         ensures { MatchResult result
             (λ b. (move_refusal self.now p ≡ None) × (b ≡ record { size = self.now.size; points = colouring_after_move self.now p }))
@@ -168,16 +168,16 @@ impl Game {
         }
         match t {
             Turn::Pass => None,
-            Turn::Play(p) => self.made(p).err(),
+            Turn::Play(p) => self.board_after_move(p).err(),
         }
     }
 
     /// Adds a pass.
     fn push_pass(&mut self)
         requires { self.old.passes < 2 }
-        ensures { self.new ≡ turned self.old Turn.Pass }
+        ensures { self.new ≡ game_after_turn self.old Turn.Pass }
     {
-        self.history.pass();
+        self.history.add_pass();
         self.to_move = self.to_move.other();
     }
 
@@ -185,14 +185,14 @@ impl Game {
     fn push_play(&mut self, p: Point) -> Result<(), Refused>
         requires on_board { p < point_count self.old.size }
         requires open { self.old.passes < 2 }
-        ensures ok { OnOk result ((refusal_of self.old (Turn.Play p) ≡ None) × (self.new ≡ turned self.old (Turn.Play p))) }
+        ensures ok { OnOk result ((refusal_of self.old (Turn.Play p) ≡ None) × (self.new ≡ game_after_turn self.old (Turn.Play p))) }
         ensures err { OnErr result (self.new ≡ self.old) }
-        ensures why { IfErr result (λ e. IsHalted self.old (Turn.Play p) e) }
+        ensures why { IfErr result (λ e. IsGamePushFailure self.old (Turn.Play p) e) }
     {
         if self.present().at(p).is_some() {
             return Err(Refused::Illegal(Why::Occupied));
         }
-        count(&mut self.board, self.counted, self.history.present());
+        count_chains(&mut self.board, self.counted, self.history.present());
         self.board.play(self.to_move, p);
         self.counted = false;
         let next = self.board.board();
@@ -203,7 +203,7 @@ impl Game {
         if self.history.push(next).is_err() {
             return Err(Refused::NoMemory);
         }
-        note(&mut self.filter, &self.history, hash);
+        note_hash(&mut self.filter, &self.history, hash);
         self.counted = true;
         self.to_move = self.to_move.other();
         Ok(())
@@ -213,9 +213,9 @@ impl Game {
     /// was; the game is then as it was.
     pub fn push(&mut self, t: Turn) -> Result<(), Refused>
         requires { IsOnBoard self.old.size t }
-        ensures ok { OnOk result ((refusal_of self.old t ≡ None) × (self.new ≡ turned self.old t)) }
+        ensures ok { OnOk result ((refusal_of self.old t ≡ None) × (self.new ≡ game_after_turn self.old t)) }
         ensures err { OnErr result (self.new ≡ self.old) }
-        ensures why { IfErr result (λ e. IsHalted self.old t e) }
+        ensures why { IfErr result (λ e. IsGamePushFailure self.old t e) }
     {
         if self.history.passes() == 2 {
             return Err(Refused::Illegal(Why::Over));
@@ -230,7 +230,7 @@ impl Game {
     }
 
     /// Begins the game anew with a board of its size alone; without memory it is as it was.
-    pub(crate) fn begin(&mut self, board: Board, colour: Colour) -> Result<(), NoMemory>
+    pub(crate) fn restart_with(&mut self, board: Board, colour: Colour) -> Result<(), NoMemory>
         requires { board.size ≡ self.old.size }
         ensures ok { OnOk result (self.new ≡ begun_with self.old.size board.points colour) }
         ensures err { OnErr result (self.new ≡ self.old) }
@@ -246,7 +246,7 @@ impl Game {
     }
 
     /// The game as a problem: the history and the side to move stay.
-    pub fn pose(
+    pub fn into_problem(
         self,
         region: PointSet,
         targets: PointSet,
@@ -254,7 +254,7 @@ impl Game {
     ) -> Result<Line, NoMemory>
         requires some { 0 < set.len targets }
         requires on_board { LiesOn self.size targets }
-        ensures { IfOk result (λ l. l ≡ posed self region targets defender) }
+        ensures { IfOk result (λ l. l ≡ posed_problem self region targets defender) }
     {
         let to_move = if self.to_move == defender {
             Side::Defender
@@ -268,7 +268,7 @@ impl Game {
             defender,
         };
         let mut board = self.board;
-        count(&mut board, self.counted, self.history.present());
+        count_chains(&mut board, self.counted, self.history.present());
         Line::begin(frame, self.history.without_passes(), to_move, board)
     }
 }

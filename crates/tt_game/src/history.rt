@@ -17,7 +17,7 @@ use tt_board::{Board, Colour, CountedBoard};
 use tt_sgf::{NoMemory, Point, Size};
 
 /// For how many plays a copy has room.
-const ROOM: usize = 16;
+const SPARE_PLAYS: usize = 16;
 
 /// The boards of a game so far, the last one present, and how many passes were made in a row since the last play.
 /// Contracts see it as `GameHistory`.
@@ -64,7 +64,7 @@ fn repeats(boards: &[Board], next: &Board) -> bool
 }
 
 /// Whether a stone of this colour stands on `p` on one of the boards.
-fn stood(boards: &[Board], colour: Colour, p: Point) -> bool
+fn stone_stood(boards: &[Board], colour: Colour, p: Point) -> bool
     requires { All (λ b. p < point_count b.size) boards.now }
     ensures { (c : Colouring) → HasBeen (colourings boards.now) c → entry_at c p ≡ Some colour → IsTrue result }
 {
@@ -77,14 +77,14 @@ fn stood(boards: &[Board], colour: Colour, p: Point) -> bool
 }
 
 /// Writes a board over the one in the place `count`, or adds it there; without memory there are none more.
-fn write(boards: &mut Vec<Board>, count: usize, next: &CountedBoard) -> Result<(), NoMemory>
+fn write_board(boards: &mut Vec<Board>, count: usize, next: &CountedBoard) -> Result<(), NoMemory>
     requires { count ≤ length boards.old.items }
     ensures ok { OnOk result (take (count + 1) boards.new.items ≡ take count boards.old.items ++ next.now ∷ []) }
     ensures wide { OnOk result (count < length boards.new.items) }
     ensures err { OnErr result (boards.new.items ≡ boards.old.items) }
 {
     if count < boards.len() {
-        next.show_on(&mut boards[count]);
+        next.write_to_board(&mut boards[count]);
     } else {
         boards.push(next.board())?;
     }
@@ -136,7 +136,7 @@ impl History {
     }
 
     /// The boards behind the first `from`, oldest first.
-    pub(crate) fn since(&self, from: usize) -> &[Board]
+    pub(crate) fn boards_since(&self, from: usize) -> &[Board]
         requires { from ≤ length (so_far self.now) }
         ensures colourings { colourings result.now ≡ drop from (so_far self.now) }
         ensures sizes { All (λ b. b.size ≡ self.now.size) result.now }
@@ -163,11 +163,11 @@ impl History {
         requires within { from ≤ length (so_far self.now) }
         ensures { (c : Colouring) → HasBeen (drop from (so_far self.now)) c → entry_at c p ≡ Some colour → IsTrue result }
     {
-        stood(&self.boards()[from..], colour, p)
+        stone_stood(&self.boards()[from..], colour, p)
     }
 
     /// Whether a board of this size has the colouring of some board behind the first `from`.
-    pub(crate) fn has_been(&self, from: usize, next: &Board) -> bool
+    pub(crate) fn has_been_since(&self, from: usize, next: &Board) -> bool
         requires size { next.now.size ≡ self.now.size }
         requires within { from ≤ length (so_far self.now) }
         ensures { IsTrue result ↔ HasBeen (drop from (so_far self.now)) next.now.points }
@@ -176,7 +176,7 @@ impl History {
     }
 
     /// Whether the board at a place has the colouring of a board of this size.
-    pub(crate) fn has_at(&self, place: usize, next: &Board) -> bool
+    pub(crate) fn has_colouring_at(&self, place: usize, next: &Board) -> bool
         requires { next.now.size ≡ self.now.size }
         ensures { IsTrue result → HasBeen (so_far self.now) next.now.points }
     {
@@ -204,14 +204,14 @@ impl History {
         ensures ok { OnOk result (self.new ≡ with_colouring self.old next.now.points) }
         ensures err { OnErr result (self.new ≡ self.old) }
     {
-        write(&mut self.boards, self.count, next)?;
+        write_board(&mut self.boards, self.count, next)?;
         self.count += 1;
         self.passes = 0;
         Ok(())
     }
 
     /// Counts a pass.
-    pub(crate) fn pass(&mut self)
+    pub(crate) fn add_pass(&mut self)
         requires { self.old.passes ≢ 2 }
         ensures { self.new ≡ with_pass self.old }
     {
@@ -248,7 +248,7 @@ impl History {
         ensures { IfOk result (λ h. h ≡ self.now) }
     {
         let so_far = self.boards();
-        let mut boards = Vec::with_capacity(self.alloc, so_far.len().saturating_add(ROOM))?;
+        let mut boards = Vec::with_capacity(self.alloc, so_far.len().saturating_add(SPARE_PLAYS))?;
         for board in so_far {
             boards.push_reserved(board.copy());
         }

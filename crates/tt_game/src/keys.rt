@@ -2,7 +2,7 @@
 
 ghost use Rattle.std.specs.Prelude.{◌≡◌, ◌≤◌, ◌*◌, ◌/◌, ◌%◌, ◌^◌, ◌↔◌, IsTrue, [], ◌∷◌};
 ghost use Rattle.tt_game.specs.Keys.{key_of};
-ghost use Rattle.tt_game.specs.KeyHash.{words_in_use, turn_word, hash_of_key};
+ghost use Rattle.tt_game.specs.KeyHash.{words_in_use, mover_word, hash_of_key};
 ghost use Rattle.tt_game.specs.Mixing.{mix};
 ghost use Rattle.tt_game.specs.declared.history.bloom_filter.TheConstants.{MIXER};
 
@@ -33,11 +33,11 @@ pub struct Key {
 
 impl Hash for Key {
     ghost use Rattle.tt_game.specs.KeyHash.{position_writes};
-    ghost use Rattle.tt_game.specs.laws.KeyLaws.{same_writes};
+    ghost use Rattle.tt_game.specs.laws.KeyLaws.{same_key_writes_are_equal};
 
     ghost hash_input = { position_writes };
 
-    ghost respects_eq = { same_writes };
+    ghost respects_eq = { same_key_writes_are_equal };
 
     fn hash<H: Hasher>(&self, state: &mut H) {
         let used = words_in_use(self.size);
@@ -57,8 +57,8 @@ fn words_in_use(size: Size) -> usize
 }
 
 /// The number of a side to move and so many passes, for a hash.
-fn turn_word(to_move: Side, passes: u8) -> u64
-    ensures { result ≡ turn_word to_move passes }
+fn mover_word(to_move: Side, passes: u8) -> u64
+    ensures { result ≡ mover_word to_move passes }
 {
     match to_move {
         Side::Attacker => u64::from(passes),
@@ -67,7 +67,7 @@ fn turn_word(to_move: Side, passes: u8) -> u64
 }
 
 /// The hash of the position of a board, a side to move and so many passes, by what the board's words make.
-fn hash_with(board: u64, turn: u64) -> u32
+fn hash_of_sums(board: u64, turn: u64) -> u32
     ensures { result ≡ mix board (turn ∷ []) * MIXER % 2 ^ 64 / 2 ^ 32 }
 {
     (mix(board, &[turn]).wrapping_mul(MIXER) >> 32) as u32
@@ -102,8 +102,8 @@ impl Line {
     pub fn key_hash(&self) -> u32
         ensures { result ≡ hash_of_key (key_of self.now.frame self.now.state) }
     {
-        let turn = turn_word(self.to_move(), self.passes());
-        hash_with(mix_board(self.present()), turn)
+        let turn = mover_word(self.to_move(), self.passes());
+        hash_of_sums(mix_board(self.present()), turn)
     }
 }
 

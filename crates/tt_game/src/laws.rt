@@ -1,11 +1,11 @@
 //! Laws of the definitions: each stands as the contract of a function without parameters.
 
-ghost use Rattle.tt_game.specs.GameLaws.{AtMostOneSideForces, SomeSideForces, ValuesAreForced, TurnsKeepStates, LegalTurnsListed, ProblemsOpen, ProblemsAreStates};
-ghost use Rattle.tt_game.specs.Keys.{KeysTell};
-ghost use Rattle.tt_game.specs.RecordLaws.{RecordsAreGames, ProblemsAreGames, SetupsBeginHistories, LeastNodesRefuse, ProblemsAreRecords, UnmarkedAreNoProblems, SuperkoDecides};
+ghost use Rattle.tt_game.specs.GameLaws.{AtMostOneSideForces, SomeSideForces, ValuesAreForced, TurnsKeepStates, LegalTurnsListed, ProblemsHaveNoWinner, ProblemsAreStates};
+ghost use Rattle.tt_game.specs.Keys.{SameKeyMeansAlike};
+ghost use Rattle.tt_game.specs.RecordLaws.{RecordsAreGames, ProblemsAreGames, SetupsBeginHistories, FirstRefusalDecides, RefusalsCarryToProblems, UnmarkedAreNoProblems, SuperkoDecides};
 
 /// Not both sides force a win at one state.
-pub fn one_side_forces()
+pub fn at_most_one_side_forces()
     ensures { AtMostOneSideForces }
 {}
 
@@ -17,7 +17,7 @@ pub fn some_side_forces()
 
 /// A state whose colourings fit the board, with two passes at most, is killed exactly where the attacker can force a win, and lives
 /// exactly where the defender can: in any number of turns, or within twice as many as there are colourings of the board.
-pub fn values()
+pub fn values_are_forced()
     ensures { ValuesAreForced }
 {}
 
@@ -27,21 +27,21 @@ pub fn turns_keep_states()
 {}
 
 /// The list of the legal turns holds them all and no others, in rising order.
-pub fn legal_turns()
+pub fn legal_turns_are_listed()
     ensures { LegalTurnsListed }
 {}
 
 /// Positions have one key exactly where they look alike.
-pub fn keys()
-    ensures { KeysTell }
+pub fn keys_tell_positions()
+    ensures { SameKeyMeansAlike }
 {}
 
 /// Nobody has won at a problem.
-pub fn problems_are_open()
-    ensures { ProblemsOpen }
+pub fn problems_have_no_winner()
+    ensures { ProblemsHaveNoWinner }
 {}
 
-/// The state of a problem is of those that `some_side_forces` and `values` speak of: its colourings fit the board, and the passes are
+/// The state of a problem is of those that `some_side_forces` and `values_are_forced` speak of: its colourings fit the board, and the passes are
 /// two at most.
 pub fn problems_are_states()
     ensures { ProblemsAreStates }
@@ -66,13 +66,13 @@ pub fn setups_begin_histories()
 /// A record's refusal is that of its least node that has one: the nodes before it are a record, and what stands behind it
 /// changes nothing.
 pub fn least_nodes_refuse()
-    ensures { LeastNodesRefuse }
+    ensures { FirstRefusalDecides }
 {}
 
 /// Where a record is refused and none of its nodes marks a target, the problem of each main line that begins so is refused
 /// alike.
-pub fn problems_are_records()
-    ensures { ProblemsAreRecords }
+pub fn refusals_carry_to_problems()
+    ensures { RefusalsCarryToProblems }
 {}
 
 /// A main line without a marked target whose nodes are taken as a record is no problem.

@@ -42,7 +42,7 @@ impl Model for Line {
     ghost use Rattle.std.specs.Prelude.{◌≡◌, ◌<◌, ◌≤◌, reverse, length, All};
     ghost use Rattle.tt_sgf.specs.Sizes.{point_count};
     ghost use Rattle.std.specs.Arc.{arc_value};
-    ghost use Rattle.tt_game.specs.Line.{LineWithUndo, HasTargets};
+    ghost use Rattle.tt_game.specs.Line.{LineWithUndo, HasTargetsOnBoard};
     ghost use Rattle.tt_game.specs.inside.Roots.{AreRooted};
     ghost use Rattle.tt_game.specs.inside.Undoing.{line_with_undo, state_at, board_on, IsUndoable};
     ghost use Rattle.tt_sgf.specs.contracts.sets.PointSet as points;
@@ -56,7 +56,7 @@ impl Model for Line {
 
     ghost invariant = { λ l. record {
       size : l.history.size ≡ l.frame.size;
-      targets : HasTargets l.frame;
+      targets : HasTargetsOnBoard l.frame;
       board : l.stack.present ≡ board_on l.frame.size l.history.present;
       undoable : IsUndoable l.frame.size (state_at l.history l.to_move) (reverse l.pushes.items) l.stack.below;
       same_frame : (arc_value l.root).frame ≡ l.frame;
@@ -70,7 +70,7 @@ impl Line {
     ghost use Rattle.tt_game.specs.Line.{IsBarredBySuperko};
     ghost use Rattle.tt_board.specs.Reach.{entry_at};
     ghost use Rattle.std.specs.Prelude.{OnOk, OnErr, IfErr, IfOk};
-    ghost use Rattle.tt_game.specs.Line.{HasTargets, HasBoard, IsRefusal, IsRefused, IsLineAfterTurn};
+    ghost use Rattle.tt_game.specs.Line.{HasTargetsOnBoard, HasBoard, IsRefusal, IsPushFailure, IsLineAfterTurn};
     ghost use Rattle.tt_game.specs.inside.Roots.{BoardsBegin};
     ghost use Rattle.tt_game.specs.inside.Undoing.{IsMoved, state_at, board_on};
     ghost use Rattle.tt_game.specs.Turns.{IsTurnOnBoard};
@@ -85,7 +85,7 @@ impl Line {
         board: CountedBoard,
     ) -> Result<Line, NoMemory>
         requires size { history.size ≡ frame.size }
-        requires targets { HasTargets frame }
+        requires targets { HasTargetsOnBoard frame }
         requires board { board ≡ board_on frame.size history.present }
         ensures { IfOk result (λ l. l ≡ record { frame = frame; state = state_at history to_move; before = [] }) }
     {
@@ -111,13 +111,13 @@ impl Line {
     /// The frame; it has some target, and all are on the board.
     pub fn frame(&self) -> &Frame
         ensures value { result.now ≡ self.now.frame }
-        ensures targets { HasTargets self.now.frame }
+        ensures targets { HasTargetsOnBoard self.now.frame }
     {
         &self.frame
     }
 
     /// The colour that moves next.
-    pub(crate) fn mover(&self) -> Colour
+    pub(crate) fn colour_to_move(&self) -> Colour
         ensures { result ≡ side_colour self.now.frame self.now.state.to_move }
     {
         match self.to_move {
@@ -144,7 +144,7 @@ impl Line {
     }
 
     /// The present board, with its chains counted.
-    pub(crate) fn counted(&self) -> &CountedBoard
+    pub(crate) fn counted_board(&self) -> &CountedBoard
         ensures { result.now ≡ board_on self.now.frame.size self.now.state.present }
     {
         self.stack.present()
@@ -158,21 +158,21 @@ impl Line {
     }
 
     /// The board after a play of the side to move on an empty point.
-    pub(crate) fn board_after(&self, p: Point) -> Board
+    pub(crate) fn board_after_play(&self, p: Point) -> Board
         requires on_board { p < point_count self.now.frame.size }
         requires free { entry_at self.now.state.present p ≡ None }
         ensures { result ≡ record { size = self.now.frame.size; points = made self.now.frame self.now.state p } }
     {
-        self.stack.present().after(self.mover(), p)
+        self.stack.present().after(self.colour_to_move(), p)
     }
 
     /// The board after a turn that is known to be legal. Nothing is pushed, and it takes no memory.
-    pub fn board_behind(&self, t: Turn) -> Board
+    pub fn board_after_turn(&self, t: Turn) -> Board
         requires { IsLegal self.now.frame self.now.state t }
         ensures { result ≡ record { size = self.now.frame.size; points = (after self.now.frame self.now.state t).present } }
     {
         match t {
-            Turn::Play(p) => self.board_after(p),
+            Turn::Play(p) => self.board_after_play(p),
             Turn::Pass => self.present().copy(),
         }
     }
@@ -185,7 +185,8 @@ impl Line {
         if self.root.stone_has_stood(colour, p) {
             return true;
         }
-        self.history.stone_has_stood(self.root.count(), colour, p)
+        self.history
+            .stone_has_stood(self.root.board_count(), colour, p)
     }
 
     /// Whether the region has many points. Nothing goes by it but time.
@@ -197,8 +198,8 @@ impl Line {
     pub(crate) fn stones_so_far(&self, colour: Colour) -> Bits
         ensures { HaveStood colour self.now.frame.size (history self.now.state) result.words }
     {
-        let later = stones_of(self.history.since(self.root.count()), colour);
-        self.root.stones(colour).or(&later)
+        let later = stones_of(self.history.boards_since(self.root.board_count()), colour);
+        self.root.stones_on_any_board(colour).or(&later)
     }
 
     /// Whether a play of the side to move on an empty point makes a colouring that has been.
@@ -207,7 +208,7 @@ impl Line {
         requires free { entry_at self.now.state.present p ≡ None }
         ensures { IsTrue result ↔ HasBeen (history self.now.state) (made self.now.frame self.now.state p) }
     {
-        self.has_been(p, &self.board_after(p))
+        self.has_been(p, &self.board_after_play(p))
     }
 
     /// Whether a board of the line's size, which a play of the side to move on `p` may have made, has a colouring that has been. Where
@@ -217,22 +218,23 @@ impl Line {
         requires size { next.now.size ≡ self.now.frame.size }
         ensures { IsTrue result ↔ HasBeen (history self.now.state) next.now.points }
     {
-        let colour = self.mover();
+        let colour = self.colour_to_move();
         if next.has_stone(colour, p) && !self.stone_has_stood(colour, p) {
             return false;
         }
-        self.is_among(next)
+        self.has_colouring_of(next)
     }
 
     /// Whether a board of the line's size has a colouring that has been: none of the beginning is compared where its hash tells it from
     /// them, and where it doesn't, the one that its hash names is compared first.
-    pub(crate) fn is_among(&self, next: &Board) -> bool
+    pub(crate) fn has_colouring_of(&self, next: &Board) -> bool
         requires { next.now.size ≡ self.now.frame.size }
         ensures { IsTrue result ↔ HasBeen (history self.now.state) next.now.points }
     {
-        match self.root.search_start(next) {
-            None => self.history.has_been(self.root.count(), next),
-            Some(place) => self.history.has_at(place, next) || self.history.has_been(0, next),
+        match self.root.likely_place(next) {
+            None => self.history.has_been_since(self.root.board_count(), next),
+            Some(place) => self.history.has_colouring_at(place, next)
+                || self.history.has_been_since(0, next),
         }
     }
 
@@ -243,14 +245,14 @@ impl Line {
         if board.size() != self.frame.size {
             return false;
         }
-        self.is_among(board)
+        self.has_colouring_of(board)
     }
 
     /// What the words of the present board make, where hashes were noted of the boards of the beginning.
-    pub(crate) fn sum_here(&self) -> Option<u64>
+    pub(crate) fn present_board_sum(&self) -> Option<u64>
         ensures { IfSome result (λ n. n ≡ mix_board self.now.frame.size self.now.state.present) }
     {
-        if !self.root.has_hashes() {
+        if !self.root.keeps_hashes() {
             return None;
         }
         Some(mix_board(self.present()))
@@ -265,14 +267,19 @@ impl Line {
         requires free { entry_at self.now.state.present p ≡ None }
         ensures { IsTrue result → HasBeen (history self.now.state) (slice_set self.now.state.present p (Some colour)) → ⊥ }
     {
-        if self.root.has_hash(filter_index_with_stone(sum, colour, p)) {
+        if self
+            .root
+            .may_have_hash(filter_index_with_stone(sum, colour, p))
+        {
             return false;
         }
-        !self.history.stone_has_stood(self.root.count(), colour, p)
+        !self
+            .history
+            .stone_has_stood(self.root.board_count(), colour, p)
     }
 
     /// Why a play of the side to move is refused, or none where it is legal.
-    pub(crate) fn why_not(&self, p: Point) -> Option<Why>
+    pub(crate) fn play_refusal(&self, p: Point) -> Option<Why>
         requires on_board { p < point_count self.now.frame.size }
         requires open { winner_of self.now.frame self.now.state ≡ None }
         ensures { MatchOption result (IsLegal self.now.frame self.now.state (Turn.Play p)) (IsRefusal self.now.frame self.now.state (Turn.Play p)) }
@@ -291,7 +298,7 @@ impl Line {
 
     /// The board that a play of the side to move on an empty point of the region makes, where the line's history has its
     /// colouring; none where the history hasn't, and for any other point. It takes no memory.
-    pub fn repeated(&self, p: Point) -> Option<Board>
+    pub fn repeated_board(&self, p: Point) -> Option<Board>
         ensures { MatchOption result (IsBarredBySuperko self.now.frame self.now.state p → ⊥)
             (λ b. IsBarredBySuperko self.now.frame self.now.state p × (b ≡ record { size = self.now.frame.size; points = made self.now.frame self.now.state p })) }
     {
@@ -301,7 +308,7 @@ impl Line {
         {
             return None;
         }
-        let next = self.board_after(p);
+        let next = self.board_after_play(p);
         if !self.has_been(p, &next) {
             return None;
         }
@@ -320,7 +327,7 @@ impl Line {
         }
         match t {
             Turn::Pass => None,
-            Turn::Play(p) => self.why_not(p),
+            Turn::Play(p) => self.play_refusal(p),
         }
     }
 
@@ -331,19 +338,19 @@ impl Line {
         ensures err { OnErr result (self.new ≡ self.old) }
     {
         self.pushes.push(Undo::UndoPass)?;
-        self.history.pass();
+        self.history.add_pass();
         self.to_move = self.to_move.opponent();
         Ok(())
     }
 
     /// Adds a play on an empty point; the line is unchanged where memory is refused.
-    fn push_made(&mut self, p: Point) -> Result<(), NoMemory>
+    fn push_play_on_empty(&mut self, p: Point) -> Result<(), NoMemory>
         requires on_board { p < point_count self.old.frame.size }
         requires free { entry_at self.old.state.present p ≡ None }
         ensures ok { OnOk result (IsMoved self.old self.new (made self.old.frame self.old.state p)) }
         ensures err { OnErr result (self.new ≡ self.old) }
     {
-        let colour = self.mover();
+        let colour = self.colour_to_move();
         self.pushes.push(Undo::UndoPlay(self.history.passes()))?;
         if let Err(error) = self.stack.push(colour, p) {
             self.pushes.pop();
@@ -364,12 +371,12 @@ impl Line {
         requires open { winner_of self.old.frame self.old.state ≡ None }
         ensures ok { OnOk result (IsLegal self.old.frame self.old.state (Turn.Play p) × IsLineAfterTurn self.old self.new (Turn.Play p)) }
         ensures err { OnErr result (self.new ≡ self.old) }
-        ensures why { IfErr result (λ e. IsRefused self.old.frame self.old.state (Turn.Play p) e) }
+        ensures why { IfErr result (λ e. IsPushFailure self.old.frame self.old.state (Turn.Play p) e) }
     {
-        if let Some(why) = self.why_not(p) {
+        if let Some(why) = self.play_refusal(p) {
             return Err(Refused::Illegal(why));
         }
-        if self.push_made(p).is_err() {
+        if self.push_play_on_empty(p).is_err() {
             return Err(Refused::NoMemory);
         }
         Ok(())
@@ -381,7 +388,7 @@ impl Line {
         requires { IsTurnOnBoard self.old.frame t }
         ensures ok { OnOk result (IsLegal self.old.frame self.old.state t × IsLineAfterTurn self.old self.new t) }
         ensures err { OnErr result (self.new ≡ self.old) }
-        ensures why { IfErr result (λ e. IsRefused self.old.frame self.old.state t e) }
+        ensures why { IfErr result (λ e. IsPushFailure self.old.frame self.old.state t e) }
     {
         if self.winner().is_some() {
             return Err(Refused::Illegal(Why::Over));
@@ -405,7 +412,7 @@ impl Line {
         ensures err { OnErr result (self.new ≡ self.old) }
     {
         match t {
-            Turn::Play(p) => self.push_made(p)?,
+            Turn::Play(p) => self.push_play_on_empty(p)?,
             Turn::Pass => self.push_pass()?,
         }
         Ok(())

@@ -2,8 +2,8 @@
 
 ghost use Rattle.std.specs.Prelude.{◌≡◌, ℕ, ◌<◌, ◌≤◌, ◌↔◌, ◌∷◌, [], List, length, min, nat_le, ◌+◌, MatchOption};
 ghost use Rattle.std.specs.FinSet as set;
-ghost use Rattle.tt_sgf.specs.Entries.{set_of};
-ghost use Rattle.tt_game.specs.Nodes.{values_of, ReadsSet, colour_at, colour_named, PL, apart, some_value, is_setup, moves_in, is_go, size_named, GM, SZ};
+ghost use Rattle.tt_sgf.specs.PointLists.{set_of};
+ghost use Rattle.tt_game.specs.Nodes.{values_of, ReadsSet, colour_of_letter, mover_of_values, PL, apart, has_some_value, is_setup, move_count, is_go, size_or_default, GM, SZ};
 ghost use Rattle.tt_sgf.specs.Values.{after_blanks};
 
 use tt_board::Colour;
@@ -67,7 +67,7 @@ pub(crate) fn count_to_two(properties: &[Property], name: &[u8]) -> usize
 
 /// The colour that a value names by its first letter.
 fn value_colour(value: &[u8]) -> Option<Colour>
-    ensures { result ≡ colour_at (after_blanks value.now) }
+    ensures { result ≡ colour_of_letter (after_blanks value.now) }
 {
     let text = skip_blanks(value);
     let Some((letter, _)) = text.split_first() else {
@@ -83,8 +83,8 @@ fn value_colour(value: &[u8]) -> Option<Colour>
 }
 
 /// The colour that the first value of PL names, or Black where there is none.
-pub(crate) fn next_colour(properties: &[Property]) -> Option<Colour>
-    ensures { result ≡ colour_named (values_of PL properties.now) }
+pub(crate) fn mover_of_properties(properties: &[Property]) -> Option<Colour>
+    ensures { result ≡ mover_of_values (values_of PL properties.now) }
 {
     match first_value(properties, b"PL") {
         Some(value) => value_colour(value),
@@ -93,7 +93,7 @@ pub(crate) fn next_colour(properties: &[Property]) -> Option<Colour>
 }
 
 /// Whether no point is in both sets.
-pub(crate) fn are_apart(a: &PointSet, b: &PointSet) -> bool
+pub(crate) fn are_disjoint(a: &PointSet, b: &PointSet) -> bool
     ensures { result ≡ apart a.now b.now }
 {
     a.and(b).count() == 0
@@ -101,7 +101,7 @@ pub(crate) fn are_apart(a: &PointSet, b: &PointSet) -> bool
 
 /// Whether the properties of this name have a value.
 pub(crate) fn has_value(properties: &[Property], name: &[u8]) -> bool
-    ensures { result ≡ some_value (values_of name.now properties.now) }
+    ensures { result ≡ has_some_value (values_of name.now properties.now) }
 {
     first_value(properties, name).is_some()
 }
@@ -121,7 +121,7 @@ pub(crate) fn sets_up(node: &Node) -> bool
 /// Whether a node has a move: a value of B or W.
 #[tactic(auto, using(crate::proofs::RecordLemmas::counted_one))]
 pub fn has_move(node: &Node) -> bool
-    ensures { result ≡ nat_le 1 (moves_in node.now) }
+    ensures { result ≡ nat_le 1 (move_count node.now) }
 {
     let properties = node.properties.as_slice();
     1 <= count_to_two(properties, b"B") + count_to_two(properties, b"W")
@@ -129,8 +129,8 @@ pub fn has_move(node: &Node) -> bool
 
 /// Whether a node has two moves or more.
 #[tactic(auto, using(crate::proofs::RecordLemmas::counted_two))]
-pub(crate) fn has_moves(node: &Node) -> bool
-    ensures { result ≡ nat_le 2 (moves_in node.now) }
+pub(crate) fn has_several_moves(node: &Node) -> bool
+    ensures { result ≡ nat_le 2 (move_count node.now) }
 {
     let properties = node.properties.as_slice();
     2 <= count_to_two(properties, b"B") + count_to_two(properties, b"W")
@@ -151,7 +151,7 @@ pub(crate) fn is_go(properties: &[Property]) -> bool
 
 /// The size that SZ says, or 19 by 19 without it.
 pub(crate) fn said_size(properties: &[Property]) -> Option<Size>
-    ensures { result ≡ size_named (values_of SZ properties.now) }
+    ensures { result ≡ size_or_default (values_of SZ properties.now) }
 {
     let Some(value) = first_value(properties, b"SZ") else {
         return Size::new(19, 19);

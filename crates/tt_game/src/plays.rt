@@ -54,7 +54,7 @@ impl Line {
     {
         LegalPlays {
             line: self,
-            moves: self.moves(),
+            moves: self.move_generator(),
             from: 0,
         }
     }

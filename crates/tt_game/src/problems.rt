@@ -4,13 +4,13 @@ ghost use Rattle.std.specs.Prelude.{◌≡◌, ◌≤◌, IfOk, false, length};
 ghost use Rattle.tt_board.specs.Stones.{LiesOn};
 ghost use Rattle.tt_game.specs.Nodes.{set_named, ReadsSet, TR};
 ghost use Rattle.tt_game.specs.Records.{ReturnsUnlessNoMemory};
-ghost use Rattle.tt_game.specs.Problems.{nodes_before_solution, game_of, puts_stones, region_of, common_colour, problem_of_sets, run_to_mark, problem_of};
+ghost use Rattle.tt_game.specs.Problems.{nodes_before_solution, game_of, puts_stones, region_of, common_colour, problem_of_sets, problem_at_targets, problem_of};
 
 use crate::faults::GameFault;
 use crate::game::Game;
 use crate::line::Line;
 use crate::nodes::{has_move, has_value, named_set};
-use crate::records::{GameSoFar, begin_line, run};
+use crate::records::{GameSoFar, begin_record, play_all_nodes};
 use std::alloc::Global;
 use tt_board::{Board, Colour};
 use tt_sgf::{BadPoint, MainLine, Node, PointSet, Size};
@@ -40,9 +40,9 @@ fn common_colour(board: &Board, points: &PointSet) -> Option<Colour>
     requires { LiesOn board.now.size points.now }
     ensures { result ≡ common_colour points.now board.now.points }
 {
-    if board.has_all(points, Colour::Black) {
+    if board.has_stones_on_all(points, Colour::Black) {
         Some(Colour::Black)
-    } else if board.has_all(points, Colour::White) {
+    } else if board.has_stones_on_all(points, Colour::White) {
         Some(Colour::White)
     } else {
         None
@@ -50,7 +50,7 @@ fn common_colour(board: &Board, points: &PointSet) -> Option<Colour>
 }
 
 /// The problem that a game is at a node with TR.
-fn pose(game: Game, node: &Node) -> Result<Line, GameFault>
+fn problem_at(game: Game, node: &Node) -> Result<Line, GameFault>
     ensures { ReturnsUnlessNoMemory result (problem_of_sets game (set_named game.size TR node.now) (region_of game.size node.now)) }
 {
     let size = game.size();
@@ -63,28 +63,28 @@ fn pose(game: Game, node: &Node) -> Result<Line, GameFault>
     if targets.count() == 0 {
         return Err(GameFault::NoTarget);
     }
-    if game.present().has_empty(&targets) {
+    if game.present().has_some_empty(&targets) {
         return Err(GameFault::EmptyTarget);
     }
     let Some(defender) = common_colour(game.present(), &targets) else {
         return Err(GameFault::MixedTargets);
     };
-    match game.pose(region, targets, defender) {
+    match game.into_problem(region, targets, defender) {
         Ok(line) => Ok(line),
         Err(_) => Err(GameFault::NoMemory),
     }
 }
 
 /// The problem at the first of these nodes with TR.
-fn run_to_mark(replay: GameSoFar, nodes: &[Node]) -> Result<Line, GameFault>
-    ensures { ReturnsUnlessNoMemory result (run_to_mark replay nodes.now) }
+fn problem_at_targets(replay: GameSoFar, nodes: &[Node]) -> Result<Line, GameFault>
+    ensures { ReturnsUnlessNoMemory result (problem_at_targets replay nodes.now) }
 {
     let mut last = replay;
     let mut rest = nodes;
     while let Some((node, behind)) = rest.split_first() {
-        last.step(node)?;
+        last.play_node(node)?;
         if has_value(node.properties.as_slice(), b"TR") {
-            return pose(last.game, node);
+            return problem_at(last.game, node);
         }
         rest = behind;
     }
@@ -104,7 +104,7 @@ pub fn problem(alloc: Global, line: &MainLine) -> Result<Line, GameFault>
     ensures { ReturnsUnlessNoMemory result (problem_of line.now.nodes) }
 {
     let nodes = line.nodes.as_slice();
-    run_to_mark(begin_line(alloc, nodes)?, nodes)
+    problem_at_targets(begin_record(alloc, nodes)?, nodes)
 }
 
 /// Whether a node puts stones on the board.
@@ -146,8 +146,8 @@ pub fn game_before_solution(alloc: Global, line: &MainLine) -> Result<Game, Game
     ensures { ReturnsUnlessNoMemory result (game_of line.now.nodes) }
 {
     let nodes = line.nodes.as_slice();
-    let last = run(
-        begin_line(alloc, nodes)?,
+    let last = play_all_nodes(
+        begin_record(alloc, nodes)?,
         &nodes[..nodes_before_solution(nodes)],
     )?;
     Ok(last.game)

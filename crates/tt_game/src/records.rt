@@ -2,17 +2,18 @@
 
 ghost use Rattle.std.specs.Prelude.{◌≡◌, Some};
 ghost use Rattle.tt_sgf.specs.Values.{point_of, trimmed};
-ghost use Rattle.tt_sgf.specs.Entries.{set_of};
+ghost use Rattle.tt_sgf.specs.PointLists.{set_of};
 ghost use Rattle.tt_board.specs.Setup.{placed};
 ghost use Rattle.tt_game.specs.Turns.{IsOnBoard};
-ghost use Rattle.tt_game.specs.Nodes.{values_of, colour_named, AB, AW, AE, PL, B, W};
-ghost use Rattle.tt_game.specs.Records.{ReturnsUnlessNoMemory, UpdatesUnlessNoMemory, fault_of, as_turn, replay_with, replay_turn_by, turn_named, game_after_move, begun};
-ghost use Rattle.tt_game.specs.Records.{set_up_by, step_node, begin_at, begin_node, begin_line, run_nodes, record_at, record_of};
+ghost use Rattle.tt_game.specs.Nodes.{values_of, mover_of_values, AB, AW, AE, PL, B, W};
+ghost use Rattle.tt_game.specs.Records.{ReturnsUnlessNoMemory, UpdatesUnlessNoMemory, fault_of, as_turn, play_next_turn, play_turn_by, play_named_turn, play_node_move, game_after_setup};
+ghost use Rattle.tt_game.specs.Records.{set_up_by, step_node, begin_at, begin_node, begin_record, run_nodes, record_at, record_of};
 
 use crate::faults::{GameFault, Refused, Why};
 use crate::game::Game;
 use crate::nodes::{
-    are_apart, first_value, has_move, has_moves, is_go, named_set, next_colour, said_size, sets_up,
+    are_disjoint, first_value, has_move, has_several_moves, is_go, mover_of_properties, named_set,
+    said_size, sets_up,
 };
 use crate::turns::Turn;
 use std::alloc::Global;
@@ -63,9 +64,9 @@ fn as_turn(value: PointOrPass) -> Turn
 
 impl GameSoFar {
     /// A turn of the side to move.
-    fn turn(&mut self, t: Turn) -> Result<(), GameFault>
+    fn play_turn(&mut self, t: Turn) -> Result<(), GameFault>
         requires { IsOnBoard self.old.game.size t }
-        ensures { UpdatesUnlessNoMemory result self.new (replay_with self.old t) }
+        ensures { UpdatesUnlessNoMemory result self.new (play_next_turn self.old t) }
     {
         if self.game.passes() == 2 {
             return Err(GameFault::AfterEnd);
@@ -84,63 +85,63 @@ impl GameSoFar {
     }
 
     /// A turn of a colour; where the other is to move it passes first.
-    fn replay_turn_by(&mut self, colour: Colour, t: Turn) -> Result<(), GameFault>
+    fn play_turn_by(&mut self, colour: Colour, t: Turn) -> Result<(), GameFault>
         requires { IsOnBoard self.old.game.size t }
-        ensures { UpdatesUnlessNoMemory result self.new (replay_turn_by self.old colour t) }
+        ensures { UpdatesUnlessNoMemory result self.new (play_turn_by self.old colour t) }
     {
         if self.game.to_move() != colour {
-            self.turn(Turn::Pass)?;
+            self.play_turn(Turn::Pass)?;
         }
-        self.turn(t)
+        self.play_turn(t)
     }
 
     /// The turn that a value of a colour names.
-    fn turn_named(&mut self, colour: Colour, value: &[u8]) -> Result<(), GameFault>
-        ensures { UpdatesUnlessNoMemory result self.new (turn_named self.old colour (point_of self.old.game.size (trimmed value.now))) }
+    fn play_named_turn(&mut self, colour: Colour, value: &[u8]) -> Result<(), GameFault>
+        ensures { UpdatesUnlessNoMemory result self.new (play_named_turn self.old colour (point_of self.old.game.size (trimmed value.now))) }
     {
         let Some(t) = point(value, self.game.size()) else {
             return Err(GameFault::BadValue);
         };
-        self.replay_turn_by(colour, as_turn(t))
+        self.play_turn_by(colour, as_turn(t))
     }
 
     /// The move of a node, where it has one.
-    fn game_after_move(&mut self, properties: &[Property]) -> Result<(), GameFault>
-        ensures { UpdatesUnlessNoMemory result self.new (game_after_move self.old (values_of B properties.now) (values_of W properties.now)) }
+    fn play_node_move(&mut self, properties: &[Property]) -> Result<(), GameFault>
+        ensures { UpdatesUnlessNoMemory result self.new (play_node_move self.old (values_of B properties.now) (values_of W properties.now)) }
     {
         if let Some(value) = first_value(properties, b"B") {
-            return self.turn_named(Colour::Black, value);
+            return self.play_named_turn(Colour::Black, value);
         }
         if let Some(value) = first_value(properties, b"W") {
-            return self.turn_named(Colour::White, value);
+            return self.play_named_turn(Colour::White, value);
         }
         Ok(())
     }
 
     /// Puts the sets over the present board, which begins the game anew.
     #[tactic(auto, using(crate::proofs::RecordLemmas::is_alive, crate::proofs::RecordLemmas::not_alive))]
-    fn set_up(
+    fn restart_from_setup(
         &mut self,
         black: &PointSet,
         white: &PointSet,
         clear: &PointSet,
         colour: Colour,
     ) -> Result<(), GameFault>
-        ensures { UpdatesUnlessNoMemory result self.new (begun self.old (placed self.old.game.size self.old.game.present black.now white.now clear.now) colour) }
+        ensures { UpdatesUnlessNoMemory result self.new (game_after_setup self.old (placed self.old.game.size self.old.game.present black.now white.now clear.now) colour) }
     {
         let Ok(board) = self.game.present().set_up(black, white, clear) else {
             return Err(GameFault::StoneWithoutLiberty);
         };
-        if self.game.begin(board, colour).is_err() {
+        if self.game.restart_with(board, colour).is_err() {
             return Err(GameFault::NoMemory);
         }
         Ok(())
     }
 
     /// What a setup node does.
-    fn setup_node(&mut self, properties: &[Property]) -> Result<(), GameFault>
+    fn play_setup_node(&mut self, properties: &[Property]) -> Result<(), GameFault>
         ensures { UpdatesUnlessNoMemory result self.new (set_up_by self.old (set_of self.old.game.size (values_of AB properties.now)) (set_of self.old.game.size (values_of AW properties.now))
-            (set_of self.old.game.size (values_of AE properties.now)) (colour_named (values_of PL properties.now))) }
+            (set_of self.old.game.size (values_of AE properties.now)) (mover_of_values (values_of PL properties.now))) }
     {
         let size = self.game.size();
         let Ok(black) = named_set(properties, b"AB", size) else {
@@ -152,30 +153,33 @@ impl GameSoFar {
         let Ok(clear) = named_set(properties, b"AE", size) else {
             return Err(GameFault::BadValue);
         };
-        let Some(colour) = next_colour(properties) else {
+        let Some(colour) = mover_of_properties(properties) else {
             return Err(GameFault::BadValue);
         };
-        if !(are_apart(&black, &white) && are_apart(&black, &clear) && are_apart(&white, &clear)) {
+        if !(are_disjoint(&black, &white)
+            && are_disjoint(&black, &clear)
+            && are_disjoint(&white, &clear))
+        {
             return Err(GameFault::PointTwice);
         }
-        self.set_up(&black, &white, &clear, colour)
+        self.restart_from_setup(&black, &white, &clear, colour)
     }
 
     /// What a node does.
     #[tactic(auto, unfolding(crate::specs::Records::step_node))]
-    pub(crate) fn step(&mut self, node: &Node) -> Result<(), GameFault>
+    pub(crate) fn play_node(&mut self, node: &Node) -> Result<(), GameFault>
         ensures { UpdatesUnlessNoMemory result self.new (step_node self.old node.now) }
     {
         if sets_up(node) {
             if has_move(node) {
                 return Err(GameFault::MixedNode);
             }
-            return self.setup_node(node.properties.as_slice());
+            return self.play_setup_node(node.properties.as_slice());
         }
-        if has_moves(node) {
+        if has_several_moves(node) {
             return Err(GameFault::MixedNode);
         }
-        self.game_after_move(node.properties.as_slice())
+        self.play_node_move(node.properties.as_slice())
     }
 
     /// Before the first turn on a board of this size.
@@ -190,7 +194,7 @@ impl GameSoFar {
 
     /// Before the first node: its game and its size.
     #[tactic(auto, unfolding(crate::specs::Records::begin_node))]
-    fn before(alloc: Global, node: &Node) -> Result<GameSoFar, GameFault>
+    fn begin_at_node(alloc: Global, node: &Node) -> Result<GameSoFar, GameFault>
         ensures { ReturnsUnlessNoMemory result (begin_node node.now) }
     {
         if !is_go(node.properties.as_slice()) {
@@ -204,11 +208,11 @@ impl GameSoFar {
 }
 
 /// Before the first of these nodes; without a node the board is 19 by 19.
-pub(crate) fn begin_line(alloc: Global, nodes: &[Node]) -> Result<GameSoFar, GameFault>
-    ensures { ReturnsUnlessNoMemory result (begin_line nodes.now) }
+pub(crate) fn begin_record(alloc: Global, nodes: &[Node]) -> Result<GameSoFar, GameFault>
+    ensures { ReturnsUnlessNoMemory result (begin_record nodes.now) }
 {
     if let Some((first, _)) = nodes.split_first() {
-        return GameSoFar::before(alloc, first);
+        return GameSoFar::begin_at_node(alloc, first);
     }
     let Some(size) = Size::new(19, 19) else {
         return Err(GameFault::BadSize);
@@ -217,13 +221,13 @@ pub(crate) fn begin_line(alloc: Global, nodes: &[Node]) -> Result<GameSoFar, Gam
 }
 
 /// After all nodes.
-pub(crate) fn run(replay: GameSoFar, nodes: &[Node]) -> Result<GameSoFar, GameFault>
+pub(crate) fn play_all_nodes(replay: GameSoFar, nodes: &[Node]) -> Result<GameSoFar, GameFault>
     ensures { ReturnsUnlessNoMemory result (run_nodes replay nodes.now) }
 {
     let mut last = replay;
     let mut rest = nodes;
     while let Some((node, behind)) = rest.split_first() {
-        last.step(node)?;
+        last.play_node(node)?;
         rest = behind;
     }
     Ok(last)
@@ -253,6 +257,6 @@ pub fn play_record(alloc: Global, line: &MainLine) -> Result<Record, GameFault>
     ensures { ReturnsUnlessNoMemory result (record_of line.now.nodes) }
 {
     let nodes = line.nodes.as_slice();
-    let last = run(begin_line(alloc, nodes)?, nodes)?;
+    let last = play_all_nodes(begin_record(alloc, nodes)?, nodes)?;
     Ok(record_at(&last.game))
 }

@@ -2,14 +2,14 @@
 use Rattle.std.proofs.Common.{◌≡◌, ◌<◌, ◌&&◌, ◌||◌, ℕ, Bool, true, false, inl, inr, List, sym, ◌∙◌, refl, arith}
 use Rattle.std.proofs.lemmas.Bool.{cases_lt, false≢true}
 use Rattle.tt_sgf.specs.Sizes.{point_count}
-use Rattle.tt_sgf.specs.MachineWords.{bit_in, AreBitsOf, AreCovered}
+use Rattle.tt_sgf.specs.MachineWords.{bit_in, AreBitsOf, IsWithinUnion}
 use Rattle.tt_sgf.specs.declared.bits.Bits.{Bits}
 use Rattle.tt_sgf.specs.declared.bits.TheConstants.{BITS}
 use Rattle.tt_board.specs.declared.Colour.{Colour}
 use Rattle.tt_board.specs.Position.{Position}
 use Rattle.tt_board.specs.Play.{is_stone_of}
 use Rattle.tt_board.specs.Reach.{entry_at}
-use Rattle.tt_proof.specs.Bounds.{HasStones, hash_bit}
+use Rattle.tt_proof.specs.BoardBounds.{HasStones, hash_bit}
 
 -- of two truths both hold, and of one that holds one of two does
 and_left : (x y : Bool) → (x && y) ≡ true → x ≡ true
@@ -41,10 +41,10 @@ module _ (words : List ℕ) (k : Colour) (b : Position) (are : AreBitsOf words (
   ]
 
   -- stones that they cover are the board's
-  pub covered_has : (x : Bits) → AreCovered x.words words words → HasStones x k b
+  pub covered_has : (x : Bits) → IsWithinUnion x.words words words → HasStones x k b
   covered_has x low p small e = bit_stands p small (or_same (bit_in words p) (low p small e))
 
-  pub has_covered : (x : Bits) → HasStones x k b → AreCovered x.words words words
+  pub has_covered : (x : Bits) → HasStones x k b → IsWithinUnion x.words words words
   has_covered x h p small e = or_left (bit_in words p) (bit_in words p) (are.below p (h p small e).0 small ∙ (h p small e).1)
 
 -- a board that has the stones of one of two has those of both together

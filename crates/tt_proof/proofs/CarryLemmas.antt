@@ -5,7 +5,7 @@ use Rattle.tt_board.specs.Position.{Colouring}
 use Rattle.tt_board.specs.Decided.{Decision}
 use Rattle.tt_board.specs.Reach.{entry_at}
 use Rattle.tt_game.specs.Game.{State, IsLegal, after, winner_of, history, made}
-use Rattle.tt_game.specs.History.{same_colouring}
+use Rattle.tt_game.specs.Superko.{decide_same_colouring}
 use Rattle.tt_game.specs.declared.frame.Side.{Side}
 use Rattle.tt_game.specs.declared.frame.Frame.{Frame}
 use Rattle.tt_game.specs.declared.turns.Turn.{Turn}
@@ -13,7 +13,7 @@ use Rattle.tt_game.specs.declared.turns.Turn.TheVariants.{Play, Pass}
 use Rattle.tt_proof.specs.Strategy.{Strategy, Entries, done, pick, reply, none, entry, IsInOrder, AreInOrder}
 use Rattle.tt_proof.specs.Wins.{Wins}
 use Rattle.tt_proof.specs.inside.Replaying.{LegalWin, HasEntry}
-use Rattle.tt_proof.specs.Footprints.{IsNeeded, IsNeededBehind, IsAvoided, IsAvoidedBehind, IsMet, IsMetBehind, IsRepeated, Fits, longer, Makes}
+use Rattle.tt_proof.specs.Footprints.{IsNeeded, IsNeededBehind, IsAvoided, IsAvoidedBehind, IsMet, IsMetBehind, IsRepeated, Fits, path_after_turn, MakesColouring}
 use Rattle.tt_game.specs.laws.Members.{IsIn, in_of_contains, contains_of_in}
 use Rattle.tt_proof.proofs.FitsLemmas.{splits_none, Carried, same_made, carried_after, legal_now, legal_before}
 use Rattle.tt_proof.proofs.WinsLemmas.{reply_answers, reply_wins}
@@ -25,7 +25,7 @@ either f g (inr b) = inr (g b)
 -- a colouring is in a list, or it isn't
 is_in : (xs : List Colouring) (c : Colouring) → Decision (IsIn xs c)
 is_in [] c = inr (λ m. m)
-is_in (x ∷ xs) c = elim (same_colouring x c) [
+is_in (x ∷ xs) c = elim (decide_same_colouring x c) [
   | inl e ↦ inl (inl e)
   | inr n ↦ elim (is_in xs c) [ inl m ↦ inl (inr m) | inr k ↦ inr (none_of n k) ]
 ]
@@ -36,15 +36,15 @@ is_in (x ∷ xs) c = elim (same_colouring x c) [
 
 module _ (side : Side) (f : Frame) (h k : List Colouring) where
   -- both paths grow by the same colouring
-  same_longer : (path : List Colouring) (a b : State) (t : Turn) → Carried h k path a b → longer f b t path ≡ longer f a t path
+  same_longer : (path : List Colouring) (a b : State) (t : Turn) → Carried h k path a b → path_after_turn f b t path ≡ path_after_turn f a t path
   same_longer path a b Pass r = refl
   same_longer path a b (Play p) r = ap (λ c. path ++ c ∷ []) (same_made side f h k path a b p r)
 
-  makes_now : (path : List Colouring) (a b : State) (t : Turn) (c : Colouring) → Carried h k path a b → Makes f a t c → Makes f b t c
+  makes_now : (path : List Colouring) (a b : State) (t : Turn) (c : Colouring) → Carried h k path a b → MakesColouring f a t c → MakesColouring f b t c
   makes_now path a b Pass c r m = m
   makes_now path a b (Play p) c r m = same_made side f h k path a b p r ∙ m
 
-  makes_before : (path : List Colouring) (a b : State) (t : Turn) (c : Colouring) → Carried h k path a b → Makes f b t c → Makes f a t c
+  makes_before : (path : List Colouring) (a b : State) (t : Turn) (c : Colouring) → Carried h k path a b → MakesColouring f b t c → MakesColouring f a t c
   makes_before path a b Pass c r m = m
   makes_before path a b (Play p) c r m = sym (same_made side f h k path a b p r) ∙ m
 
@@ -58,7 +58,7 @@ module _ (side : Side) (f : Frame) (h k : List Colouring) where
 
   -- one that is repeated there was repeated before, where no legal play made it
   repeated_before : (path : List Colouring) (a b : State) (c : Colouring) → Carried h k path a b → winner_of f a ≡ None →
-      ((t : Turn) → IsLegal f a t → Makes f a t c → ⊥) → IsRepeated f k path b c → IsRepeated f h path a c
+      ((t : Turn) → IsLegal f a t → MakesColouring f a t c → ⊥) → IsRepeated f k path b c → IsRepeated f h path a c
   repeated_before path a b c r unwon unmet w = elim (is_in (history a) c) [
     | inl m ↦ held (r.before.cases c (contains_of_in (history a) c m))
     | inr n ↦ absurd (unmet (Play w.0.0) (unwon, w.0.1, free, w.0.3, λ m. n (in_of_contains (history a) c (subst (λ x. Contains (history a) x) makes m))) makes)
@@ -75,10 +75,10 @@ module _ (side : Side) (f : Frame) (h k : List Colouring) where
       held (inr m) = absurd (w.2 m)
 
   -- what a legal turn with an entry makes is met
-  met_there : (es : Entries) (a : State) (t : Turn) (c : Colouring) → HasEntry es t → IsLegal f a t → Makes f a t c → IsMetBehind f es a c
+  met_there : (es : Entries) (a : State) (t : Turn) (c : Colouring) → HasEntry es t → IsLegal f a t → MakesColouring f a t c → IsMetBehind f es a c
   met_there none a t c e l m = e
   met_there (entry t' u es) a t c (inl e) l m =
-      inl (subst (λ x. IsLegal f a x) (sym e) l, inl (subst (λ x. Makes f a x c) (sym e) m))
+      inl (subst (λ x. IsLegal f a x) (sym e) l, inl (subst (λ x. MakesColouring f a x c) (sym e) m))
   met_there (entry t' u es) a t c (inr e) l m = inr (met_there es a t c e l m)
 
   -- the strategy wins, the new history has what it needs, and nothing that it avoids or meets
@@ -98,7 +98,7 @@ module _ (side : Side) (f : Frame) (h k : List Colouring) where
     avoids : (c : Colouring) → IsAvoidedBehind f es a c → Contains k c → ⊥
     met : (c : Colouring) → IsMetBehind f es a c → Contains k c → ⊥
 
-  picked_stands : (t : Turn) (u : Strategy) (path : List Colouring) (a : State) → Stands (pick t u) path a → Stands u (longer f a t path) (after f a t)
+  picked_stands : (t : Turn) (u : Strategy) (path : List Colouring) (a : State) → Stands (pick t u) path a → Stands u (path_after_turn f a t path) (after f a t)
   picked_stands t u path a g = record {
     wins = g.wins.3;
     order = g.order.1;
@@ -118,7 +118,7 @@ module _ (side : Side) (f : Frame) (h k : List Colouring) where
   }
 
   first_stands : (t : Turn) (u : Strategy) (es : Entries) (path : List Colouring) (a : State) → AllStand (entry t u es) path a → IsLegal f a t →
-      Stands u (longer f a t path) (after f a t)
+      Stands u (path_after_turn f a t path) (after f a t)
   first_stands t u es path a g l = record {
     wins = g.wins.0 l;
     order = g.order.2;
@@ -143,7 +143,7 @@ module _ (side : Side) (f : Frame) (h k : List Colouring) where
     same done path a b c r g = ((λ m. m, λ m. m), (λ m. m, λ m. m), (λ m. m, λ m. m))
     same (pick t u) path a b c r g =
         let now = legal_now side f h k path a b t r g.wins.2 (λ x m. g.avoids x (g.wins.2, inl m)) in
-        let w = same u (longer f a t path) (after f a t) (after f b t) c (carried_after side f h k path a b t r) (picked_stands t u path a g) in
+        let w = same u (path_after_turn f a t path) (after f a t) (after f b t) c (carried_after side f h k path a b t r) (picked_stands t u path a g) in
         let e = same_longer path a b t r in (
           (
             λ m. (now, subst (λ p. IsNeeded f k u p (after f b t) c) (sym e) (w.0.0 m.1)),
@@ -156,7 +156,7 @@ module _ (side : Side) (f : Frame) (h k : List Colouring) where
           (λ m. (now, w.2.0 m.1), λ m. (g.wins.2, w.2.1 m.1)),
         )
     same (reply es) path a b c r g =
-        let meets : (t : Turn) (x : Colouring) → IsLegal f a t → Makes f a t x → IsMetBehind f es a x =
+        let meets : (t : Turn) (x : Colouring) → IsLegal f a t → MakesColouring f a t x → IsMetBehind f es a x =
         λ t x l m. met_there es a t x ((reply_answers side f a es g.wins).1 t l) l m in
         let w = same_behind es path a b c r (λ t l. legal_now side f h k path a b t r l (λ x m. g.met x (meets t x l m)))
         (λ t l. legal_before side f h k path a b t r l (λ x m. g.needs x (inl m))) (entries_stand es path a g) in (
@@ -176,9 +176,9 @@ module _ (side : Side) (f : Frame) (h k : List Colouring) where
     same_behind (entry t u es) path a b c r forth back g =
         let w = same_behind es path a b c r forth back (others_stand t u es path a g) in
         let e = same_longer path a b t r in
-        let first : IsLegal f a t → (IsNeeded f h u (longer f a t path) (after f a t) c ↔ IsNeeded f k u (longer f a t path) (after f b t) c)
+        let first : IsLegal f a t → (IsNeeded f h u (path_after_turn f a t path) (after f a t) c ↔ IsNeeded f k u (path_after_turn f a t path) (after f b t) c)
         × (IsAvoided f u (after f a t) c ↔ IsAvoided f u (after f b t) c) × (IsMet f u (after f a t) c ↔ IsMet f u (after f b t) c) =
-        λ l. same u (longer f a t path) (after f a t) (after f b t) c (carried_after side f h k path a b t r) (first_stands t u es path a g l) in (
+        λ l. same u (path_after_turn f a t path) (after f a t) (after f b t) c (carried_after side f h k path a b t r) (first_stands t u es path a g l) in (
           (
             either (λ m. (forth t m.0, subst (λ p. IsNeeded f k u p (after f b t) c) (sym e) ((first m.0).0.0 m.1))) w.0.0,
             either (λ m. let l = back t m.0 in (l, (first l).0.1 (subst (λ p. IsNeeded f k u p (after f b t) c) e m.1))) w.0.1,
@@ -199,7 +199,7 @@ later f a Pass c m = m
 later f a (Play p) c m = Contains-append_left (history a) (made f a p ∷ []) c m
 
 -- a legal turn makes no colouring of the history
-new_made : (f : Frame) (a : State) (t : Turn) (c : Colouring) → IsLegal f a t → Makes f a t c → Contains (history a) c → ⊥
+new_made : (f : Frame) (a : State) (t : Turn) (c : Colouring) → IsLegal f a t → MakesColouring f a t c → Contains (history a) c → ⊥
 new_made f a Pass c l m k = m
 new_made f a (Play p) c l m k = l.4 (subst (λ x. Contains (history a) x) (sym m) k)
 

@@ -8,19 +8,19 @@ use Rattle.tt_game.specs.declared.frame.Side.TheVariants.{Attacker, Defender}
 use Rattle.tt_proof.specs.declared.certificate_read.CertFault.{CertFault}
 use Rattle.tt_proof.specs.declared.certificate_read.CertFault.TheVariants.{Syntax, TooDeep, NoMemory}
 use Rattle.tt_proof.specs.declared.tree.TheConstants.{MOST_DEPTH}
-use Rattle.tt_game.specs.laws.SideLaws.{words_apart}
-use Rattle.tt_game.specs.Sides.{side_word}
+use Rattle.tt_game.specs.laws.SideLaws.{verdict_words_are_apart}
+use Rattle.tt_game.specs.Sides.{verdict_word}
 use Rattle.tt_proof.specs.Strategy.{Strategy}
 use Rattle.tt_proof.specs.CertificateText.{tree_text, side_prefix, IsCertificate, IsTooDeep}
 use Rattle.tt_proof.specs.inside.CertificateReading.{TreeAt, DeepAt, FaultAt}
-use Rattle.tt_proof.specs.CertificateFaults.{IsFault}
+use Rattle.tt_proof.specs.CertificateFaults.{IsCertFault}
 use Rattle.tt_proof.proofs.TextLemmas.{tails, same_tree, not_deep}
 
 module _ (size : Size) (some : 1 ≤ size.columns) where
   -- a text that begins with the words of a side tells the side and what follows
   pub side_apart : (a b : Side) (r q : List ℕ) → side_prefix a ++ r ≡ side_prefix b ++ q → (a ≡ b) × (r ≡ q)
   side_apart a b r q e =
-      let both = words_apart a b (space ∷ r) (space ∷ q) (sym (append_assoc (side_word a) (space ∷ []) r) ∙ e ∙ append_assoc (side_word b) (space ∷ []) q) in
+      let both = verdict_words_are_apart a b (space ∷ r) (space ∷ q) (sym (append_assoc (verdict_word a) (space ∷ []) r) ∙ e ∙ append_assoc (verdict_word b) (space ∷ []) q) in
       (both.0, tails both.1)
 
   -- what is said of the rest is said of the whole
@@ -63,12 +63,12 @@ module _ (size : Size) (some : 1 ≤ size.columns) where
     )
 
     -- where something follows it, they are no certificate
-    pub cert_more : (u : Strategy) (y : List ℕ) → TreeAt size MOST_DEPTH u rest y → (y ≡ [] → ⊥) → IsFault size bytes Syntax
+    pub cert_more : (u : Strategy) (y : List ℕ) → TreeAt size MOST_DEPTH u rest y → (y ≡ [] → ⊥) → IsCertFault size bytes Syntax
     cert_more u y h n =
         (λ side v c. let k = cert_tree side v c in n ((same_tree size some u v y [] (sym h.text ∙ k.text)).1), not_too_deep u y h)
 
     -- a fault of the rest is one of the bytes
-    pub cert_fault : (f : CertFault) → FaultAt size MOST_DEPTH rest f → IsFault size bytes f
+    pub cert_fault : (f : CertFault) → FaultAt size MOST_DEPTH rest f → IsCertFault size bytes f
     cert_fault Syntax h = (λ side u c. h.0 u [] (cert_tree side u c), λ deep. h.1 (too_deep deep))
     cert_fault TooDeep h = record {
       side = s;
@@ -83,7 +83,7 @@ module _ (size : Size) (some : 1 ≤ size.columns) where
 
   -- bytes that begin with the words of no side are no certificate
   pub no_side : (bytes : List ℕ) → ((y : List ℕ) → bytes ≡ side_prefix Attacker ++ y → ⊥) →
-      ((y : List ℕ) → bytes ≡ side_prefix Defender ++ y → ⊥) → IsFault size bytes Syntax
+      ((y : List ℕ) → bytes ≡ side_prefix Defender ++ y → ⊥) → IsCertFault size bytes Syntax
   no_side bytes a d = (λ side u c. no side (tree_text size u) c.text, λ h. no h.side (h.beginning ++ h.follows) h.text)
     where
       -- they don't begin with this side's words

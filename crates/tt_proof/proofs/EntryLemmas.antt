@@ -6,8 +6,8 @@ use Rattle.tt_game.specs.declared.turns.Turn.{Turn}
 use Rattle.tt_proof.specs.declared.tree.Tree.{Tree}
 use Rattle.tt_proof.specs.declared.certificate_read.CertFault.{CertFault}
 use Rattle.tt_proof.specs.declared.certificate_read.CertFault.TheVariants.{Syntax, TooDeep, NoMemory}
-use Rattle.tt_proof.specs.Strategy.{Strategy, Entries, done, none, entry, depth, depth_of_entries, IsOnBoard, IsInOrder, AreInOrder, number_on, strategy_of, entries_of_list}
-use Rattle.tt_proof.specs.CertificateText.{turn_text, tree_text, entries_text, EndsInEntries}
+use Rattle.tt_proof.specs.Strategy.{Strategy, Entries, done, none, entry, depth, depth_of_entries, IsOnBoard, IsInOrder, AreInOrder, number_on, strategy_of, entries_of_reply}
+use Rattle.tt_proof.specs.CertificateText.{turn_text, tree_text, entries_text, IsEntriesTextDownTo}
 use Rattle.tt_proof.specs.inside.CertificateReading.{TreeAt, EntriesAt, EntriesDeepAt, FaultAt, EntriesFaultAt}
 use Rattle.tt_proof.proofs.TextLemmas.{heads, tails, same_turn, turn_not_end, same_tree, not_deep}
 use Rattle.tt_proof.proofs.ReadLemmas.{NoTurn, deep_tree}
@@ -30,7 +30,7 @@ walked_fault size d least start now list NoMemory w h = tt
 
 -- where `;` stands at the place that was reached, the entries are those of the list
 pub walked_end : (size : Size) (d least : ℕ) (start now rest : List ℕ) (list : List (Turn × Tree)) → Walked size d start least now list →
-    now ≡ semicolon ∷ rest → EntriesAt size d 0 (entries_of_list list) start rest
+    now ≡ semicolon ∷ rest → EntriesAt size d 0 (entries_of_reply list) start rest
 walked_end size d least start now rest list w e =
     subst (λ es. EntriesAt size d 0 es start rest) (before_none list)
     (w.read none rest (record { in_order = tt; shallow = omega arith; text = e }))
@@ -86,7 +86,7 @@ module _ (size : Size) (some : 1 ≤ size.columns) where
     step_deep_only h = go h.entries h.beginning h.follows h.in_order h.ends h.text
       where
         -- so with each list of entries
-        go : (es : Entries) (x y : List ℕ) → AreInOrder size least es → EndsInEntries size es (suc e) x → now ≡ x ++ y →
+        go : (es : Entries) (x y : List ℕ) → AreInOrder size least es → IsEntriesTextDownTo size es (suc e) x → now ≡ x ++ y →
             EntriesDeepAt size (suc e) (number_on size t + 1) after
         go none x y i h g = absurd h
         go (entry v w es) x y i (inl h) g =
@@ -133,7 +133,7 @@ module _ (size : Size) (some : 1 ≤ size.columns) where
       no (entry t u es) y i g = turn t ((tree_text size u ++ entries_text size es) ++ y) i.1 g
 
       -- nor is a turn too deep
-      deep : (es : Entries) (k : ℕ) (x y : List ℕ) → AreInOrder size least es → EndsInEntries size es k x → now ≡ x ++ y → ⊥
+      deep : (es : Entries) (k : ℕ) (x y : List ℕ) → AreInOrder size least es → IsEntriesTextDownTo size es k x → now ≡ x ++ y → ⊥
       deep none k x y i h g = h
       deep (entry t u es) zero x y i (inl h) g = turn t y i.1 (g ∙ ap (λ z. z ++ y) h)
       deep (entry t u es) zero x y i (inr h) g = turn t ((tree_text size u ++ h.0) ++ y) i.1 (g ∙ ap (λ z. z ++ y) h.1.0)
@@ -159,7 +159,7 @@ module _ (size : Size) (some : 1 ≤ size.columns) where
       no (entry v u es) y i g = clash v ((tree_text size u ++ entries_text size es) ++ y) i.0 g
 
       -- nor is a turn too deep
-      deep : (es : Entries) (k : ℕ) (x y : List ℕ) → AreInOrder size least es → EndsInEntries size es k x → now ≡ x ++ y → ⊥
+      deep : (es : Entries) (k : ℕ) (x y : List ℕ) → AreInOrder size least es → IsEntriesTextDownTo size es k x → now ≡ x ++ y → ⊥
       deep none k x y i h g = h
       deep (entry v u es) zero x y i (inl h) g = clash v y i.0 (g ∙ ap (λ z. z ++ y) h)
       deep (entry v u es) zero x y i (inr h) g = clash v ((tree_text size u ++ h.0) ++ y) i.0 (g ∙ ap (λ z. z ++ y) h.1.0)
@@ -229,7 +229,7 @@ module _ (size : Size) (some : 1 ≤ size.columns) where
           up (inr x) = inr (omega (arith, x))
 
       -- nor is a turn too deep
-      deep : (es : Entries) (x y : List ℕ) → AreInOrder size least es → EndsInEntries size es (suc e) x → now ≡ x ++ y → ⊥
+      deep : (es : Entries) (x y : List ℕ) → AreInOrder size least es → IsEntriesTextDownTo size es (suc e) x → now ≡ x ++ y → ⊥
       deep none x y i k g = k
       deep (entry v u es) x y i (inl k) g =
           h.1 (record {

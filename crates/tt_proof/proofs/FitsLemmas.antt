@@ -11,7 +11,7 @@ use Rattle.tt_game.specs.declared.turns.Turn.{Turn}
 use Rattle.tt_game.specs.declared.turns.Turn.TheVariants.{Play, Pass}
 use Rattle.tt_proof.specs.Strategy.{Strategy, Entries, done, pick, reply, none, entry}
 use Rattle.tt_proof.specs.Wins.{Wins, WinsBehind}
-use Rattle.tt_proof.specs.Footprints.{IsNeeded, IsNeededBehind, IsAvoided, IsAvoidedBehind, IsRepeated, Fits, longer, Makes}
+use Rattle.tt_proof.specs.Footprints.{IsNeeded, IsNeededBehind, IsAvoided, IsAvoidedBehind, IsRepeated, Fits, path_after_turn, MakesColouring}
 use Rattle.tt_game.specs.laws.Members.{in_of_contains}
 
 -- the history is h and the path, as sets
@@ -59,7 +59,7 @@ module _ (side : Side) (f : Frame) (h k : List Colouring) where
   same_winner path a b r = ap (λ x. winner_on f x b.passes) r.present ∙ ap (λ n. winner_on f a.present n) r.passes
 
   pub carried_after : (path : List Colouring) (a b : State) (t : Turn) → Carried h k path a b →
-      Carried h k (longer f a t path) (after f a t) (after f b t)
+      Carried h k (path_after_turn f a t path) (after f a t) (after f b t)
   carried_after path a b Pass r =
       record { present = r.present; to_move = ap opponent r.to_move; passes = ap (λ n. n + 1) r.passes; before = r.before; now = r.now }
   carried_after path a b (Play p) r =
@@ -73,7 +73,7 @@ module _ (side : Side) (f : Frame) (h k : List Colouring) where
 
   -- a turn of the side stays legal where the other history has not the colouring that it makes
   pub legal_now : (path : List Colouring) (a b : State) (t : Turn) → Carried h k path a b → IsLegal f a t →
-      ((c : Colouring) → Makes f a t c → Contains k c → ⊥) → IsLegal f b t
+      ((c : Colouring) → MakesColouring f a t c → Contains k c → ⊥) → IsLegal f b t
   legal_now path a b Pass r l n = same_winner path a b r ∙ l
   legal_now path a b (Play p) r l n = (
     same_winner path a b r ∙ l.0,
@@ -113,7 +113,7 @@ module _ (side : Side) (f : Frame) (h k : List Colouring) where
       same_winner path a b r ∙ w.0,
       r.to_move ∙ w.1,
       legal_now path a b t r w.2 (λ c m. v c (w.2, inl m)),
-      moved u (longer f a t path) (after f a t) (after f b t) (carried_after path a b t r) w.3 (λ c m. n c (w.2, m)) (λ c m. v c (w.2, inr m)),
+      moved u (path_after_turn f a t path) (after f a t) (after f b t) (carried_after path a b t r) w.3 (λ c m. n c (w.2, m)) (λ c m. v c (w.2, inr m)),
     )
     moved (reply es) path a b r w n v = (
       same_winner path a b r ∙ w.0,
@@ -131,7 +131,7 @@ module _ (side : Side) (f : Frame) (h k : List Colouring) where
         inl (
           w.0,
           subst (λ x. Wins side f u (after f b x)) w.0
-              (moved u (longer f a t' path) (after f a t') (after f b t') (carried_after path a b t' r)
+              (moved u (path_after_turn f a t' path) (after f a t') (after f b t') (carried_after path a b t' r)
               (subst (λ x. Wins side f u (after f a x)) (sym w.0) w.1) (λ c m. n c (inl (l', m))) (λ c m. v c (inl (l', m)))),
         )
     moved_behind (entry t' u es) t path a b r l (inr w) n v =

@@ -11,11 +11,11 @@ use Rattle.tt_game.specs.declared.turns.Turn.{Turn}
 use Rattle.tt_game.specs.declared.turns.Turn.TheVariants.{Play, Pass}
 use Rattle.tt_proof.specs.declared.footprints.Footprint.{Footprint}
 use Rattle.tt_proof.specs.Strategy.{Strategy, done, pick, reply, none, entries_of}
-use Rattle.tt_proof.specs.Footprints.{IsNeeded, IsNeededBehind, IsAvoided, IsAvoidedBehind, IsMet, IsMetBehind, Makes, IsRepeated, longer}
-use Rattle.tt_proof.specs.KeptFootprints.{IsFootprint, IsEntryJoined, AreSized, frame_board}
+use Rattle.tt_proof.specs.Footprints.{IsNeeded, IsNeededBehind, IsAvoided, IsAvoidedBehind, IsMet, IsMetBehind, MakesColouring, IsRepeated, path_after_turn}
+use Rattle.tt_proof.specs.KeptFootprints.{IsFootprint, IsEntryJoined, HaveFrameSize, board_of_colouring}
 use Rattle.tt_proof.specs.inside.Collecting.{IsPassedUp, IsPlayed, IsPicked, IsMadeWithin}
-use Rattle.tt_proof.specs.declared.bounds.Bound.{Bound}
-use Rattle.tt_proof.specs.Bounds.{IsWithin, IsWider}
+use Rattle.tt_proof.specs.declared.board_bounds.BoardBound.{BoardBound}
+use Rattle.tt_proof.specs.BoardBounds.{IsWithin, IsWider}
 use Rattle.tt_proof.proofs.NeedLemmas.{needed_less, needed_more}
 use Rattle.tt_game.specs.laws.Members.{in_of_contains}
 
@@ -33,10 +33,10 @@ none_held bs b e m = in_of_contains [] b (subst (λ xs. Contains xs b) e m)
 
 -- what a child needs in its parent's history is what it needs in its own, less the board that a play made
 pub given : (f : Frame) (s : State) (t : Turn) (u : Strategy) (x : Footprint) → IsFootprint f (after f s t) u x → (c : Colouring) →
-    IsPassedUp t (frame_board f (after f s t).present) x.needs (frame_board f c) ↔ IsNeeded f (history s) u (longer f s t []) (after f s t) c
+    IsPassedUp t (board_of_colouring f (after f s t).present) x.needs (board_of_colouring f c) ↔ IsNeeded f (history s) u (path_after_turn f s t []) (after f s t) c
 given f s Pass u x foot c = foot.needed c
 given f s (Play p) u x foot c = (
-  λ g. needed_more f (history s) (made f s p) u [] (after f s (Play p)) c ((foot.needed c).0 g.0) (λ e. g.1 (ap (frame_board f) e)),
+  λ g. needed_more f (history s) (made f s p) u [] (after f s (Play p)) c ((foot.needed c).0 g.0) (λ e. g.1 (ap (board_of_colouring f) e)),
   λ w. let r = needed_less f (history s) (made f s p) u [] (after f s (Play p)) c w in
       ((foot.needed c).1 r.0, λ e. r.1 (ap (λ (b : Position). b.points) e)),
 )
@@ -49,40 +49,40 @@ given_held (Play p) board needs b g = g.0
 -- ---- a pick
 
 -- the board that a play made is of the frame's size
-played_sized : (f : Frame) (c : Colouring) (t : Turn) (b : Position) → IsPlayed t (frame_board f c) b → b.size ≡ f.size
+played_sized : (f : Frame) (c : Colouring) (t : Turn) (b : Position) → IsPlayed t (board_of_colouring f c) b → b.size ≡ f.size
 played_sized f c Pass b w = absurd w
 played_sized f c (Play p) b e = ap (λ (w : Position). w.size) e
 
 -- it is the one with the colouring that the turn makes
-played_made : (f : Frame) (s : State) (t : Turn) (c : Colouring) → IsPlayed t (frame_board f (after f s t).present) (frame_board f c) ↔ Makes f s t c
+played_made : (f : Frame) (s : State) (t : Turn) (c : Colouring) → IsPlayed t (board_of_colouring f (after f s t).present) (board_of_colouring f c) ↔ MakesColouring f s t c
 played_made f s Pass c = (λ w. w, λ w. w)
-played_made f s (Play p) c = (λ e. sym (ap (λ (w : Position). w.points) e), λ e. ap (frame_board f) (sym e))
+played_made f s (Play p) c = (λ e. sym (ap (λ (w : Position). w.points) e), λ e. ap (board_of_colouring f) (sym e))
 
 -- the footprint of a pick, from that of the strategy behind its turn
 pub foot_pick : (f : Frame) (s : State) (t : Turn) (u : Strategy) (x y : Footprint) → IsLegal f s t → IsFootprint f (after f s t) u x →
-    IsPicked t (frame_board f (after f s t).present) x y → IsFootprint f s (pick t u) y
+    IsPicked t (board_of_colouring f (after f s t).present) x y → IsFootprint f s (pick t u) y
 foot_pick f s t u x y l foot h = record {
   needs_sized = λ b m. foot.needs_sized b (given_held t _ _ b ((h.needed b).0 m));
   avoids_sized = λ b m. sized b ((h.avoided b).0 m);
   needed = λ c. (
-    λ m. (l, (given f s t u x foot c).0 ((h.needed (frame_board f c)).0 m)),
-    λ w. (h.needed (frame_board f c)).1 ((given f s t u x foot c).1 w.1),
+    λ m. (l, (given f s t u x foot c).0 ((h.needed (board_of_colouring f c)).0 m)),
+    λ w. (h.needed (board_of_colouring f c)).1 ((given f s t u x foot c).1 w.1),
   );
-  avoided = λ c. (λ m. (l, up c ((h.avoided (frame_board f c)).0 m)), λ w. (h.avoided (frame_board f c)).1 (down c w.1));
-  met = λ c m. subst (λ x'. IsWithin x' (frame_board f c)) (sym h.met) (foot.met c m.1);
+  avoided = λ c. (λ m. (l, up c ((h.avoided (board_of_colouring f c)).0 m)), λ w. (h.avoided (board_of_colouring f c)).1 (down c w.1));
+  met = λ c m. subst (λ x'. IsWithin x' (board_of_colouring f c)) (sym h.met) (foot.met c m.1);
 }
   where
-    sized : (b : Position) → IsPlayed t (frame_board f (after f s t).present) b ⊎ Contains x.avoids b → b.size ≡ f.size
+    sized : (b : Position) → IsPlayed t (board_of_colouring f (after f s t).present) b ⊎ Contains x.avoids b → b.size ≡ f.size
     sized b (inl e) = played_sized f (after f s t).present t b e
     sized b (inr m) = foot.avoids_sized b m
 
-    up : (c : Colouring) → IsPlayed t (frame_board f (after f s t).present) (frame_board f c) ⊎ Contains x.avoids (frame_board f c) →
-        Makes f s t c ⊎ IsAvoided f u (after f s t) c
+    up : (c : Colouring) → IsPlayed t (board_of_colouring f (after f s t).present) (board_of_colouring f c) ⊎ Contains x.avoids (board_of_colouring f c) →
+        MakesColouring f s t c ⊎ IsAvoided f u (after f s t) c
     up c (inl e) = inl ((played_made f s t c).0 e)
     up c (inr m) = inr ((foot.avoided c).0 m)
 
-    down : (c : Colouring) → Makes f s t c ⊎ IsAvoided f u (after f s t) c →
-        IsPlayed t (frame_board f (after f s t).present) (frame_board f c) ⊎ Contains x.avoids (frame_board f c)
+    down : (c : Colouring) → MakesColouring f s t c ⊎ IsAvoided f u (after f s t) c →
+        IsPlayed t (board_of_colouring f (after f s t).present) (board_of_colouring f c) ⊎ Contains x.avoids (board_of_colouring f c)
     down c (inl e) = inl ((played_made f s t c).1 e)
     down c (inr w) = inr ((foot.avoided c).1 w)
 
@@ -132,11 +132,11 @@ module _ (f : Frame) (s : State) (t : Turn) (u : Strategy) (c : Colouring) where
   -- what entries need with one more behind them
   needed_push : (h : List Colouring) (es : List (Turn × Strategy)) →
       IsNeededBehind f h (entries_of (es ++ (t, u) ∷ [])) [] s c
-      ↔ (IsNeededBehind f h (entries_of es) [] s c ⊎ (IsLegal f s t × IsNeeded f h u (longer f s t []) (after f s t) c))
-  needed_push h [] = last_one (IsLegal f s t × IsNeeded f h u (longer f s t []) (after f s t) c)
+      ↔ (IsNeededBehind f h (entries_of es) [] s c ⊎ (IsLegal f s t × IsNeeded f h u (path_after_turn f s t []) (after f s t) c))
+  needed_push h [] = last_one (IsLegal f s t × IsNeeded f h u (path_after_turn f s t []) (after f s t) c)
   needed_push h (e ∷ es) =
-      regroup (IsLegal f s e.0 × IsNeeded f h e.1 (longer f s e.0 []) (after f s e.0) c) (IsNeededBehind f h (entries_of es) [] s c)
-      (IsLegal f s t × IsNeeded f h u (longer f s t []) (after f s t) c) (IsNeededBehind f h (entries_of (es ++ (t, u) ∷ [])) [] s c)
+      regroup (IsLegal f s e.0 × IsNeeded f h e.1 (path_after_turn f s e.0 []) (after f s e.0) c) (IsNeededBehind f h (entries_of es) [] s c)
+      (IsLegal f s t × IsNeeded f h u (path_after_turn f s t []) (after f s t) c) (IsNeededBehind f h (entries_of (es ++ (t, u) ∷ [])) [] s c)
       (needed_push h es)
 
   -- what they avoid
@@ -152,11 +152,11 @@ module _ (f : Frame) (s : State) (t : Turn) (u : Strategy) (c : Colouring) where
   -- what they meet
   met_push : (es : List (Turn × Strategy)) →
       IsMetBehind f (entries_of (es ++ (t, u) ∷ [])) s c
-      ↔ (IsMetBehind f (entries_of es) s c ⊎ (IsLegal f s t × (Makes f s t c ⊎ IsMet f u (after f s t) c)))
-  met_push [] = last_one (IsLegal f s t × (Makes f s t c ⊎ IsMet f u (after f s t) c))
+      ↔ (IsMetBehind f (entries_of es) s c ⊎ (IsLegal f s t × (MakesColouring f s t c ⊎ IsMet f u (after f s t) c)))
+  met_push [] = last_one (IsLegal f s t × (MakesColouring f s t c ⊎ IsMet f u (after f s t) c))
   met_push (e ∷ es) =
-      regroup (IsLegal f s e.0 × (Makes f s e.0 c ⊎ IsMet f e.1 (after f s e.0) c)) (IsMetBehind f (entries_of es) s c)
-      (IsLegal f s t × (Makes f s t c ⊎ IsMet f u (after f s t) c)) (IsMetBehind f (entries_of (es ++ (t, u) ∷ [])) s c)
+      regroup (IsLegal f s e.0 × (MakesColouring f s e.0 c ⊎ IsMet f e.1 (after f s e.0) c)) (IsMetBehind f (entries_of es) s c)
+      (IsLegal f s t × (MakesColouring f s t c ⊎ IsMet f u (after f s t) c)) (IsMetBehind f (entries_of (es ++ (t, u) ∷ [])) s c)
       (met_push es)
 
 -- one list holds what another does and what more there is
@@ -184,20 +184,20 @@ otherwise A B X Y h e = (λ b. to (h.0 b), λ w. h.1 (from w))
     from (inr y) = inr (e.1 y)
 
 -- what the turn makes lies within a bound of it
-made_within : (f : Frame) (s : State) (t : Turn) (x : Option Bound) (c : Colouring) → IsMadeWithin t (frame_board f (after f s t).present) x → Makes f s t c →
-    IsWithin x (frame_board f c)
+made_within : (f : Frame) (s : State) (t : Turn) (x : Option BoardBound) (c : Colouring) → IsMadeWithin t (board_of_colouring f (after f s t).present) x → MakesColouring f s t c →
+    IsWithin x (board_of_colouring f c)
 made_within f s Pass x c r m = absurd m
-made_within f s (Play p) x c r m = subst (λ d. IsWithin x (frame_board f d)) m r
+made_within f s (Play p) x c r m = subst (λ d. IsWithin x (board_of_colouring f d)) m r
 
 -- a bound of a reply with one more entry
-pub record IsWidened (f : Frame) (s : State) (t : Turn) (behind old new : Option Bound) : Type 0 where
+pub record IsWidened (f : Frame) (s : State) (t : Turn) (behind old new : Option BoardBound) : Type 0 where
   pub before : IsWider new old
   pub below : IsWider new behind
-  pub made : IsMadeWithin t (frame_board f (after f s t).present) new
+  pub made : IsMadeWithin t (board_of_colouring f (after f s t).present) new
 
 -- the footprint of a reply with one more entry, whose turn is legal
 pub foot_entry : (f : Frame) (s : State) (t : Turn) (u : Strategy) (x old new : Footprint) → IsLegal f s t → IsFootprint f (after f s t) u x →
-    ((b : Position) → Contains new.needs b ↔ (Contains old.needs b ⊎ IsPassedUp t (frame_board f (after f s t).present) x.needs b)) →
+    ((b : Position) → Contains new.needs b ↔ (Contains old.needs b ⊎ IsPassedUp t (board_of_colouring f (after f s t).present) x.needs b)) →
     ((b : Position) → Contains new.avoids b ↔ (Contains old.avoids b ⊎ Contains x.avoids b)) →
     IsWidened f s t x.met old.met new.met → IsEntryJoined f s t u old new
 foot_entry f s t u x old new l foot n a wide es before = record {
@@ -205,29 +205,29 @@ foot_entry f s t u x old new l foot n a wide es before = record {
   avoids_sized = λ b m. elim ((a b).0 m) [ inl w ↦ before.avoids_sized b w | inr g ↦ foot.avoids_sized b g ];
   needed = λ c. all c (needed_push f s t u c (history s) es);
   avoided = λ c.
-      joined (Contains old.avoids (frame_board f c)) (Contains new.avoids (frame_board f c))
+      joined (Contains old.avoids (board_of_colouring f c)) (Contains new.avoids (board_of_colouring f c))
       (IsLegal f s t × IsAvoided f u (after f s t) c) (IsAvoidedBehind f (entries_of es) s c)
       (IsAvoidedBehind f (entries_of (es ++ (t, u) ∷ [])) s c)
-      (otherwise _ _ _ _ (a (frame_board f c)) (λ m. (l, (foot.avoided c).0 m), λ w. (foot.avoided c).1 w.1)) (before.avoided c) (avoided_push f s t u c es);
+      (otherwise _ _ _ _ (a (board_of_colouring f c)) (λ m. (l, (foot.avoided c).0 m), λ w. (foot.avoided c).1 w.1)) (before.avoided c) (avoided_push f s t u c es);
   met = λ c m. met c ((met_push f s t u c es).0 m);
 }
   where
     all : (c : Colouring)
         → (IsNeededBehind f (history s) (entries_of (es ++ (t, u) ∷ [])) [] s c
-        ↔ (IsNeededBehind f (history s) (entries_of es) [] s c ⊎ (IsLegal f s t × IsNeeded f (history s) u (longer f s t []) (after f s t) c)))
-        → Contains new.needs (frame_board f c) ↔ IsNeeded f (history s) (reply (entries_of (es ++ (t, u) ∷ []))) [] s c
+        ↔ (IsNeededBehind f (history s) (entries_of es) [] s c ⊎ (IsLegal f s t × IsNeeded f (history s) u (path_after_turn f s t []) (after f s t) c)))
+        → Contains new.needs (board_of_colouring f c) ↔ IsNeeded f (history s) (reply (entries_of (es ++ (t, u) ∷ []))) [] s c
     all c push =
-        joined (Contains old.needs (frame_board f c)) (Contains new.needs (frame_board f c))
-        (IsLegal f s t × IsNeeded f (history s) u (longer f s t []) (after f s t) c)
+        joined (Contains old.needs (board_of_colouring f c)) (Contains new.needs (board_of_colouring f c))
+        (IsLegal f s t × IsNeeded f (history s) u (path_after_turn f s t []) (after f s t) c)
         (IsNeeded f (history s) (reply (entries_of es)) [] s c) (IsNeeded f (history s) (reply (entries_of (es ++ (t, u) ∷ []))) [] s c)
-        (otherwise _ _ _ _ (n (frame_board f c)) (λ g. (l, (given f s t u x foot c).0 g), λ w. (given f s t u x foot c).1 w.1))
+        (otherwise _ _ _ _ (n (board_of_colouring f c)) (λ g. (l, (given f s t u x foot c).0 g), λ w. (given f s t u x foot c).1 w.1))
         (before.needed c) (regroup (IsRepeated f (history s) [] s c) _ _ _ push)
 
-    met : (c : Colouring) → IsMetBehind f (entries_of es) s c ⊎ (IsLegal f s t × (Makes f s t c ⊎ IsMet f u (after f s t) c)) →
-        IsWithin new.met (frame_board f c)
-    met c (inl m) = wide.before (frame_board f c) (before.met c m)
+    met : (c : Colouring) → IsMetBehind f (entries_of es) s c ⊎ (IsLegal f s t × (MakesColouring f s t c ⊎ IsMet f u (after f s t) c)) →
+        IsWithin new.met (board_of_colouring f c)
+    met c (inl m) = wide.before (board_of_colouring f c) (before.met c m)
     met c (inr (w, inl m)) = made_within f s t new.met c wide.made m
-    met c (inr (w, inr m)) = wide.below (frame_board f c) (foot.met c m)
+    met c (inr (w, inr m)) = wide.below (board_of_colouring f c) (foot.met c m)
 
 -- an entry of a turn that is not legal adds nothing
 pub foot_no_entry : (f : Frame) (s : State) (t : Turn) (u : Strategy) (x : Footprint) → (IsLegal f s t → ⊥) → IsEntryJoined f s t u x x
@@ -235,12 +235,12 @@ foot_no_entry f s t u x bars es before = record {
   needs_sized = before.needs_sized;
   avoids_sized = before.avoids_sized;
   needed = λ c.
-      joined _ _ (IsLegal f s t × IsNeeded f (history s) u (longer f s t []) (after f s t) c) _ _
-      (same (Contains x.needs (frame_board f c)) _ (λ w. bars w.0)) (before.needed c)
+      joined _ _ (IsLegal f s t × IsNeeded f (history s) u (path_after_turn f s t []) (after f s t) c) _ _
+      (same (Contains x.needs (board_of_colouring f c)) _ (λ w. bars w.0)) (before.needed c)
       (regroup (IsRepeated f (history s) [] s c) _ _ _ (needed_push f s t u c (history s) es));
   avoided = λ c.
       joined _ _ (IsLegal f s t × IsAvoided f u (after f s t) c) _ _
-      (same (Contains x.avoids (frame_board f c)) _ (λ w. bars w.0)) (before.avoided c) (avoided_push f s t u c es);
+      (same (Contains x.avoids (board_of_colouring f c)) _ (λ w. bars w.0)) (before.avoided c) (avoided_push f s t u c es);
   met = λ c m. elim ((met_push f s t u c es).0 m) [ inl w ↦ before.met c w | inr w ↦ absurd (bars w.0) ];
 }
   where
@@ -252,13 +252,13 @@ foot_no_entry f s t u x bars es before = record {
         from (inr w) = absurd (n w)
 
 -- the footprint of a reply without entries
-pub foot_plays : (f : Frame) (s : State) (x : Footprint) → AreSized f x.needs →
-    ((c : Colouring) → Contains x.needs (frame_board f c) ↔ IsRepeated f (history s) [] s c) → x.avoids ≡ [] → IsFootprint f s (reply none) x
+pub foot_plays : (f : Frame) (s : State) (x : Footprint) → HaveFrameSize f x.needs →
+    ((c : Colouring) → Contains x.needs (board_of_colouring f c) ↔ IsRepeated f (history s) [] s c) → x.avoids ≡ [] → IsFootprint f s (reply none) x
 foot_plays f s x sized n e = record {
   needs_sized = sized;
   avoids_sized = λ b m. absurd (none_held x.avoids b e m);
   needed = λ c. (λ m. inl ((n c).0 m), λ w. (n c).1 (first c w));
-  avoided = λ c. (λ m. none_held x.avoids (frame_board f c) e m, λ w. absurd w);
+  avoided = λ c. (λ m. none_held x.avoids (board_of_colouring f c) e m, λ w. absurd w);
   met = λ c m. absurd m;
 }
   where
@@ -271,8 +271,8 @@ pub foot_done : (f : Frame) (s : State) (x : Footprint) → x.needs ≡ [] → x
 foot_done f s x n a = record {
   needs_sized = λ b m. absurd (none_held x.needs b n m);
   avoids_sized = λ b m. absurd (none_held x.avoids b a m);
-  needed = λ c. (λ m. none_held x.needs (frame_board f c) n m, λ w. absurd w);
-  avoided = λ c. (λ m. none_held x.avoids (frame_board f c) a m, λ w. absurd w);
+  needed = λ c. (λ m. none_held x.needs (board_of_colouring f c) n m, λ w. absurd w);
+  avoided = λ c. (λ m. none_held x.avoids (board_of_colouring f c) a m, λ w. absurd w);
   met = λ c m. absurd m;
 }
 

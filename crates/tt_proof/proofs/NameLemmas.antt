@@ -6,7 +6,7 @@ use Rattle.std.proofs.lemmas.List.{length-append}
 use Rattle.std.proofs.lemmas.Str.{digit_value_digit}
 use Rattle.std.proofs.lemmas.Str.Parse.{tells_digits, numerals_by_value}
 use Rattle.std.specs.Str.Parse.{AllDigits, digits_value}
-use Rattle.tt_proof.specs.inside.OutlineReading.{NoDigit, DigitsAt}
+use Rattle.tt_proof.specs.inside.OutlineReading.{HasNoDigitInFront, DigitsAt}
 use Rattle.tt_proof.proofs.TextLemmas.{heads, tails}
 
 -- ---- digits
@@ -22,15 +22,15 @@ digits_in : (bs : List ℕ) → AllDigits 10 bs → Digits bs
 digits_in [] d = tt
 digits_in (b ∷ bs) d = let k = tells_digits.parts b bs d in ((k.0.0, k.0.1), digits_in bs k.1)
 
-digits_apart : (ds es y z : List ℕ) → Digits ds → Digits es → NoDigit y → NoDigit z → ds ++ y ≡ es ++ z → (ds ≡ es) × (y ≡ z)
+digits_apart : (ds es y z : List ℕ) → Digits ds → Digits es → HasNoDigitInFront y → HasNoDigitInFront z → ds ++ y ≡ es ++ z → (ds ≡ es) × (y ≡ z)
 digits_apart [] [] y z d e ny nz h = (refl, h)
-digits_apart [] (b ∷ es) y z d e ny nz h = let n = subst NoDigit h ny in absurd (n e.0)
-digits_apart (a ∷ ds) [] y z d e ny nz h = let n = subst NoDigit (sym h) nz in absurd (n d.0)
+digits_apart [] (b ∷ es) y z d e ny nz h = let n = subst HasNoDigitInFront h ny in absurd (n e.0)
+digits_apart (a ∷ ds) [] y z d e ny nz h = let n = subst HasNoDigitInFront (sym h) nz in absurd (n d.0)
 digits_apart (a ∷ ds) (b ∷ es) y z d e ny nz h =
     let r = digits_apart ds es y z d.1 e.1 ny nz (tails h) in
     (ap (λ x. x ∷ ds) (heads h) ∙ ap (λ xs. b ∷ xs) r.0, r.1)
 
-pub same_number : (k m : ℕ) (y z : List ℕ) → k < 2 ^ 64 → m < 2 ^ 64 → NoDigit y → NoDigit z → decimal k ++ y ≡ decimal m ++ z → (k ≡ m) × (y ≡ z)
+pub same_number : (k m : ℕ) (y z : List ℕ) → k < 2 ^ 64 → m < 2 ^ 64 → HasNoDigitInFront y → HasNoDigitInFront z → decimal k ++ y ≡ decimal m ++ z → (k ≡ m) × (y ≡ z)
 same_number k m y z low low' ny nz h =
     let a = decimal_is_IsNumeral k low in
     let b = decimal_is_IsNumeral m low' in
@@ -62,7 +62,7 @@ counted_more n m b bytes now rest w e k is = record {
   text = w.text ∙ ap (λ x. w.digits ++ x) e ∙ sym (append_assoc w.digits (b ∷ []) rest);
 }
 
-pub counted_end : (n : ℕ) (bytes now : List ℕ) → Counted n bytes now → NoDigit now → DigitsAt n bytes now
+pub counted_end : (n : ℕ) (bytes now : List ℕ) → Counted n bytes now → HasNoDigitInFront now → DigitsAt n bytes now
 counted_end n bytes now w e = record { digits = w.digits; all = w.all; value = w.value; text = w.text; ends = e }
 
 module _ (n : ℕ) (bytes rest : List ℕ) (w : DigitsAt n bytes rest) where
@@ -70,17 +70,17 @@ module _ (n : ℕ) (bytes rest : List ℕ) (w : DigitsAt n bytes rest) where
   lengths = ap length w.text ∙ length-append w.digits rest
 
   -- where a name stands, the digits are its text
-  are_name : (k : ℕ) (y : List ℕ) → k < 1000000000 → NoDigit y → bytes ≡ decimal k ++ y → w.digits ≡ decimal k
+  are_name : (k : ℕ) (y : List ℕ) → k < 1000000000 → HasNoDigitInFront y → bytes ≡ decimal k ++ y → w.digits ≡ decimal k
   are_name k y low none e =
       (digits_apart w.digits (decimal k) rest y (digits_in w.digits w.all)
       (digits_in (decimal k) (decimal_is_IsNumeral k (omega (arith, low))).0.1) w.ends none (sym w.text ∙ e)).0
 
   -- no name stands where no digit does, where the number is too great, or where more follows a first 0
-  pub no_name_empty : length bytes - length rest ≡ 0 → (k : ℕ) (y : List ℕ) → k < 1000000000 → NoDigit y → bytes ≡ decimal k ++ y → ⊥
+  pub no_name_empty : length bytes - length rest ≡ 0 → (k : ℕ) (y : List ℕ) → k < 1000000000 → HasNoDigitInFront y → bytes ≡ decimal k ++ y → ⊥
   no_name_empty z k y low none e =
       omega (arith, z, lengths, ap length (are_name k y low none e), decimal_nonempty k (omega (arith, low)))
 
-  pub no_name_great : 999999999 < n → (k : ℕ) (y : List ℕ) → k < 1000000000 → NoDigit y → bytes ≡ decimal k ++ y → ⊥
+  pub no_name_great : 999999999 < n → (k : ℕ) (y : List ℕ) → k < 1000000000 → HasNoDigitInFront y → bytes ≡ decimal k ++ y → ⊥
   no_name_great great k y low none e =
       omega (arith, great, low, w.value, ap (digits_value 10) (are_name k y low none e), (decimal_is_IsNumeral k (omega (arith, low))).1)
 
@@ -91,7 +91,7 @@ module _ (n : ℕ) (bytes rest : List ℕ) (w : DigitsAt n bytes rest) where
       first [] some e = absurd (omega (arith, some))
       first (d ∷ ds) some e = ap (λ x. get_or x 0 0) e
 
-  pub no_name_zero : 1 < length bytes - length rest → get_or bytes 0 0 ≡ 48 → (k : ℕ) (y : List ℕ) → k < 1000000000 → NoDigit y
+  pub no_name_zero : 1 < length bytes - length rest → get_or bytes 0 0 ≡ 48 → (k : ℕ) (y : List ℕ) → k < 1000000000 → HasNoDigitInFront y
       → bytes ≡ decimal k ++ y → ⊥
   no_name_zero long zero_first k y low none e = go k low (are_name k y low none e)
     where

@@ -7,7 +7,7 @@ use Rattle.tt_game.specs.declared.frame.Frame.{Frame}
 use Rattle.tt_game.specs.declared.turns.Turn.{Turn}
 use Rattle.tt_game.specs.declared.turns.Turn.TheVariants.{Play, Pass}
 use Rattle.tt_proof.specs.Strategy.{Strategy, Entries, done, pick, reply, none, entry}
-use Rattle.tt_proof.specs.Footprints.{IsNeeded, IsNeededBehind, IsRepeated, longer}
+use Rattle.tt_proof.specs.Footprints.{IsNeeded, IsNeededBehind, IsRepeated, path_after_turn}
 use Rattle.tt_game.specs.laws.Members.{IsIn, in_of_contains, contains_of_in}
 
 not_last : (xs : List Colouring) (c x : Colouring) → x ≢ c → Contains (xs ++ c ∷ []) x → Contains xs x
@@ -29,7 +29,7 @@ not_first xs c x n m = pass (in_of_contains (c ∷ xs) x m)
     pass (inr w) = contains_of_in xs x w
 
 module _ (f : Frame) (h : List Colouring) (c : Colouring) where
-  longer_first : (a : State) (t : Turn) (path : List Colouring) → longer f a t (c ∷ path) ≡ c ∷ longer f a t path
+  longer_first : (a : State) (t : Turn) (path : List Colouring) → path_after_turn f a t (c ∷ path) ≡ c ∷ path_after_turn f a t path
   longer_first a (Play p) path = refl
   longer_first a Pass path = refl
 
@@ -53,7 +53,7 @@ module _ (f : Frame) (h : List Colouring) (c : Colouring) where
         IsNeeded f (h ++ c ∷ []) u path a x × (x ≢ c)
     needed_less done path a x m = absurd m
     needed_less (pick t u) path a x m =
-        let w = needed_less u (longer f a t path) (after f a t) x (subst (λ p. IsNeeded f h u p (after f a t) x) (longer_first a t path) m.1) in
+        let w = needed_less u (path_after_turn f a t path) (after f a t) x (subst (λ p. IsNeeded f h u p (after f a t) x) (longer_first a t path) m.1) in
         ((m.0, w.0), w.1)
     needed_less (reply es) path a x (inl r) = let w = repeated_less path a x r in (inl w.0, w.1)
     needed_less (reply es) path a x (inr m) = let w = needed_behind_less es path a x m in (inr w.0, w.1)
@@ -62,7 +62,7 @@ module _ (f : Frame) (h : List Colouring) (c : Colouring) where
         IsNeededBehind f (h ++ c ∷ []) es path a x × (x ≢ c)
     needed_behind_less none path a x m = absurd m
     needed_behind_less (entry t u es) path a x (inl m) =
-        let w = needed_less u (longer f a t path) (after f a t) x (subst (λ p. IsNeeded f h u p (after f a t) x) (longer_first a t path) m.1) in
+        let w = needed_less u (path_after_turn f a t path) (after f a t) x (subst (λ p. IsNeeded f h u p (after f a t) x) (longer_first a t path) m.1) in
         (inl (m.0, w.0), w.1)
     needed_behind_less (entry t u es) path a x (inr m) = let w = needed_behind_less es path a x m in (inr w.0, w.1)
 
@@ -73,7 +73,7 @@ module _ (f : Frame) (h : List Colouring) (c : Colouring) where
     needed_more done path a x m n = absurd m
     needed_more (pick t u) path a x m n = (
       m.0,
-      subst (λ p. IsNeeded f h u p (after f a t) x) (sym (longer_first a t path)) (needed_more u (longer f a t path) (after f a t) x m.1 n),
+      subst (λ p. IsNeeded f h u p (after f a t) x) (sym (longer_first a t path)) (needed_more u (path_after_turn f a t path) (after f a t) x m.1 n),
     )
     needed_more (reply es) path a x (inl r) n = inl (repeated_more path a x r n)
     needed_more (reply es) path a x (inr m) n = inr (needed_behind_more es path a x m n)
@@ -82,5 +82,5 @@ module _ (f : Frame) (h : List Colouring) (c : Colouring) where
         x ≢ c → IsNeededBehind f h es (c ∷ path) a x
     needed_behind_more none path a x m n = absurd m
     needed_behind_more (entry t u es) path a x (inl m) n =
-        inl (m.0, subst (λ p. IsNeeded f h u p (after f a t) x) (sym (longer_first a t path)) (needed_more u (longer f a t path) (after f a t) x m.1 n))
+        inl (m.0, subst (λ p. IsNeeded f h u p (after f a t) x) (sym (longer_first a t path)) (needed_more u (path_after_turn f a t path) (after f a t) x m.1 n))
     needed_behind_more (entry t u es) path a x (inr m) n = inr (needed_behind_more es path a x m n)

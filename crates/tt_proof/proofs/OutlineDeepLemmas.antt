@@ -4,9 +4,9 @@ use Rattle.tt_sgf.specs.declared.size.Size.{Size}
 use Rattle.tt_game.specs.declared.turns.Turn.{Turn}
 use Rattle.tt_proof.specs.Strategy.{Strategy, done, depth, depth_of_entries, IsOnBoard, number_on}
 use Rattle.tt_proof.specs.CertificateText.{pick_symbol, replies_symbol, turn_text}
-use Rattle.tt_proof.specs.Outlines.{Outline, Branches, ended, picked, replied, part, no_branch, branch, unfolded, entries_with, names_behind}
-use Rattle.tt_proof.specs.Outlines.{name_text, part_symbol, outline_text, branches_text, RefersBack, BranchesReferBack, IsOrderly, AreOrderly, GoesDeep, GoDeep}
-use Rattle.tt_proof.specs.inside.OutlineReading.{NoDigit, EndsBefore, OutlineAt, BranchesAt, OutlineDeepAt, BranchesDeepAt}
+use Rattle.tt_proof.specs.Outlines.{Outline, Branches, ended, picked, replied, part, no_branch, branch, unfolded, unfolded_entries, named_trees_after}
+use Rattle.tt_proof.specs.Outlines.{name_text, part_symbol, outline_text, branches_text, RefersBack, BranchesReferBack, IsOrderly, AreOrderly, OutlineGoesDeep, BranchesGoDeep}
+use Rattle.tt_proof.specs.inside.OutlineReading.{HasNoDigitInFront, EndsBefore, OutlineAt, BranchesAt, OutlineDeepAt, BranchesDeepAt}
 use Rattle.tt_proof.proofs.TextLemmas.{heads, tails, same_turn, turn_not_end}
 use Rattle.tt_proof.proofs.NameLemmas.{same_number}
 use Rattle.tt_proof.proofs.OutlineLawLemmas.{ends_before, no_digit_behind, same_outline}
@@ -17,7 +17,7 @@ module _ (size : Size) where
     pub name : ℕ
     pub back : name < length us
     pub small : name < 1000000000
-    pub none : NoDigit y
+    pub none : HasNoDigitInFront y
     pub text : r ≡ decimal name ++ y
     pub deep : depth (get_or us name done) ≡ d
 
@@ -93,9 +93,9 @@ module _ (size : Size) where
     pub branches : Branches
     pub rises : least ≤ number_on size t
     pub inside : OutlineAt size us outline (depth (unfolded us outline)) mid (branches_text size branches ++ y)
-    pub closed : BranchesReferBack (names_behind us outline) branches
+    pub closed : BranchesReferBack (named_trees_after us outline) branches
     pub orderly : AreOrderly size (number_on size t + 1) branches
-    pub deep : d ≡ max (depth (unfolded us outline) + 1) (depth_of_entries (entries_with (names_behind us outline) branches))
+    pub deep : d ≡ max (depth (unfolded us outline) + 1) (depth_of_entries (unfolded_entries (named_trees_after us outline) branches))
 
   pub branch_behind : (us : List Strategy) (least d : ℕ) (t : Turn) (now mid y : List ℕ) (bs : Branches) → now ≡ turn_text size t ++ mid
       → BranchesAt size us least bs d now y → BranchBehind us least d t mid y
@@ -122,18 +122,18 @@ module _ (size : Size) where
   -- ---- one that goes deeper
 
   -- a turn stands in front of branches that go deeper
-  pub deep_no_digit : (us : List Strategy) (left : ℕ) (cs : Branches) (r : List ℕ) → GoDeep size us left cs r → NoDigit r
+  pub deep_no_digit : (us : List Strategy) (left : ℕ) (cs : Branches) (r : List ℕ) → BranchesGoDeep size us left cs r → HasNoDigitInFront r
   deep_no_digit us left no_branch r g = absurd g
-  deep_no_digit us zero (branch t o cs) r g = subst NoDigit (sym g.1) (no_digit_behind size size.columns_in.0 (branch t ended no_branch) [])
+  deep_no_digit us zero (branch t o cs) r g = subst HasNoDigitInFront (sym g.1) (no_digit_behind size size.columns_in.0 (branch t ended no_branch) [])
   deep_no_digit us (suc left) (branch t o cs) r (inl g) =
-      subst NoDigit (sym g.1.0) (no_digit_behind size size.columns_in.0 (branch t ended no_branch) [])
+      subst HasNoDigitInFront (sym g.1.0) (no_digit_behind size size.columns_in.0 (branch t ended no_branch) [])
   deep_no_digit us (suc left) (branch t o cs) r (inr g) =
-      subst NoDigit (sym g.1.0) (no_digit_behind size size.columns_in.0 (branch t ended no_branch) [])
+      subst HasNoDigitInFront (sym g.1.0) (no_digit_behind size size.columns_in.0 (branch t ended no_branch) [])
 
   mutual
     -- no outline that isn't deeper has been read whole where one goes deeper
     pub apart : (p o : Outline) (us : List Strategy) (left d : ℕ) (y z : List ℕ) → RefersBack us p → OutlineAt size us o d y z → d ≤ left
-        → GoesDeep size us left p y → ⊥
+        → OutlineGoesDeep size us left p y → ⊥
     apart ended o us left d y z c at low g = g
     apart (picked n t p) o us zero d y z c at low g =
         let w = pick_at n us o d (turn_text size t ++ g.0) z (subst (λ r. OutlineAt size us o d r z) g.1 at) in
@@ -157,7 +157,7 @@ module _ (size : Size) where
         omega (arith, low, found, deep, past)
 
     pub apart_all : (cs bs : Branches) (us : List Strategy) (left least d : ℕ) (y z : List ℕ) → BranchesReferBack us cs → BranchesAt size us least bs d y z → d ≤ left
-        → GoDeep size us left cs y → ⊥
+        → BranchesGoDeep size us left cs y → ⊥
     apart_all no_branch bs us left least d y z c at low g = g
     apart_all (branch t p cs) bs us zero least d y z c at low g =
         let w = branch_behind us least d t y g.0 z bs g.1 at in let deep = w.deep in omega (arith, low, deep)
@@ -168,13 +168,13 @@ module _ (size : Size) where
     apart_all (branch t p cs) bs us (suc left) least d y z c at low (inr g) =
         let w = branch_behind us least d t y (outline_text size p ++ g.0) z bs g.1.0 at in
         let same = same_outline size size.columns_in.0 p w.outline us us g.0 (branches_text size w.branches ++ z) c.0 w.inside.closed
-        (ends_before p g.0 (deep_no_digit (names_behind us p) (suc left) cs g.0 g.1.1)) w.inside.ends w.inside.text in
+        (ends_before p g.0 (deep_no_digit (named_trees_after us p) (suc left) cs g.0 g.1.1)) w.inside.ends w.inside.text in
         let deep = w.deep in
-        apart_all cs w.branches (names_behind us p) (suc left) (number_on size t + 1)
-        (depth_of_entries (entries_with (names_behind us w.outline) w.branches)) g.0 z c.1 (record {
-          closed = subst (λ q. BranchesReferBack (names_behind us q) w.branches) (sym same.0) w.closed;
+        apart_all cs w.branches (named_trees_after us p) (suc left) (number_on size t + 1)
+        (depth_of_entries (unfolded_entries (named_trees_after us w.outline) w.branches)) g.0 z c.1 (record {
+          closed = subst (λ q. BranchesReferBack (named_trees_after us q) w.branches) (sym same.0) w.closed;
           orderly = w.orderly;
-          deep = ap (λ q. depth_of_entries (entries_with (names_behind us q) w.branches)) same.0;
+          deep = ap (λ q. depth_of_entries (unfolded_entries (named_trees_after us q) w.branches)) same.0;
           text = same.1;
         }) (omega (arith, low, deep)) g.1.1
 
@@ -184,10 +184,10 @@ module _ (size : Size) where
     pub behind : List ℕ
     pub back : name < length us
     pub small : name < 1000000000
-    pub none : NoDigit behind
+    pub none : HasNoDigitInFront behind
     pub text : r ≡ decimal name ++ behind
 
-  pub deep_name : (us : List Strategy) (left : ℕ) (p : Outline) (r : List ℕ) → RefersBack us p → GoesDeep size us left p (part_symbol ∷ r) → DeepName us r
+  pub deep_name : (us : List Strategy) (left : ℕ) (p : Outline) (r : List ℕ) → RefersBack us p → OutlineGoesDeep size us left p (part_symbol ∷ r) → DeepName us r
   deep_name us left ended r c g = absurd g
   deep_name us zero (picked true t p) r c g = absurd (omega (arith, heads g.1))
   deep_name us zero (picked false t p) r c g = absurd (omega (arith, heads g.1))
@@ -212,7 +212,7 @@ module _ (size : Size) where
   no_more m e = omega (arith, e)
 
   deep_inside : (us : List Strategy) (left : ℕ) (t : Turn) (p : Outline) (r y : List ℕ) → IsOnBoard size t × IsOrderly size p → RefersBack us p
-      → r ≡ turn_text size t ++ y → GoesDeep size us left p y → DeepPick us (suc left) r
+      → r ≡ turn_text size t ++ y → OutlineGoesDeep size us left p y → DeepPick us (suc left) r
   deep_inside us left t p r y q c e g = record {
     turn = t;
     behind = y;
@@ -225,7 +225,7 @@ module _ (size : Size) where
   deep_there us t r y on e = record { turn = t; behind = y; on = on; text = e; inside = λ m h. absurd (no_more m h) }
 
   pub deep_pick : (n : Bool) (us : List Strategy) (left : ℕ) (p : Outline) (r : List ℕ) → IsOrderly size p → RefersBack us p
-      → GoesDeep size us left p (name_text n ++ (pick_symbol ∷ r)) → DeepPick us left r
+      → OutlineGoesDeep size us left p (name_text n ++ (pick_symbol ∷ r)) → DeepPick us left r
   deep_pick n us left ended r q c g = absurd g
   deep_pick true us zero (picked true t p) r q c g = deep_there us t r g.0 q.0 (tails (tails g.1))
   deep_pick true us zero (picked false t p) r q c g = absurd (omega (arith, heads g.1))
@@ -244,7 +244,7 @@ module _ (size : Size) where
 
   -- a reply that goes deeper
   pub deep_reply : (n : Bool) (us : List Strategy) (left : ℕ) (p : Outline) (r : List ℕ) → IsOrderly size p → RefersBack us p
-      → GoesDeep size us left p (name_text n ++ (replies_symbol ∷ r)) → BranchesDeepAt size us left 0 r
+      → OutlineGoesDeep size us left p (name_text n ++ (replies_symbol ∷ r)) → BranchesDeepAt size us left 0 r
   deep_reply n us left ended r q c g = absurd g
   deep_reply true us zero (picked true t p) r q c g = absurd (omega (arith, heads (tails g.1)))
   deep_reply true us zero (picked false t p) r q c g = absurd (omega (arith, heads g.1))
@@ -255,11 +255,11 @@ module _ (size : Size) where
   deep_reply false us (suc left) (picked true t p) r q c g = absurd (omega (arith, heads g.1.0))
   deep_reply false us (suc left) (picked false t p) r q c g = absurd (omega (arith, heads g.1.0))
   deep_reply true us left (replied true cs) r q c g =
-      record { branches = cs; closed = c; orderly = q; deep = subst (GoDeep size us left cs) (sym (tails (tails g.1.0))) g.1.1 }
+      record { branches = cs; closed = c; orderly = q; deep = subst (BranchesGoDeep size us left cs) (sym (tails (tails g.1.0))) g.1.1 }
   deep_reply true us left (replied false cs) r q c g = absurd (omega (arith, heads g.1.0))
   deep_reply false us left (replied true cs) r q c g = absurd (omega (arith, heads g.1.0))
   deep_reply false us left (replied false cs) r q c g =
-      record { branches = cs; closed = c; orderly = q; deep = subst (GoDeep size us left cs) (sym (tails g.1.0)) g.1.1 }
+      record { branches = cs; closed = c; orderly = q; deep = subst (BranchesGoDeep size us left cs) (sym (tails g.1.0)) g.1.1 }
   deep_reply true us left (part k) r q c g = absurd (omega (arith, heads g.1.0))
   deep_reply false us left (part k) r q c g = absurd (omega (arith, heads g.1.0))
 
@@ -267,7 +267,7 @@ module _ (size : Size) where
   pub record DeepBehind (us : List Strategy) (left least : ℕ) (t : Turn) (mid : List ℕ) : Type 0 where
     pub rises : least ≤ number_on size t
     pub more : (m : ℕ) → left ≡ suc m → OutlineDeepAt size us m mid
-        ⊎ ((p : Outline) × ((y : List ℕ) × (OutlineAt size us p (depth (unfolded us p)) mid y × BranchesDeepAt size (names_behind us p) left (number_on size t + 1) y)))
+        ⊎ ((p : Outline) × ((y : List ℕ) × (OutlineAt size us p (depth (unfolded us p)) mid y × BranchesDeepAt size (named_trees_after us p) left (number_on size t + 1) y)))
 
   pub deep_behind : (us : List Strategy) (left least : ℕ) (t : Turn) (now mid : List ℕ) → now ≡ turn_text size t ++ mid → BranchesDeepAt size us left least now
       → DeepBehind us left least t mid
@@ -276,7 +276,7 @@ module _ (size : Size) where
       turn_is : (v : Turn) (y : List ℕ) → now ≡ turn_text size v ++ y → (t ≡ v) × (mid ≡ y)
       turn_is v y g = let h = sym e ∙ g in (same_turn size size.columns_in.0 t v (heads h) (heads (tails h)), tails (tails h))
 
-      pass : (l : ℕ) (cs : Branches) → BranchesReferBack us cs → AreOrderly size least cs → GoDeep size us l cs now → DeepBehind us l least t mid
+      pass : (l : ℕ) (cs : Branches) → BranchesReferBack us cs → AreOrderly size least cs → BranchesGoDeep size us l cs now → DeepBehind us l least t mid
       pass l no_branch c q g = absurd g
       pass zero (branch v p cs) c q g =
           record { rises = subst (λ x. least ≤ number_on size x) (sym (turn_is v g.0 g.1).0) q.0; more = λ m h. absurd (no_more m h) }
@@ -284,7 +284,7 @@ module _ (size : Size) where
           let same = turn_is v g.0 g.1.0 in record {
             rises = subst (λ x. least ≤ number_on size x) (sym same.0) q.0;
             more = λ m h. inl (subst (λ j. OutlineDeepAt size us j mid) (less l m h)
-                (record { outline = p; closed = c.0; orderly = q.2; deep = subst (GoesDeep size us l p) (sym same.1) g.1.1 }));
+                (record { outline = p; closed = c.0; orderly = q.2; deep = subst (OutlineGoesDeep size us l p) (sym same.1) g.1.1 }));
           }
       pass (suc l) (branch v p cs) c q (inr g) =
           let same = turn_is v (outline_text size p ++ g.0) g.1.0 in record {
@@ -299,7 +299,7 @@ module _ (size : Size) where
                     orderly = q.2;
                     deep = refl;
                     text = same.1;
-                    ends = ends_before p g.0 (deep_no_digit (names_behind us p) (suc l) cs g.0 g.1.1);
+                    ends = ends_before p g.0 (deep_no_digit (named_trees_after us p) (suc l) cs g.0 g.1.1);
                   },
                   record {
                     branches = cs;

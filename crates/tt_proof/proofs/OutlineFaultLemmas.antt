@@ -11,10 +11,10 @@ use Rattle.tt_proof.specs.declared.certificate_read.CertFault.{CertFault}
 use Rattle.tt_proof.specs.declared.certificate_read.CertFault.TheVariants.{Syntax, TooDeep, NoMemory}
 use Rattle.tt_proof.specs.Strategy.{Strategy, done, depth, IsOnBoard, number_on}
 use Rattle.tt_proof.specs.CertificateText.{won_symbol, pick_symbol, replies_symbol, turn_text, side_prefix}
-use Rattle.tt_proof.specs.CertificateFaults.{IsSharedFault}
+use Rattle.tt_proof.specs.CertificateFaults.{IsSharedCertFault}
 use Rattle.tt_proof.specs.Outlines.{Outline, Branches, ended, picked, replied, part, no_branch, branch, unfolded}
-use Rattle.tt_proof.specs.Outlines.{name_symbol, name_text, part_symbol, names_behind, outline_text, branches_text, RefersBack, IsOrderly, AreOrderly, GoesDeep, GoDeep, IsSharedTooDeep}
-use Rattle.tt_proof.specs.inside.OutlineReading.{NoDigit, OutlineAt, BranchesAt, ReadsOutline, OutlineDeepAt, BranchesDeepAt, OutlineFaultAt, BranchesFaultAt}
+use Rattle.tt_proof.specs.Outlines.{name_symbol, name_text, part_symbol, named_trees_after, outline_text, branches_text, RefersBack, IsOrderly, AreOrderly, OutlineGoesDeep, BranchesGoDeep, IsSharedCertTooDeep}
+use Rattle.tt_proof.specs.inside.OutlineReading.{HasNoDigitInFront, OutlineAt, BranchesAt, ReadsOutline, OutlineDeepAt, BranchesDeepAt, OutlineFaultAt, BranchesFaultAt}
 use Rattle.tt_proof.proofs.TextLemmas.{heads, tails}
 use Rattle.tt_proof.proofs.CertificateLemmas.{side_apart}
 use Rattle.tt_proof.proofs.NameLemmas.{same_number}
@@ -32,7 +32,7 @@ module _ (size : Size) where
       → OutlineFaultAt size left old r Syntax
   no_outline left old r h = (λ us g o d y at. no o y at.text, λ us g k. none us left k.outline k.deep)
     where
-      none : (us : List Strategy) (m : ℕ) (p : Outline) → GoesDeep size us m p r → ⊥
+      none : (us : List Strategy) (m : ℕ) (p : Outline) → OutlineGoesDeep size us m p r → ⊥
       none us m ended g = g
       none us zero (picked true t o) g = (h _ _ g.1).2 refl
       none us zero (picked false t o) g = (h _ _ g.1).3 refl
@@ -55,7 +55,7 @@ module _ (size : Size) where
       → OutlineFaultAt size left old (name_symbol ∷ r) Syntax
   no_named left old r h = (λ us g o d y at. no o y at.text, λ us g k. none us left k.outline k.deep)
     where
-      none : (us : List Strategy) (m : ℕ) (p : Outline) → GoesDeep size us m p (name_symbol ∷ r) → ⊥
+      none : (us : List Strategy) (m : ℕ) (p : Outline) → OutlineGoesDeep size us m p (name_symbol ∷ r) → ⊥
       none us m ended g = g
       none us zero (picked true t o) g = (h _ _ (tails g.1)).0 refl
       none us zero (picked false t o) g = omega (arith, heads g.1)
@@ -75,14 +75,14 @@ module _ (size : Size) where
 
   -- ---- a part
 
-  pub no_name : (left : ℕ) (old r : List ℕ) → ((k : ℕ) (y : List ℕ) → k < 1000000000 → NoDigit y → r ≡ decimal k ++ y → ⊥)
+  pub no_name : (left : ℕ) (old r : List ℕ) → ((k : ℕ) (y : List ℕ) → k < 1000000000 → HasNoDigitInFront y → r ≡ decimal k ++ y → ⊥)
       → OutlineFaultAt size left old (part_symbol ∷ r) Syntax
   no_name left old r h = (
     λ us g o d y at. let w = name_at size us o d r y at in h w.name y w.small w.none w.text,
     λ us g k. let w = deep_name size us left k.outline r k.closed k.deep in h w.name w.behind w.small w.none w.text,
   )
 
-  module _ (left : ℕ) (old r rest : List ℕ) (n : ℕ) (small : n < 1000000000) (none : NoDigit rest) (text : r ≡ decimal n ++ rest) where
+  module _ (left : ℕ) (old r rest : List ℕ) (n : ℕ) (small : n < 1000000000) (none : HasNoDigitInFront rest) (text : r ≡ decimal n ++ rest) where
     same_name : (us : List Strategy) (d : ℕ) (y : List ℕ) (w : NameAt size us d r y) → n ≡ w.name
     same_name us d y w =
         (same_number n w.name rest y (omega (arith, small)) (let s = w.small in omega (arith, s)) none w.none (sym text ∙ w.text)).0
@@ -192,7 +192,7 @@ module _ (size : Size) where
       → BranchesFaultAt size left old least now Syntax
   no_branches left old least now end turn = (λ us g bs d y at. no us bs d y at, λ us g k. none us left k.branches k.orderly k.deep)
     where
-      none : (us : List Strategy) (m : ℕ) (cs : Branches) → AreOrderly size least cs → GoDeep size us m cs now → ⊥
+      none : (us : List Strategy) (m : ℕ) (cs : Branches) → AreOrderly size least cs → BranchesGoDeep size us m cs now → ⊥
       none us m no_branch q g = g
       none us zero (branch t o cs) q g = turn t g.0 q.1 g.1
       none us (suc m) (branch t o cs) q (inl g) = turn t g.0 q.1 g.1.0
@@ -226,7 +226,7 @@ module _ (size : Size) where
       where
         pass : (us : List Strategy) → map depth us ≡ old → OutlineDeepAt size us left mid
             ⊎ ((p : Outline) × ((y : List ℕ) × (OutlineAt size us p (depth (unfolded us p)) mid y
-            × BranchesDeepAt size (names_behind us p) (suc left) (number_on size t + 1) y))) → ⊥
+            × BranchesDeepAt size (named_trees_after us p) (suc left) (number_on size t + 1) y))) → ⊥
         pass us g (inl w) = h.1 us g w
         pass us g (inr w) = h.0 us g w.0 (depth (unfolded us w.0)) w.1.0 w.1.1.0
     branch_fault left TooDeep on rises h = (
@@ -280,9 +280,9 @@ module _ (size : Size) where
     rest_is side o e =
         (side_apart size size.columns_in.0 s side rest (outline_text size o) (sym text ∙ e)).1 ∙ sym (append-nil (outline_text size o))
 
-    deep_rest : (w : IsSharedTooDeep size most_depth bytes) → GoesDeep size [] most_depth w.outline rest
+    deep_rest : (w : IsSharedCertTooDeep size most_depth bytes) → OutlineGoesDeep size [] most_depth w.outline rest
     deep_rest w =
-        subst (GoesDeep size [] most_depth w.outline) (sym (side_apart size size.columns_in.0 s w.side rest w.behind (sym text ∙ w.text)).1) w.deep
+        subst (OutlineGoesDeep size [] most_depth w.outline) (sym (side_apart size size.columns_in.0 s w.side rest w.behind (sym text ∙ w.text)).1) w.deep
 
     whole_at : (side : Side) (o : Outline) → RefersBack [] o → IsOrderly size o → bytes ≡ side_prefix side ++ outline_text size o
         → OutlineAt size [] o (depth (unfolded [] o)) rest []
@@ -290,7 +290,7 @@ module _ (size : Size) where
         record { closed = c; orderly = q; deep = refl; text = rest_is side o e; ends = ends_before o [] tt }
 
     -- a fault of the rest is one of the bytes
-    pub shared_fault : (old : List ℕ) (f : CertFault) → old ≡ [] → OutlineFaultAt size most_depth old rest f → IsSharedFault size most_depth bytes f
+    pub shared_fault : (old : List ℕ) (f : CertFault) → old ≡ [] → OutlineFaultAt size most_depth old rest f → IsSharedCertFault size most_depth bytes f
     shared_fault old Syntax none h = (
       λ side o c q e. h.0 [] (sym none) o (depth (unfolded [] o)) [] (whole_at side o c q e),
       λ w. h.1 [] (sym none) (record { outline = w.outline; closed = w.closed; orderly = w.orderly; deep = deep_rest w }),
@@ -303,7 +303,7 @@ module _ (size : Size) where
 
     -- where something follows an outline, the bytes are no certificate
     pub shared_more : (old new : List ℕ) (o : Outline) (d : ℕ) (y : List ℕ) → old ≡ [] → ReadsOutline size most_depth old new o d rest y
-        → (y ≡ [] → ⊥) → IsSharedFault size most_depth bytes Syntax
+        → (y ≡ [] → ⊥) → IsSharedCertFault size most_depth bytes Syntax
     shared_more old new o d y none h n = (
       λ side p c q e.
           let k = h.at [] (sym none) in
@@ -313,7 +313,7 @@ module _ (size : Size) where
 
   -- bytes that begin with the words of no side are no certificate
   pub no_side : (bytes : List ℕ) (most_depth : ℕ) → ((y : List ℕ) → bytes ≡ side_prefix Attacker ++ y → ⊥)
-      → ((y : List ℕ) → bytes ≡ side_prefix Defender ++ y → ⊥) → IsSharedFault size most_depth bytes Syntax
+      → ((y : List ℕ) → bytes ≡ side_prefix Defender ++ y → ⊥) → IsSharedCertFault size most_depth bytes Syntax
   no_side bytes most_depth a d = (λ side o c q e. no side (outline_text size o) e, λ w. no w.side w.behind w.text)
     where
       no : (side : Side) (y : List ℕ) → bytes ≡ side_prefix side ++ y → ⊥

@@ -7,9 +7,9 @@ use Rattle.tt_proof.specs.declared.tree.TheConstants.{MOST_DEPTH}
 use Rattle.tt_proof.specs.Strategy.{Strategy, Entries, done, pick, reply, none, entry, depth, number_on, IsInOrder, AreInOrder}
 use Rattle.tt_proof.specs.CertificateText.{pick_symbol, replies_symbol, turn_text, tree_text, entries_text, side_prefix}
 use Rattle.tt_proof.specs.Outlines.{Outline, Branches, ended, picked, replied, part, no_branch, branch, unfolded}
-use Rattle.tt_proof.specs.Outlines.{entries_with, names_behind, names_behind_all, RefersBack, BranchesReferBack, IsOrderly, AreOrderly, outline_text, branches_text}
-use Rattle.tt_proof.specs.inside.OutlineReading.{NoDigit, EndsBefore}
-use Rattle.tt_proof.specs.OutlineLaws.{OneSharedCertificate, CertificatesAreShared}
+use Rattle.tt_proof.specs.Outlines.{unfolded_entries, named_trees_after, named_trees_after_branches, RefersBack, BranchesReferBack, IsOrderly, AreOrderly, outline_text, branches_text}
+use Rattle.tt_proof.specs.inside.OutlineReading.{HasNoDigitInFront, EndsBefore}
+use Rattle.tt_proof.specs.OutlineLaws.{OneOutlinePerCertificate, PlainIsSharedCertificate}
 use Rattle.tt_game.specs.Game.{State, after}
 use Rattle.tt_game.specs.declared.frame.Frame.{Frame}
 use Rattle.tt_game.specs.declared.frame.Side.{Side}
@@ -17,7 +17,7 @@ use Rattle.tt_game.specs.declared.turns.Turn.{Turn}
 use Rattle.tt_proof.specs.declared.position_footprint.PositionFootprint.{PositionFootprint}
 use Rattle.tt_proof.specs.declared.outline_replay.ReplayResult.{ReplayResult}
 use Rattle.tt_proof.specs.declared.outline_replay.ReplayResult.TheVariants.{Won, Lost, Unfit}
-use Rattle.tt_proof.specs.SharedParts.{NamedFootprints, RestsBeforePick, RestsBeforeReply, CombinesTo, IsResultBeforeTurn, IsResultOfEnd, IsResultOfReply, FindsOutline, FindsBranches, SharedPartsSay, answer_of}
+use Rattle.tt_proof.specs.SharedParts.{NamedFootprints, RestsBeforePick, RestsBeforeReply, CombinesTo, IsResultBeforeTurn, IsResultOfDone, IsResultOfReply, FindsOutline, FindsBranches, IsOutlineAnswer, wins_if_fit}
 use Rattle.tt_proof.specs.inside.OutlineReplaying.{FindsPick, FindsReply, FindsBranch}
 use Rattle.tt_proof.proofs.TextLemmas.{heads, tails, same_turn, turn_not_end}
 use Rattle.tt_proof.proofs.CertificateLemmas.{side_apart}
@@ -26,7 +26,7 @@ use Rattle.tt_proof.proofs.NameLemmas.{same_number}
 -- ---- one reading
 
 -- where no digit follows, none follows a name at the end
-pub ends_before : (o : Outline) (y : List ℕ) → NoDigit y → EndsBefore o y
+pub ends_before : (o : Outline) (y : List ℕ) → HasNoDigitInFront y → EndsBefore o y
 ends_before ended y n = tt
 ends_before (picked b t o) y n = ends_before o y n
 ends_before (replied b bs) y n = tt
@@ -34,7 +34,7 @@ ends_before (part k) y n = n
 
 module _ (size : Size) (some : 1 ≤ size.columns) where
   -- neither a branch nor the end of a reply begins with a digit
-  pub no_digit_behind : (bs : Branches) (y : List ℕ) → NoDigit (branches_text size bs ++ y)
+  pub no_digit_behind : (bs : Branches) (y : List ℕ) → HasNoDigitInFront (branches_text size bs ++ y)
   no_digit_behind no_branch y = λ d. omega (arith, d.1)
   no_digit_behind (branch (Play p) o bs) y = λ d. omega (arith, d.1)
   no_digit_behind (branch Pass o bs) y = λ d. omega (arith, d.0)
@@ -99,10 +99,10 @@ module _ (size : Size) (some : 1 ≤ size.columns) where
         let t_is = same_turn size some t s (heads e) (heads (tails e)) in
         let r = same_outline o p us vs (branches_text size bs ++ y) (branches_text size cs ++ z) c.0 d.0 (ends_before o _ (no_digit_behind bs y)) (ends_before p _ (no_digit_behind cs z))
         (sym (append_assoc (outline_text size o) (branches_text size bs) y) ∙ tails (tails e) ∙ append_assoc (outline_text size p) (branches_text size cs) z) in
-        let q = same_branches bs cs (names_behind us o) (names_behind vs p) y z c.1 d.1 r.1 in
+        let q = same_branches bs cs (named_trees_after us o) (named_trees_after vs p) y z c.1 d.1 r.1 in
         (ap (λ x. branch x o bs) t_is ∙ ap (λ x. branch s x bs) r.0 ∙ ap (λ x. branch s p x) q.0, q.1)
 
-pub one_shared : OneSharedCertificate
+pub one_shared : OneOutlinePerCertificate
 one_shared size bytes s t o p a b =
     let some = size.columns_in.0 in
     let both = side_apart size some s t (outline_text size o) (outline_text size p) (sym a.text ∙ b.text) in
@@ -124,13 +124,13 @@ abbrev mutual
 
 record IsPlain (size : Size) (us : List Strategy) (u : Strategy) (o : Outline) : Type 0 where
   tree : unfolded us o ≡ u
-  names : names_behind us o ≡ us
+  names : named_trees_after us o ≡ us
   text : outline_text size o ≡ tree_text size u
   closed : RefersBack us o
 
 record ArePlain (size : Size) (us : List Strategy) (es : Entries) (bs : Branches) : Type 0 where
-  trees : entries_with us bs ≡ es
-  names : names_behind_all us bs ≡ us
+  trees : unfolded_entries us bs ≡ es
+  names : named_trees_after_branches us bs ≡ us
   text : branches_text size bs ≡ entries_text size es
   closed : BranchesReferBack us bs
 
@@ -151,9 +151,9 @@ mutual
       let g = plain_all_is size us es in
       record {
         trees =
-            ap (λ x. entry t x (entries_with (names_behind us (plain u)) (plain_all es))) h.tree
-            ∙ ap (λ vs. entry t u (entries_with vs (plain_all es))) h.names ∙ ap (λ x. entry t u x) g.trees;
-        names = ap (λ vs. names_behind_all vs (plain_all es)) h.names ∙ g.names;
+            ap (λ x. entry t x (unfolded_entries (named_trees_after us (plain u)) (plain_all es))) h.tree
+            ∙ ap (λ vs. entry t u (unfolded_entries vs (plain_all es))) h.names ∙ ap (λ x. entry t u x) g.trees;
+        names = ap (λ vs. named_trees_after_branches vs (plain_all es)) h.names ∙ g.names;
         text = ap (λ w. turn_text size t ++ (w ++ branches_text size (plain_all es))) h.text ∙ ap (λ w. turn_text size t ++ (tree_text size u ++ w)) g.text;
         closed = (h.closed, subst (λ vs. BranchesReferBack vs (plain_all es)) (sym h.names) g.closed);
       }
@@ -190,7 +190,7 @@ before_fit Rests Lost r h e = subst IsFit (sym e) tt
 before_fit Rests Unfit r h e = absurd h
 
 module _ (side : Side) (f : Frame) where
-  end_fit : (s : State) (r : ReplayResult) → IsResultOfEnd side f s r → IsFit r
+  end_fit : (s : State) (r : ReplayResult) → IsResultOfDone side f s r → IsFit r
   end_fit s (Won x) e = tt
   end_fit s Lost e = tt
   end_fit s Unfit e = e
@@ -230,15 +230,15 @@ module _ (side : Side) (f : Frame) where
         both_fit e.0 e.1.0 r (branch_fit ns t (plain u) s e.0 e.1.1.0 (λ q g. plain_fit u ns (after f s t) q e.1.1.0 g) e.1.1.1.0)
         (plain_all_fit es e.1.1.0 s e.1.0 ms e.1.1.1.1) e.1.1.1.2
 
-  fit_says : (o : Outline) (s : State) → ((r : ReplayResult) (ms : NamedFootprints) → FindsOutline side f [] o s r ms → IsFit r) → SharedPartsSay side f o s None → ⊥
+  fit_says : (o : Outline) (s : State) → ((r : ReplayResult) (ms : NamedFootprints) → FindsOutline side f [] o s r ms → IsFit r) → IsOutlineAnswer side f o s None → ⊥
   fit_says o s h e = pass e.0 (h e.0 e.1.0 e.1.1.0) e.1.1.1
     where
-      pass : (r : ReplayResult) → IsFit r → None ≡ answer_of r → ⊥
+      pass : (r : ReplayResult) → IsFit r → None ≡ wins_if_fit r → ⊥
       pass (Won x) k d = cc
       pass Lost k d = cc
       pass Unfit k d = k
 
-pub certificates_shared : CertificatesAreShared
+pub certificates_shared : PlainIsSharedCertificate
 certificates_shared size bytes s u c =
     let h = plain_is size [] u in (
       plain u,

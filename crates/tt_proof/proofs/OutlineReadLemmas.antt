@@ -9,14 +9,14 @@ use Rattle.tt_proof.specs.declared.outlines.Outline as form
 use Rattle.tt_proof.specs.declared.tree.TheConstants.{MOST_DEPTH}
 use Rattle.tt_proof.specs.Strategy.{Strategy, done, depth, depth_of_entries, IsOnBoard, number_on}
 use Rattle.tt_proof.specs.CertificateText.{won_symbol, pick_symbol, replies_symbol, turn_text, side_prefix}
-use Rattle.tt_proof.specs.Outlines.{Outline, Branches, ended, picked, replied, part, no_branch, branch, with_name, entries_with, unfolded}
-use Rattle.tt_proof.specs.Outlines.{names_behind, names_behind_all, outline_of, branches_of_list, name_text, part_symbol, outline_text, branches_text, GoDeep, IsSharedCertificate, AreOrderly, BranchesReferBack}
-use Rattle.tt_proof.specs.inside.OutlineReading.{NoDigit, with_depth, OutlineAt, BranchesAt, OutlineDeepAt, BranchesDeepAt, ReadsOutline, ReadsBranches}
+use Rattle.tt_proof.specs.Outlines.{Outline, Branches, ended, picked, replied, part, no_branch, branch, with_named_tree, unfolded_entries, unfolded}
+use Rattle.tt_proof.specs.Outlines.{named_trees_after, named_trees_after_branches, outline_of, branches_of_reply, name_text, part_symbol, outline_text, branches_text, BranchesGoDeep, IsSharedCertificate, AreOrderly, BranchesReferBack}
+use Rattle.tt_proof.specs.inside.OutlineReading.{HasNoDigitInFront, with_depth, OutlineAt, BranchesAt, OutlineDeepAt, BranchesDeepAt, ReadsOutline, ReadsBranches}
 use Rattle.tt_proof.proofs.OutlineLawLemmas.{same_outline}
 use Rattle.tt_proof.proofs.OutlineDeepLemmas.{BranchBehind, branch_behind, deep_behind, apart}
 
 -- a name more is a depth more
-names_more : (n : Bool) (u : Strategy) (us : List Strategy) → map depth (with_name n u us) ≡ with_depth n (depth u) (map depth us)
+names_more : (n : Bool) (u : Strategy) (us : List Strategy) → map depth (with_named_tree n u us) ≡ with_depth n (depth u) (map depth us)
 names_more true u us = map-append depth us (u ∷ [])
 names_more false u us = refl
 
@@ -31,7 +31,7 @@ module _ (size : Size) where
   reads_done left ds r y e =
       record { shallow = omega arith; at = λ us h. record { closed = tt; orderly = tt; deep = refl; text = e; ends = tt }; names = λ us h. h }
 
-  pub reads_part : (left : ℕ) (ds : List ℕ) (k d : ℕ) (r y : List ℕ) → d ≤ left → k < length ds → k < 1000000000 → d ≡ get_or ds k d → NoDigit y → r ≡ decimal k ++ y
+  pub reads_part : (left : ℕ) (ds : List ℕ) (k d : ℕ) (r y : List ℕ) → d ≤ left → k < length ds → k < 1000000000 → d ≡ get_or ds k d → HasNoDigitInFront y → r ≡ decimal k ++ y
       → ReadsOutline size left ds ds (part k) d (part_symbol ∷ r) y
   reads_part left ds k d r y low lt small e none text = record {
     shallow = low;
@@ -56,8 +56,8 @@ module _ (size : Size) where
           ends = w.ends;
         };
     names = λ us g.
-        names_more n _ (names_behind us o)
-        ∙ ap (λ x. with_depth n (x + 1) (map depth (names_behind us o))) (h.at us g).deep
+        names_more n _ (named_trees_after us o)
+        ∙ ap (λ x. with_depth n (x + 1) (map depth (named_trees_after us o))) (h.at us g).deep
         ∙ ap (with_depth n (d + 1)) (h.names us g) ∙ sym more;
   }
 
@@ -76,8 +76,8 @@ module _ (size : Size) where
           ends = tt;
         };
     names = λ us g.
-        names_more n _ (names_behind_all us bs)
-        ∙ ap (λ x. with_depth n x (map depth (names_behind_all us bs))) (h.at us g).deep
+        names_more n _ (named_trees_after_branches us bs)
+        ∙ ap (λ x. with_depth n x (map depth (named_trees_after_branches us bs))) (h.at us g).deep
         ∙ ap (with_depth n d) (h.names us g) ∙ sym more;
   }
 
@@ -88,7 +88,7 @@ module _ (size : Size) where
   before [] bs = bs
   before (b ∷ list) bs = branch b.0 (outline_of b.1) (before list bs)
 
-  before_none : (list : List (Turn × form.Outline)) → before list no_branch ≡ branches_of_list list
+  before_none : (list : List (Turn × form.Outline)) → before list no_branch ≡ branches_of_reply list
   before_none [] = refl
   before_none (b ∷ list) = ap (λ r. branch b.0 (outline_of b.1) r) (before_none list)
 
@@ -103,13 +103,13 @@ module _ (size : Size) where
     pub names : List Strategy
     pub deep : map depth names ≡ ds
     pub rest : (bs : Branches) (d : ℕ) (y : List ℕ) → BranchesAt size names least bs d now y → BranchesAt size us 0 (before list bs) (max most d) bytes y
-    pub behind : (bs : Branches) → names_behind_all us (before list bs) ≡ names_behind_all names bs
+    pub behind : (bs : Branches) → named_trees_after_branches us (before list bs) ≡ named_trees_after_branches names bs
     pub only : (bs : Branches) (d : ℕ) (y : List ℕ) → BranchesAt size us 0 bs d bytes y
         → (bs' : Branches) × ((d' : ℕ) × ((d' ≤ d) × BranchesAt size names least bs' d' now y))
     pub closes : (bs : Branches) → BranchesReferBack names bs → BranchesReferBack us (before list bs)
     pub orders : (bs : Branches) → AreOrderly size least bs → AreOrderly size 0 (before list bs)
     pub stays : (left : ℕ) → most ≤ left → BranchesDeepAt size us left 0 bytes → BranchesDeepAt size names left least now
-    pub runs : (left : ℕ) (bs : Branches) → GoDeep size names left bs now → GoDeep size us left (before list bs) bytes
+    pub runs : (left : ℕ) (bs : Branches) → BranchesGoDeep size names left bs now → BranchesGoDeep size us left (before list bs) bytes
 
   pub walked_start : (us : List Strategy) (bytes : List ℕ) (ds : List ℕ) → map depth us ≡ ds → Walked us 0 bytes bytes [] 0 ds
   walked_start us bytes ds e = record {
@@ -130,13 +130,13 @@ module _ (size : Size) where
       → IsOnBoard size t → now ≡ turn_text size t ++ mid → ReadsOutline size e old new (outline_of o) d mid after
       → list' ≡ list ++ (t, o) ∷ [] → most' ≡ max most (d + 1) → Walked us (number + 1) bytes after list' most' new
   walked_more us least number left e bytes now mid after list list' t o most most' d old new w rises is on at h listed deeper = record {
-    names = names_behind w.names (outline_of o);
+    names = named_trees_after w.names (outline_of o);
     deep = h.names w.names w.deep;
     rest = λ bs m y g. rw (listed, before_push list (t, o) bs, deeper)
         (subst (λ k. BranchesAt size us 0 (before list (branch t (outline_of o) bs)) k bytes y)
         (let e : max most (max (d + 1) m) ≡ max (max most (d + 1)) m = omega arith in e)
         (w.rest (branch t (outline_of o) bs) (max (d + 1) m) y (one bs m y g)));
-    behind = λ bs. ap (λ l. names_behind_all us (before l bs)) listed ∙ ap (names_behind_all us) (before_push list (t, o) bs) ∙ w.behind (branch t (outline_of o) bs);
+    behind = λ bs. ap (λ l. named_trees_after_branches us (before l bs)) listed ∙ ap (named_trees_after_branches us) (before_push list (t, o) bs) ∙ w.behind (branch t (outline_of o) bs);
     only = λ bs m y g. let r = w.only bs m y g in
         goes_on r.1.0 m y r.1.1.0 (branch_behind size w.names least r.1.0 t now mid y r.0 at r.1.1.1);
     closes = λ bs g. rw (listed, before_push list (t, o) bs) (w.closes (branch t (outline_of o) bs) ((h.at w.names w.deep).closed, g));
@@ -149,20 +149,20 @@ module _ (size : Size) where
     where
       -- what is read behind this branch
       goes_on : (k m : ℕ) (y : List ℕ) → k ≤ m → BranchBehind size w.names least k t mid y
-          → (bs' : Branches) × ((d' : ℕ) × ((d' ≤ m) × BranchesAt size (names_behind w.names (outline_of o)) (number + 1) bs' d' after y))
+          → (bs' : Branches) × ((d' : ℕ) × ((d' ≤ m) × BranchesAt size (named_trees_after w.names (outline_of o)) (number + 1) bs' d' after y))
       goes_on k m y low g =
           let here = h.at w.names w.deep in
           let same = same_outline size size.columns_in.0 (outline_of o) g.outline w.names w.names after (branches_text size g.branches ++ y)
           here.closed g.inside.closed here.ends g.inside.ends (sym here.text ∙ g.inside.text) in
           let deep = g.deep in
-          let eq = ap (λ p. depth_of_entries (entries_with (names_behind w.names p) g.branches)) same.0 in (
+          let eq = ap (λ p. depth_of_entries (unfolded_entries (named_trees_after w.names p) g.branches)) same.0 in (
             g.branches,
             (
-              depth_of_entries (entries_with (names_behind w.names (outline_of o)) g.branches),
+              depth_of_entries (unfolded_entries (named_trees_after w.names (outline_of o)) g.branches),
               (
                 omega (arith, low, deep, eq),
                 record {
-                  closed = subst (λ p. BranchesReferBack (names_behind w.names p) g.branches) (sym same.0) g.closed;
+                  closed = subst (λ p. BranchesReferBack (named_trees_after w.names p) g.branches) (sym same.0) g.closed;
                   orderly = subst (λ x. AreOrderly size (x + 1) g.branches) (sym is) g.orderly;
                   deep = refl;
                   text = same.1;
@@ -173,7 +173,7 @@ module _ (size : Size) where
 
       -- what goes deeper does so behind this branch
       behind_this : (left : ℕ) → most' ≤ left → BranchesDeepAt size w.names left least now
-          → BranchesDeepAt size (names_behind w.names (outline_of o)) left (number + 1) after
+          → BranchesDeepAt size (named_trees_after w.names (outline_of o)) left (number + 1) after
       behind_this zero low k = absurd (omega (arith, low, deeper))
       behind_this (suc m) low k = pass ((deep_behind size w.names (suc m) least t now mid at k).more m refl)
         where
@@ -182,27 +182,27 @@ module _ (size : Size) where
 
           pass : OutlineDeepAt size w.names m mid
               ⊎ ((p : Outline) × ((y : List ℕ) × (OutlineAt size w.names p (depth (unfolded w.names p)) mid y
-              × BranchesDeepAt size (names_behind w.names p) (suc m) (number_on size t + 1) y)))
-              → BranchesDeepAt size (names_behind w.names (outline_of o)) (suc m) (number + 1) after
+              × BranchesDeepAt size (named_trees_after w.names p) (suc m) (number_on size t + 1) y)))
+              → BranchesDeepAt size (named_trees_after w.names (outline_of o)) (suc m) (number + 1) after
           pass (inl g) = absurd (apart size g.outline (outline_of o) w.names m d mid after g.closed here (omega (arith, low, deeper)) g.deep)
           pass (inr g) =
               let same = same_outline size size.columns_in.0 (outline_of o) g.0 w.names w.names after g.1.0 here.closed g.1.1.0.closed here.ends g.1.1.0.ends
               (sym here.text ∙ g.1.1.0.text) in
-              subst (λ n. BranchesDeepAt size (names_behind w.names (outline_of o)) (suc m) n after) (ap (λ x. x + 1) (sym is))
-              (subst (λ y. BranchesDeepAt size (names_behind w.names (outline_of o)) (suc m) (number_on size t + 1) y) (sym same.1)
-              (subst (λ p. BranchesDeepAt size (names_behind w.names p) (suc m) (number_on size t + 1) g.1.0) (sym same.0) g.1.1.1))
+              subst (λ n. BranchesDeepAt size (named_trees_after w.names (outline_of o)) (suc m) n after) (ap (λ x. x + 1) (sym is))
+              (subst (λ y. BranchesDeepAt size (named_trees_after w.names (outline_of o)) (suc m) (number_on size t + 1) y) (sym same.1)
+              (subst (λ p. BranchesDeepAt size (named_trees_after w.names p) (suc m) (number_on size t + 1) g.1.0) (sym same.0) g.1.1.1))
 
-      run : (left : ℕ) (bs : Branches) → GoDeep size (names_behind w.names (outline_of o)) left bs after → GoDeep size w.names left (branch t (outline_of o) bs) now
+      run : (left : ℕ) (bs : Branches) → BranchesGoDeep size (named_trees_after w.names (outline_of o)) left bs after → BranchesGoDeep size w.names left (branch t (outline_of o) bs) now
       run zero bs g = (mid, at)
       run (suc m) bs g = inr (after, (at ∙ ap (λ r. turn_text size t ++ r) (h.at w.names w.deep).text, g))
 
-      one : (bs : Branches) (m : ℕ) (y : List ℕ) → BranchesAt size (names_behind w.names (outline_of o)) (number + 1) bs m after y
+      one : (bs : Branches) (m : ℕ) (y : List ℕ) → BranchesAt size (named_trees_after w.names (outline_of o)) (number + 1) bs m after y
           → BranchesAt size w.names least (branch t (outline_of o) bs) (max (d + 1) m) now y
       one bs m y g = let k = h.at w.names w.deep in record {
         closed = (k.closed, g.closed);
         orderly = (omega (arith, rises, is), on, k.orderly, subst (λ x. AreOrderly size (x + 1) bs) is g.orderly);
         deep =
-            ap (λ x. max (x + 1) (depth_of_entries (entries_with (names_behind w.names (outline_of o)) bs))) k.deep
+            ap (λ x. max (x + 1) (depth_of_entries (unfolded_entries (named_trees_after w.names (outline_of o)) bs))) k.deep
             ∙ ap (λ x. max (d + 1) x) g.deep;
         text =
             at ∙ ap (λ r. turn_text size t ++ r) (k.text ∙ ap (λ r. outline_text size (outline_of o) ++ r) g.text
@@ -212,7 +212,7 @@ module _ (size : Size) where
   -- the end was read
   pub walked_end : (left least most : ℕ) (old new bytes now y : List ℕ) (list : List (Turn × form.Outline)) → most ≤ left
       → ((us : List Strategy) → map depth us ≡ old → Walked us least bytes now list most new) → now ≡ semicolon ∷ y
-      → ReadsBranches size left old new 0 (branches_of_list list) most bytes y
+      → ReadsBranches size left old new 0 (branches_of_reply list) most bytes y
   walked_end left least most old new bytes now y list low w e = record {
     shallow = low;
     at = λ us h. let k = w us h in
@@ -220,7 +220,7 @@ module _ (size : Size) where
         (subst (λ m. BranchesAt size us 0 (before list no_branch) m bytes y) (let e : max most 0 ≡ most = omega arith in e)
         (k.rest no_branch 0 y (record { closed = tt; orderly = tt; deep = refl; text = e })));
     names = λ us h. let k = w us h in
-        ap (λ bs. map depth (names_behind_all us bs)) (sym (before_none list)) ∙ ap (map depth) (k.behind no_branch) ∙ k.deep;
+        ap (λ bs. map depth (named_trees_after_branches us bs)) (sym (before_none list)) ∙ ap (map depth) (k.behind no_branch) ∙ k.deep;
   }
 
 -- where nothing follows the outline, the bytes are its certificate

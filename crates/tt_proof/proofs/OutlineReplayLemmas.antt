@@ -15,9 +15,9 @@ use Rattle.tt_proof.specs.Strategy.{reply, none}
 use Rattle.tt_proof.specs.Outlines.{Outline, Branches, no_branch, branch}
 use Rattle.tt_proof.specs.Footprints.{IsRepeated}
 use Rattle.tt_proof.specs.declared.footprints.Footprint.{Footprint}
-use Rattle.tt_proof.specs.KeptFootprints.{IsFootprint, frame_board}
+use Rattle.tt_proof.specs.KeptFootprints.{IsFootprint, board_of_colouring}
 use Rattle.tt_proof.specs.inside.Collecting.{IsPassedUp, IsPlayed}
-use Rattle.tt_proof.specs.SharedParts.{HasPosition, Meets, RestsOnPosition, RestsOnRepeats, MakesBoard, RestsOnBoth, CombinesTo}
+use Rattle.tt_proof.specs.SharedParts.{HasPosition, FootprintFits, RestsOnPosition, RestsOnRepeats, MakesBoard, RestsOnBoth, CombinesTo}
 use Rattle.tt_proof.specs.SharedParts.{NamedFootprints}
 use Rattle.tt_proof.specs.SharedParts.{FindsBranches}
 use Rattle.tt_proof.specs.inside.OutlineReplaying.{FindsTogether, FindsBranch}
@@ -41,8 +41,8 @@ or_second {A = A} {B = B} {C = C} {D = D} h k = (λ a. to (h.0 a), λ w. h.1 (ba
     back (inr d) = inr (k.1 d)
 
 -- states of one position, whose histories begin here
-carried : (s s' : State) → s'.present ≡ s.present → s'.to_move ≡ s.to_move → s'.passes ≡ s.passes → Carried (history s) (history s') [] s s'
-carried s s' p m n = record { present = p; to_move = m; passes = n; before = splits_none (history s); now = splits_none (history s') }
+footprints_carry_over : (s s' : State) → s'.present ≡ s.present → s'.to_move ≡ s.to_move → s'.passes ≡ s.passes → Carried (history s) (history s') [] s s'
+footprints_carry_over s s' p m n = record { present = p; to_move = m; passes = n; before = splits_none (history s); now = splits_none (history s') }
 
 -- the only member of a list of one
 pub only : (c d : Colouring) → Contains (c ∷ []) d → d ≡ c
@@ -56,11 +56,11 @@ pub legal_nobody : (f : Frame) (s : State) (t : Turn) → IsLegal f s t → winn
 legal_nobody f s (Play p) l = l.0
 legal_nobody f s Pass l = l
 
-module _ (f : Frame) (s : State) (t : Turn) (board : Position) (is : board ≡ frame_board f (after f s t).present) where
+module _ (f : Frame) (s : State) (t : Turn) (board : Position) (is : board ≡ board_of_colouring f (after f s t).present) where
   pub made_board : (b : Position) → IsPlayed t board b ↔ MakesBoard f s t b
   made_board b = pass t is
     where
-      pass : (v : Turn) → board ≡ frame_board f (after f s v).present → IsPlayed v board b ↔ MakesBoard f s v b
+      pass : (v : Turn) → board ≡ board_of_colouring f (after f s v).present → IsPlayed v board b ↔ MakesBoard f s v b
       pass Pass e = (λ w. absurd w, λ w. w.1)
       pass (Play p) e = (
         λ w. (ap (λ (z : Position). z.size) (w ∙ e), sym (ap (λ (z : Position). z.points) (w ∙ e))),
@@ -70,7 +70,7 @@ module _ (f : Frame) (s : State) (t : Turn) (board : Position) (is : board ≡ f
   pub passed_up : (bs : List Position) (b : Position) → IsPassedUp t board bs b ↔ (Contains bs b × (MakesBoard f s t b → ⊥))
   passed_up bs b = pass t is
     where
-      pass : (v : Turn) → board ≡ frame_board f (after f s v).present → IsPassedUp v board bs b ↔ (Contains bs b × (MakesBoard f s v b → ⊥))
+      pass : (v : Turn) → board ≡ board_of_colouring f (after f s v).present → IsPassedUp v board bs b ↔ (Contains bs b × (MakesBoard f s v b → ⊥))
       pass Pass e = (λ w. (w, λ h. h.1), λ w. w.0)
       pass (Play p) e = (
         λ w. (w.0, λ h. w.1 (board_is b f.size (made f s p) h.0 (sym h.1) ∙ sym e)),
@@ -109,7 +109,7 @@ rests_on_repeats f s foot x h at n a = record {
     first c (inr w) = absurd w
 
 -- a basis that needs and avoids nothing is met where it stands
-pub met_empty : (f : Frame) (s : State) (x : PositionFootprint) → RestsOnPosition f s x → Meets f x s
+pub met_empty : (f : Frame) (s : State) (x : PositionFootprint) → RestsOnPosition f s x → FootprintFits f x s
 met_empty f s x h = record {
   position = h.position;
   needs = λ b m. absurd (none_held x.needs b h.needs m);
@@ -117,10 +117,10 @@ met_empty f s x h = record {
 }
 
 -- two states that meet a basis have one position
-module _ (f : Frame) (x : PositionFootprint) (s s' : State) (m : Meets f x s) (m' : Meets f x s') where
+module _ (f : Frame) (x : PositionFootprint) (s s' : State) (m : FootprintFits f x s) (m' : FootprintFits f x s') where
   pub met_carried : Carried (history s) (history s') [] s s'
   met_carried =
-      carried s s' (ap (λ (b : Position). b.points) (sym m'.position.present ∙ m.position.present)) (sym m'.position.to_move ∙ m.position.to_move)
+      footprints_carry_over s s' (ap (λ (b : Position). b.points) (sym m'.position.present ∙ m.position.present)) (sym m'.position.to_move ∙ m.position.to_move)
       (sym m'.position.passes ∙ m.position.passes)
 
 -- ---- two trees together
@@ -254,7 +254,7 @@ module _ (side : Side) (f : Frame) (s : State) (ns : NamedFootprints) (bs : Bran
   replayed_end ls found h = h (Won alone) found ls ((alone, (refl, rests)), refl) (both_alone found alone refl refl)
     where
       alone : PositionFootprint
-      alone = record { board = frame_board f s.present; to_move = s.to_move; passes = s.passes; needs = []; avoids = [] }
+      alone = record { board = board_of_colouring f s.present; to_move = s.to_move; passes = s.passes; needs = []; avoids = [] }
 
       rests : RestsOnPosition f s alone
       rests = record { position = record { present = refl; to_move = refl; passes = refl }; needs = refl; avoids = refl }

@@ -9,8 +9,8 @@ use Rattle.tt_proof.specs.declared.position_footprint.PositionFootprint.{Positio
 use Rattle.tt_proof.specs.declared.outline_replay.ReplayResult.{ReplayResult}
 use Rattle.tt_proof.specs.declared.outline_replay.ReplayResult.TheVariants.{Won, Lost, Unfit}
 use Rattle.tt_proof.specs.Outlines.{Outline, Branches, ended, picked, replied, part, no_branch, branch}
-use Rattle.tt_proof.specs.SharedParts.{HasPosition, Meets, RestsOnPosition, RestsOnRepeats, RestsBeforePick, RestsBeforeReply, RestsOnBoth, CombinesTo, IsResultBeforeTurn}
-use Rattle.tt_proof.specs.SharedParts.{NamedFootprints, kept_footprint, answer_of, with_named_footprint, unreached, unreached_all, IsResultOfEnd, IsResultOfName, IsResultOfReply, SharedPartsSay}
+use Rattle.tt_proof.specs.SharedParts.{HasPosition, FootprintFits, RestsOnPosition, RestsOnRepeats, RestsBeforePick, RestsBeforeReply, RestsOnBoth, CombinesTo, IsResultBeforeTurn}
+use Rattle.tt_proof.specs.SharedParts.{NamedFootprints, kept_footprint, wins_if_fit, with_named_footprint, with_unreached_names, with_unreached_branch_names, IsResultOfDone, IsResultOfPart, IsResultOfReply, IsOutlineAnswer}
 use Rattle.tt_proof.specs.SharedParts.{FindsOutline, FindsBranches}
 use Rattle.tt_proof.specs.inside.OutlineReplaying.{FindsPick, FindsReply, FindsTogether, FindsBranch}
 use Rattle.tt_proof.proofs.OutlineReplayLemmas.{iff_chain, some_none}
@@ -84,7 +84,7 @@ module _ (f : Frame) (s : State) where
       at_one v w h.position k.position (λ b. iff_chain (h.needs b) (iff_chain (λ m. ((e.needs b).0 m.0, m.1), λ m. ((e.needs b).1 m.0, m.1)) (turned (k.needs b))))
       (λ b. iff_chain (same_list v.avoids x.avoids h.avoids b) (iff_chain (e.avoids b) (same_list y.avoids w.avoids (sym k.avoids) b)))
 
-  same_meets : (x y : PositionFootprint) → SameBasis x y → Meets f x s → Meets f y s
+  same_meets : (x y : PositionFootprint) → SameBasis x y → FootprintFits f x s → FootprintFits f y s
   same_meets x y e m = record {
     position = record {
       present = sym e.board ∙ m.position.present;
@@ -139,7 +139,7 @@ kept_same r q (both_won x y h) = kept x y h
 kept_same r q both_lost = not_kept
 kept_same r q both_unfit = not_kept
 
-answer_same : (r q : ReplayResult) → SameFound r q → answer_of r ≡ answer_of q
+answer_same : (r q : ReplayResult) → SameFound r q → wins_if_fit r ≡ wins_if_fit q
 answer_same r q (both_won x y h) = refl
 answer_same r q both_lost = refl
 answer_same r q both_unfit = refl
@@ -148,12 +148,12 @@ some_is : (x y : PositionFootprint) → Some x ≡ Some y → x ≡ y
 some_is x y e = cc
 
 module _ (f : Frame) (s : State) where
-  name_same : (n m : Option PositionFootprint) (r q : ReplayResult) → SameName n m → IsResultOfName f n s r → IsResultOfName f m s q → SameFound r q
+  name_same : (n m : Option PositionFootprint) (r q : ReplayResult) → SameName n m → IsResultOfPart f n s r → IsResultOfPart f m s q → SameFound r q
   name_same n m (Won u) (Won v) (kept x y h) a b =
       both_won u v (subst (λ z. SameBasis u z) (some_is y v b.0) (subst (λ z. SameBasis z y) (some_is x u a.0) h))
-  name_same n m (Won u) Unfit (kept x y h) a b = absurd (b y refl (same_meets f s x y h (subst (λ z. Meets f z s) (sym (some_is x u a.0)) a.1)))
+  name_same n m (Won u) Unfit (kept x y h) a b = absurd (b y refl (same_meets f s x y h (subst (λ z. FootprintFits f z s) (sym (some_is x u a.0)) a.1)))
   name_same n m Unfit (Won v) (kept x y h) a b =
-      absurd (a x refl (same_meets f s y x (turned_basis x y h) (subst (λ z. Meets f z s) (sym (some_is y v b.0)) b.1)))
+      absurd (a x refl (same_meets f s y x (turned_basis x y h) (subst (λ z. FootprintFits f z s) (sym (some_is y v b.0)) b.1)))
   name_same n m Unfit Unfit h a b = both_unfit
   name_same n m (Won u) q not_kept a b = absurd (some_none u a.0)
   name_same n m Unfit (Won v) not_kept a b = absurd (some_none v b.0)
@@ -170,7 +170,7 @@ module _ (f : Frame) (s : State) where
   reply_same bs p p' Unfit q (both_won x y h) a b = absurd a
   reply_same bs p p' r Unfit (both_won x y h) a b = absurd b
 
-  end_same : (side : Side) (r q : ReplayResult) → IsResultOfEnd side f s r → IsResultOfEnd side f s q → SameFound r q
+  end_same : (side : Side) (r q : ReplayResult) → IsResultOfDone side f s r → IsResultOfDone side f s q → SameFound r q
   end_same side (Won x) (Won y) a b = both_won x y (same_alone f s x y a.1 b.1)
   end_same side (Won x) Lost a b = absurd (b a.0)
   end_same side Lost (Won y) a b = absurd (a b.0)
@@ -198,15 +198,15 @@ named_same ns ms zero (more_names n m ks ls e h) = e
 named_same ns ms (suc k) (more_names n m ks ls e h) = named_same ks ls k h
 
 mutual
-  unreached_same : (o : Outline) (ns ms : NamedFootprints) → SameNames ns ms → SameNames (unreached ns o) (unreached ms o)
+  unreached_same : (o : Outline) (ns ms : NamedFootprints) → SameNames ns ms → SameNames (with_unreached_names ns o) (with_unreached_names ms o)
   unreached_same ended ns ms h = h
-  unreached_same (picked n t o) ns ms h = with_same n (unreached ns o) (unreached ms o) None None (unreached_same o ns ms h) not_kept
-  unreached_same (replied n bs) ns ms h = with_same n (unreached_all ns bs) (unreached_all ms bs) None None (unreached_all_same bs ns ms h) not_kept
+  unreached_same (picked n t o) ns ms h = with_same n (with_unreached_names ns o) (with_unreached_names ms o) None None (unreached_same o ns ms h) not_kept
+  unreached_same (replied n bs) ns ms h = with_same n (with_unreached_branch_names ns bs) (with_unreached_branch_names ms bs) None None (unreached_all_same bs ns ms h) not_kept
   unreached_same (part k) ns ms h = h
 
-  unreached_all_same : (bs : Branches) (ns ms : NamedFootprints) → SameNames ns ms → SameNames (unreached_all ns bs) (unreached_all ms bs)
+  unreached_all_same : (bs : Branches) (ns ms : NamedFootprints) → SameNames ns ms → SameNames (with_unreached_branch_names ns bs) (with_unreached_branch_names ms bs)
   unreached_all_same no_branch ns ms h = h
-  unreached_all_same (branch t o bs) ns ms h = unreached_all_same bs (unreached ns o) (unreached ms o) (unreached_same o ns ms h)
+  unreached_all_same (branch t o bs) ns ms h = unreached_all_same bs (with_unreached_names ns o) (with_unreached_names ms o) (unreached_same o ns ms h)
 
 names_as : (ns ms ls ks : NamedFootprints) → ls ≡ ns → ks ≡ ms → SameNames ns ms → SameNames ls ks
 names_as ns ms ls ks e d h = subst (λ x. SameNames x ks) (sym e) (subst (SameNames ns) (sym d) h)
@@ -225,7 +225,7 @@ module _ (side : Side) (f : Frame) where
   pick_same t o s ns ms h g r q ls ks (inl a) (inr b) = absurd (b.0 a.0 a.1)
   pick_same t o s ns ms h g r q ls ks (inr a) (inl b) = absurd (a.0 b.0 b.1)
   pick_same t o s ns ms h g r q ls ks (inr a) (inr b) =
-      (found_as Lost Lost r q a.1 b.1 both_lost, names_as (unreached ns o) (unreached ms o) ls ks a.2 b.2 (unreached_same o ns ms h))
+      (found_as Lost Lost r q a.1 b.1 both_lost, names_as (with_unreached_names ns o) (with_unreached_names ms o) ls ks a.2 b.2 (unreached_same o ns ms h))
 
   branch_same : (t : Turn) (o : Outline) (s : State) (ns ms : NamedFootprints) → SameNames ns ms → Same (FindsOutline side f ns o (after f s t)) (FindsOutline side f ms o (after f s t))
       → Same (FindsBranch side f ns t o s) (FindsBranch side f ms t o s)
@@ -235,7 +235,7 @@ module _ (side : Side) (f : Frame) where
   branch_same t o s ns ms h g r q ls ks (inl a) (inr b) = absurd (b.0 a.0)
   branch_same t o s ns ms h g r q ls ks (inr a) (inl b) = absurd (a.0 b.0)
   branch_same t o s ns ms h g r q ls ks (inr a) (inr b) =
-      (alone_same f s r q a.1 b.1, names_as (unreached ns o) (unreached ms o) ls ks a.2 b.2 (unreached_same o ns ms h))
+      (alone_same f s r q a.1 b.1, names_as (with_unreached_names ns o) (with_unreached_names ms o) ls ks a.2 b.2 (unreached_same o ns ms h))
 
   together_same : (bs : Branches) (s : State) (ns ms : NamedFootprints) → Same (FindsBranches side f ns bs s) (FindsBranches side f ms bs s)
       → Same (FindsTogether side f ns bs s) (FindsTogether side f ms bs s)
@@ -250,7 +250,7 @@ module _ (side : Side) (f : Frame) where
   reply_found_same bs s ns ms h g r q ls ks (inl a) (inr b) = absurd (b.0 a.0 a.1)
   reply_found_same bs s ns ms h g r q ls ks (inr a) (inl b) = absurd (a.0 b.0 b.1)
   reply_found_same bs s ns ms h g r q ls ks (inr a) (inr b) =
-      (found_as Lost Lost r q a.1 b.1 both_lost, names_as (unreached_all ns bs) (unreached_all ms bs) ls ks a.2 b.2 (unreached_all_same bs ns ms h))
+      (found_as Lost Lost r q a.1 b.1 both_lost, names_as (with_unreached_branch_names ns bs) (with_unreached_branch_names ms bs) ls ks a.2 b.2 (unreached_all_same bs ns ms h))
 
   named : (n : Bool) (r q : ReplayResult) (ls ks ls' ks' : NamedFootprints) → SameFound r q × SameNames ls ks → ls' ≡ with_named_footprint n (kept_footprint r) ls → ks' ≡ with_named_footprint n (kept_footprint q) ks
       → SameFound r q × SameNames ls' ks'
@@ -277,12 +277,12 @@ module _ (side : Side) (f : Frame) where
         let rest = branches_same bs s a.1.1.0 b.1.1.0 here.1 a.1.0 b.1.0 ls ks a.1.1.1.1 b.1.1.1.1 in
         (both_same a.0 a.1.0 r b.0 b.1.0 q here.0 rest.0 a.1.1.1.2 b.1.1.1.2, rest.1)
 
-  pub one_answer : (o : Outline) (s : State) (a b : Option Bool) → SharedPartsSay side f o s a → SharedPartsSay side f o s b → a ≡ b
+  pub one_answer : (o : Outline) (s : State) (a b : Option Bool) → IsOutlineAnswer side f o s a → IsOutlineAnswer side f o s b → a ≡ b
   one_answer o s a b h k =
       h.1.1.1 ∙ answer_same h.0 k.0 (outline_same o s [] [] no_names h.0 k.0 h.1.0 k.1.0 h.1.1.0 k.1.1.0).0 ∙ sym k.1.1.1
 
 -- what wins has no part that doesn't fit
-pub winning_fits : (side : Side) (f : Frame) (o : Outline) (s : State) → SharedPartsSay side f o s (Some true) → SharedPartsSay side f o s None → ⊥
+pub winning_fits : (side : Side) (f : Frame) (o : Outline) (s : State) → IsOutlineAnswer side f o s (Some true) → IsOutlineAnswer side f o s None → ⊥
 winning_fits side f o s h k = some_is_none true (one_answer side f o s (Some true) None h k)
   where
     some_is_none : (b : Bool) → Some b ≡ None → ⊥

@@ -12,13 +12,13 @@ use Rattle.tt_proof.specs.declared.position_footprint.PositionFootprint.{Positio
 use Rattle.tt_proof.specs.declared.outline_replay.ReplayResult.{ReplayResult}
 use Rattle.tt_proof.specs.declared.outline_replay.ReplayResult.TheVariants.{Won, Lost, Unfit}
 use Rattle.tt_proof.specs.Strategy.{Strategy, Entries, done, pick, reply, none, entry, number_on}
-use Rattle.tt_proof.specs.Outlines.{Outline, Branches, ended, picked, replied, part, no_branch, branch, unfolded, entries_with, with_name, names_behind, names_behind_all, IsOrderly, AreOrderly}
+use Rattle.tt_proof.specs.Outlines.{Outline, Branches, ended, picked, replied, part, no_branch, branch, unfolded, unfolded_entries, with_named_tree, named_trees_after, named_trees_after_branches, IsOrderly, AreOrderly}
 use Rattle.tt_proof.specs.Footprints.{IsRepeated}
-use Rattle.tt_proof.specs.KeptFootprints.{frame_board}
+use Rattle.tt_proof.specs.KeptFootprints.{board_of_colouring}
 use Rattle.tt_proof.specs.Wins.{Wins, WinsBehind}
 use Rattle.tt_proof.specs.inside.Replaying.{HasEntry}
-use Rattle.tt_proof.specs.SharedParts.{Meets, RestsOnPosition, RestsOnRepeats, MakesBoard, RestsBeforePick, RestsBeforeReply, RestsOnBoth, CombinesTo, IsResultBeforeTurn, HasBranch}
-use Rattle.tt_proof.specs.SharedParts.{NamedFootprints, kept_footprint, answer_of, with_named_footprint, unreached, unreached_all, IsResultOfEnd, IsResultOfName, IsResultOfReply}
+use Rattle.tt_proof.specs.SharedParts.{FootprintFits, RestsOnPosition, RestsOnRepeats, MakesBoard, RestsBeforePick, RestsBeforeReply, RestsOnBoth, CombinesTo, IsResultBeforeTurn, HasBranch}
+use Rattle.tt_proof.specs.SharedParts.{NamedFootprints, kept_footprint, wins_if_fit, with_named_footprint, with_unreached_names, with_unreached_branch_names, IsResultOfDone, IsResultOfPart, IsResultOfReply}
 use Rattle.tt_proof.specs.SharedParts.{FindsOutline, FindsBranches}
 use Rattle.tt_proof.specs.inside.OutlineReplaying.{FindsPick, FindsReply, FindsBranch}
 use Rattle.tt_proof.proofs.FitsLemmas.{Carried, same_made, same_winner, legal_now, legal_before}
@@ -34,30 +34,30 @@ HasTree (entry t' u' es) t u = ((t' ≡ t) × (u' ≡ u)) ⊎ HasTree es t u
 module _ (side : Side) (f : Frame) where
   -- the tree wins wherever the basis is met
   abbrev pub WinsOn : Strategy → PositionFootprint → Type 0
-  WinsOn u x = (s : State) → Meets f x s → Wins side f u s
+  WinsOn u x = (s : State) → FootprintFits f x s → Wins side f u s
 
   -- the tree wins on a basis that is met here, or doesn't win; of one with a part that doesn't fit nothing is said
   abbrev pub IsSound : State → Strategy → ReplayResult → Type 0
-  IsSound s u (Won x) = Meets f x s × WinsOn u x
+  IsSound s u (Won x) = FootprintFits f x s × WinsOn u x
   IsSound s u Lost = Wins side f u s → ⊥
   IsSound s u Unfit = Unit {0}
 
   -- the same of the tree behind a turn, in front of it
   abbrev pub IsSoundBehind : State → Turn → Strategy → ReplayResult → Type 0
-  IsSoundBehind s t u (Won x) = Meets f x s × ((s' : State) → Meets f x s' → IsLegal f s t → Wins side f u (after f s' t))
+  IsSoundBehind s t u (Won x) = FootprintFits f x s × ((s' : State) → FootprintFits f x s' → IsLegal f s t → Wins side f u (after f s' t))
   IsSoundBehind s t u Lost = IsLegal f s t × (Wins side f u (after f s t) → ⊥)
   IsSoundBehind s t u Unfit = Unit {0}
 
   -- the same of all entries together
   abbrev pub AreSound : State → Entries → ReplayResult → Type 0
   AreSound s es (Won x) =
-      Meets f x s × ((s' : State) → Meets f x s' → (t : Turn) (u : Strategy) → HasTree es t u → IsLegal f s t → Wins side f u (after f s' t))
+      FootprintFits f x s × ((s' : State) → FootprintFits f x s' → (t : Turn) (u : Strategy) → HasTree es t u → IsLegal f s t → Wins side f u (after f s' t))
   AreSound s es Lost = (t : Turn) × ((u : Strategy) × (HasTree es t u × IsLegal f s t × (Wins side f u (after f s t) → ⊥)))
   AreSound s es Unfit = Unit {0}
 
   -- and of what plays would repeat
   abbrev pub KnowRepeats : State → ReplayResult → Type 0
-  KnowRepeats s (Won x) = (c : Colouring) → IsRepeated f (history s) [] s c → Contains x.needs (frame_board f c)
+  KnowRepeats s (Won x) = (c : Colouring) → IsRepeated f (history s) [] s c → Contains x.needs (board_of_colouring f c)
   KnowRepeats s Lost = Unit {0}
   KnowRepeats s Unfit = Unit {0}
 
@@ -76,7 +76,7 @@ module _ (side : Side) (f : Frame) where
 
 module _ (f : Frame) (s : State) (x : PositionFootprint) where
   -- what is needed in front of the turn is in the history there
-  needs_before : (t : Turn) → Meets f x (after f s t) → (b : Position) → Contains x.needs b × (MakesBoard f s t b → ⊥) → HasBoard f s b
+  needs_before : (t : Turn) → FootprintFits f x (after f s t) → (b : Position) → Contains x.needs b × (MakesBoard f s t b → ⊥) → HasBoard f s b
   needs_before Pass m b n = m.needs b n.0
   needs_before (Play p) m b n = let h = m.needs b n.0 in (h.0, pass h.0 (Contains-append_cases (history s) (made f s p ∷ []) b.points h.1))
     where
@@ -85,17 +85,17 @@ module _ (f : Frame) (s : State) (x : PositionFootprint) where
       pass size (inr h) = absurd (n.1 (size, sym (only (made f s p) b.points h)))
 
   -- and what is avoided behind it is not
-  avoids_before : (t : Turn) → Meets f x (after f s t) → (b : Position) → Contains x.avoids b → HasBoard f s b → ⊥
+  avoids_before : (t : Turn) → FootprintFits f x (after f s t) → (b : Position) → Contains x.avoids b → HasBoard f s b → ⊥
   avoids_before Pass m b a h = m.avoids b a h
   avoids_before (Play p) m b a h = m.avoids b a (h.0, Contains-append_left (history s) (made f s p ∷ []) b.points h.1)
 
   -- the basis is met behind the turn at another state, where in front of it all is met
-  met_behind : (t : Turn) → IsLegal f s t → Meets f x (after f s t) → (s' : State) → Carried (history s) (history s') [] s s'
+  met_behind : (t : Turn) → IsLegal f s t → FootprintFits f x (after f s t) → (s' : State) → Carried (history s) (history s') [] s s'
       → ((b : Position) → Contains x.needs b × (MakesBoard f s t b → ⊥) → HasBoard f s' b)
-      → ((b : Position) → Contains x.avoids b → HasBoard f s' b → ⊥) → Meets f x (after f s' t)
+      → ((b : Position) → Contains x.avoids b → HasBoard f s' b → ⊥) → FootprintFits f x (after f s' t)
   met_behind Pass l m s' r n a = record {
     position = record {
-      present = m.position.present ∙ ap (frame_board f) (sym r.present);
+      present = m.position.present ∙ ap (board_of_colouring f) (sym r.present);
       to_move = m.position.to_move ∙ ap opponent (sym r.to_move);
       passes = m.position.passes ∙ ap (λ k. k + 1) (sym r.passes);
     };
@@ -104,7 +104,7 @@ module _ (f : Frame) (s : State) (x : PositionFootprint) where
   }
   met_behind (Play p) l m s' r n a = record {
     position = record {
-      present = m.position.present ∙ ap (frame_board f) (sym same);
+      present = m.position.present ∙ ap (board_of_colouring f) (sym same);
       to_move = m.position.to_move ∙ ap opponent (sym r.to_move);
       passes = m.position.passes;
     };
@@ -137,7 +137,7 @@ sound_pick : (side : Side) (f : Frame) (s : State) (t : Turn) (u : Strategy) (x 
     → IsSound side f (after f s t) u (Won x) → RestsBeforePick f s t x y → IsSound side f s (pick t u) (Won y)
 sound_pick side f s t u x y mine l h more = (here, there)
   where
-    here : Meets f y s
+    here : FootprintFits f y s
     here = record {
       position = more.position;
       needs = λ b n. needs_before f s x t h.0 b ((more.needs b).0 n);
@@ -148,14 +148,14 @@ sound_pick side f s t u x y mine l h more = (here, there)
         avoid b (inl a) = avoids_before f s x t h.0 b a
         avoid b (inr e) = not_made f s t b l e
 
-    there : (s' : State) → Meets f y s' → Wins side f (pick t u) s'
+    there : (s' : State) → FootprintFits f y s' → Wins side f (pick t u) s'
     there s' m =
         let r = met_carried f y s s' here m in
         let w = same_winner side f (history s) (history s') [] s s' r in (
           w ∙ legal_nobody f s t l,
           r.to_move ∙ mine,
           legal_now side f (history s) (history s') [] s s' t r l
-              (λ c k z. m.avoids (frame_board f c) ((more.avoids (frame_board f c)).1 (inr (refl, k))) (refl, z)),
+              (λ c k z. m.avoids (board_of_colouring f c) ((more.avoids (board_of_colouring f c)).1 (inr (refl, k))) (refl, z)),
           h.1 (after f s' t)
               (met_behind f s x t l h.0 s' r (λ b n. m.needs b ((more.needs b).1 n)) (λ b a. m.avoids b ((more.avoids b).1 (inl a)))),
         )
@@ -169,14 +169,14 @@ sound_branch side f s t u x y l h more = (here, there)
     back : (b : Position) → Contains y.avoids b → Contains x.avoids b
     back b a = subst (λ bs. Contains bs b) more.avoids a
 
-    here : Meets f y s
+    here : FootprintFits f y s
     here = record {
       position = more.position;
       needs = λ b n. needs_before f s x t h.0 b ((more.needs b).0 n);
       avoids = λ b a. avoids_before f s x t h.0 b (back b a);
     }
 
-    there : (s' : State) → Meets f y s' → IsLegal f s t → Wins side f u (after f s' t)
+    there : (s' : State) → FootprintFits f y s' → IsLegal f s t → Wins side f u (after f s' t)
     there s' m k =
         h.1 (after f s' t)
         (met_behind f s x t l h.0 s' (met_carried f y s s' here m) (λ b n. m.needs b ((more.needs b).1 n))
@@ -185,8 +185,8 @@ sound_branch side f s t u x y l h more = (here, there)
 -- ---- branches together
 
 -- what is met by both is met by each
-module _ (f : Frame) (s s' : State) (x y z : PositionFootprint) (j : RestsOnBoth x y z) (m : Meets f x s) (n : Meets f y s) where
-  joined_here : Meets f z s
+module _ (f : Frame) (s s' : State) (x y z : PositionFootprint) (j : RestsOnBoth x y z) (m : FootprintFits f x s) (n : FootprintFits f y s) where
+  joined_here : FootprintFits f z s
   joined_here = record {
     position = record {
       present = j.board ∙ m.position.present;
@@ -205,8 +205,8 @@ module _ (f : Frame) (s s' : State) (x y z : PositionFootprint) (j : RestsOnBoth
       avoid b (inl w) = m.avoids b w
       avoid b (inr w) = n.avoids b w
 
-  module _ (k : Meets f z s') where
-    joined_first : Meets f x s'
+  module _ (k : FootprintFits f z s') where
+    joined_first : FootprintFits f x s'
     joined_first = record {
       position = record {
         present = sym j.board ∙ k.position.present;
@@ -217,7 +217,7 @@ module _ (f : Frame) (s s' : State) (x y z : PositionFootprint) (j : RestsOnBoth
       avoids = λ b w. k.avoids b ((j.avoids b).1 (inl w));
     }
 
-    joined_second : Meets f y s'
+    joined_second : FootprintFits f y s'
     joined_second = record {
       position = record {
         present = n.position.present ∙ sym m.position.present ∙ sym j.board ∙ k.position.present;
@@ -242,7 +242,7 @@ module _ (side : Side) (f : Frame) (s : State) (t : Turn) (u : Strategy) (es : E
     λ s' m v w k. pass s' m v w k,
   )
     where
-      pass : (s' : State) → Meets f e.0 s' → (v : Turn) (w : Strategy) → HasTree (entry t u es) v w → IsLegal f s v → Wins side f w (after f s' v)
+      pass : (s' : State) → FootprintFits f e.0 s' → (v : Turn) (w : Strategy) → HasTree (entry t u es) v w → IsLegal f s v → Wins side f w (after f s' v)
       pass s' m v w (inr k) l = h.1 s' (joined_second f s s' x y e.0 e.1.1 g.0 h.0 m) v w k l
       pass s' m v w (inl k) l =
           subst (λ z. Wins side f z (after f s' v)) k.1
@@ -250,7 +250,7 @@ module _ (side : Side) (f : Frame) (s : State) (t : Turn) (u : Strategy) (es : E
           (g.1 s' (joined_first f s s' x y e.0 e.1.1 g.0 h.0 m) (subst (λ z. IsLegal f s z) (sym k.0) l)))
 
 -- what a reply rests on by itself
-met_repeats : (f : Frame) (s : State) (x : PositionFootprint) → RestsOnRepeats f s x → Meets f x s
+met_repeats : (f : Frame) (s : State) (x : PositionFootprint) → RestsOnRepeats f s x → FootprintFits f x s
 met_repeats f s x h = record {
   position = h.position;
   needs = λ b m. let k = (h.needs b).0 m in (k.0, k.1.1);
@@ -263,7 +263,7 @@ sound_together side f s es x Unfit r a h e = rw e (tt, tt)
 sound_together side f s es x Lost r a h e = rw e (h, tt)
 sound_together side f s es x (Won y) r a h e = rw e.1.0 (
   (joined_here f s s x y e.0 e.1.1 (met_repeats f s x a) h.0, λ s' m. h.1 s' (joined_second f s s' x y e.0 e.1.1 (met_repeats f s x a) h.0 m)),
-  λ c k. (e.1.1.needs (frame_board f c)).1 (inl ((a.needs (frame_board f c)).1 (refl, k))),
+  λ c k. (e.1.1.needs (board_of_colouring f c)).1 (inl ((a.needs (board_of_colouring f c)).1 (refl, k))),
 )
 
 -- ---- a reply
@@ -276,60 +276,60 @@ module _ (side : Side) (f : Frame) where
   some_wins (entry t' u es) t s w (inr h) = inr (some_wins es t s (λ v k. w v (inr k)) h)
 
   -- a turn that has a branch has an entry, whatever the names stand for; and the other way round
-  entry_of_branch : (us : List Strategy) (bs : Branches) (t : Turn) → HasBranch bs t → HasEntry (entries_with us bs) t
+  entry_of_branch : (us : List Strategy) (bs : Branches) (t : Turn) → HasBranch bs t → HasEntry (unfolded_entries us bs) t
   entry_of_branch us no_branch t h = h
   entry_of_branch us (branch t' o bs) t (inl e) = inl e
-  entry_of_branch us (branch t' o bs) t (inr h) = inr (entry_of_branch (names_behind us o) bs t h)
+  entry_of_branch us (branch t' o bs) t (inr h) = inr (entry_of_branch (named_trees_after us o) bs t h)
 
-  branch_of_entry : (us : List Strategy) (bs : Branches) (t : Turn) → HasEntry (entries_with us bs) t → HasBranch bs t
+  branch_of_entry : (us : List Strategy) (bs : Branches) (t : Turn) → HasEntry (unfolded_entries us bs) t → HasBranch bs t
   branch_of_entry us no_branch t h = h
   branch_of_entry us (branch t' o bs) t (inl e) = inl e
-  branch_of_entry us (branch t' o bs) t (inr h) = inr (branch_of_entry (names_behind us o) bs t h)
+  branch_of_entry us (branch t' o bs) t (inr h) = inr (branch_of_entry (named_trees_after us o) bs t h)
 
   -- branches in order have one of a turn at the most
-  least_tree : (us : List Strategy) (least : ℕ) (bs : Branches) (t : Turn) (u : Strategy) → AreOrderly f.size least bs → HasTree (entries_with us bs) t u
+  least_tree : (us : List Strategy) (least : ℕ) (bs : Branches) (t : Turn) (u : Strategy) → AreOrderly f.size least bs → HasTree (unfolded_entries us bs) t u
       → least ≤ number_on f.size t
   least_tree us least no_branch t u o h = absurd h
   least_tree us least (branch t' c bs) t u o (inl e) = let same = ap (number_on f.size) e.0 in omega (arith, o.0, same)
   least_tree us least (branch t' c bs) t u o (inr h) =
-      let past = least_tree (names_behind us c) (number_on f.size t' + 1) bs t u o.3 h in omega (arith, o.0, past)
+      let past = least_tree (named_trees_after us c) (number_on f.size t' + 1) bs t u o.3 h in omega (arith, o.0, past)
 
-  least_entry : (us : List Strategy) (least : ℕ) (bs : Branches) (t : Turn) (s : State) → AreOrderly f.size least bs → WinsBehind side f (entries_with us bs) t s
+  least_entry : (us : List Strategy) (least : ℕ) (bs : Branches) (t : Turn) (s : State) → AreOrderly f.size least bs → WinsBehind side f (unfolded_entries us bs) t s
       → least ≤ number_on f.size t
   least_entry us least no_branch t s o h = absurd h
   least_entry us least (branch t' c bs) t s o (inl e) = let same = ap (number_on f.size) e.0 in omega (arith, o.0, same)
   least_entry us least (branch t' c bs) t s o (inr h) =
-      let past = least_entry (names_behind us c) (number_on f.size t' + 1) bs t s o.3 h in omega (arith, o.0, past)
+      let past = least_entry (named_trees_after us c) (number_on f.size t' + 1) bs t s o.3 h in omega (arith, o.0, past)
 
   only_one : (us : List Strategy) (least : ℕ) (bs : Branches) (t : Turn) (u : Strategy) (s : State) → AreOrderly f.size least bs
-      → HasTree (entries_with us bs) t u → WinsBehind side f (entries_with us bs) t s → Wins side f u (after f s t)
+      → HasTree (unfolded_entries us bs) t u → WinsBehind side f (unfolded_entries us bs) t s → Wins side f u (after f s t)
   only_one us least no_branch t u s o h w = absurd h
   only_one us least (branch t' c bs) t u s o (inl e) (inl w) = subst (λ z. Wins side f z (after f s t)) e.1 w.1
   only_one us least (branch t' c bs) t u s o (inl e) (inr w) =
-      let past = least_entry (names_behind us c) (number_on f.size t' + 1) bs t s o.3 w in
+      let past = least_entry (named_trees_after us c) (number_on f.size t' + 1) bs t s o.3 w in
       let same = ap (number_on f.size) e.0 in absurd (omega (arith, past, same))
   only_one us least (branch t' c bs) t u s o (inr h) (inl w) =
-      let past = least_tree (names_behind us c) (number_on f.size t' + 1) bs t u o.3 h in
+      let past = least_tree (named_trees_after us c) (number_on f.size t' + 1) bs t u o.3 h in
       let same = ap (number_on f.size) w.0 in absurd (omega (arith, past, same))
-  only_one us least (branch t' c bs) t u s o (inr h) (inr w) = only_one (names_behind us c) (number_on f.size t' + 1) bs t u s o.3 h w
+  only_one us least (branch t' c bs) t u s o (inr h) (inr w) = only_one (named_trees_after us c) (number_on f.size t' + 1) bs t u s o.3 h w
 
   sound_reply : (s : State) (us : List Strategy) (bs : Branches) (q r : ReplayResult) → winner_of f s ≡ None → s.to_move ≡ opponent side → AreOrderly f.size 0 bs
-      → AreSound side f s (entries_with us bs) q × KnowRepeats side f s q → IsResultOfReply f s bs q r → IsSound side f s (reply (entries_with us bs)) r
-  sound_reply s us bs Unfit r nobody turn o h e = subst (IsSound side f s (reply (entries_with us bs))) (sym e) tt
+      → AreSound side f s (unfolded_entries us bs) q × KnowRepeats side f s q → IsResultOfReply f s bs q r → IsSound side f s (reply (unfolded_entries us bs)) r
+  sound_reply s us bs Unfit r nobody turn o h e = subst (IsSound side f s (reply (unfolded_entries us bs))) (sym e) tt
   sound_reply s us bs Lost r nobody turn o h e =
-      subst (IsSound side f s (reply (entries_with us bs))) (sym e)
+      subst (IsSound side f s (reply (unfolded_entries us bs))) (sym e)
       (λ w. h.0.1.1.2 (only_one us 0 bs h.0.0 h.0.1.0 s o h.0.1.1.0 (w.2 h.0.0 h.0.1.1.1)))
   sound_reply s us bs (Won x) Unfit nobody turn o h e = tt
-  sound_reply s us bs (Won x) Lost nobody turn o h not = λ w. not (λ t l. branch_of_entry us bs t (has_behind side f s (entries_with us bs) t (w.2 t l)))
+  sound_reply s us bs (Won x) Lost nobody turn o h not = λ w. not (λ t l. branch_of_entry us bs t (has_behind side f s (unfolded_entries us bs) t (w.2 t l)))
   sound_reply s us bs (Won x) (Won y) nobody turn o h e = rw (← e.0) (h.0.0, there)
     where
-      there : (s' : State) → Meets f x s' → Wins side f (reply (entries_with us bs)) s'
+      there : (s' : State) → FootprintFits f x s' → Wins side f (reply (unfolded_entries us bs)) s'
       there s' m =
           let r = met_carried f x s s' h.0.0 m in (
             same_winner side f (history s) (history s') [] s s' r ∙ nobody,
             r.to_move ∙ turn,
-            λ t l. let l' = legal_before side f (history s) (history s') [] s s' t r l (λ c w. (m.needs (frame_board f c) (h.1 c w)).1) in
-                some_wins (entries_with us bs) t s' (λ u k. h.0.1 s' m t u k l') (entry_of_branch us bs t (e.1 t l')),
+            λ t l. let l' = legal_before side f (history s) (history s') [] s s' t r l (λ c w. (m.needs (board_of_colouring f c) (h.1 c w)).1) in
+                some_wins (unfolded_entries us bs) t s' (λ u k. h.0.1 s' m t u k l') (entry_of_branch us bs t (e.1 t l')),
           )
 
 -- ---- names
@@ -344,7 +344,7 @@ module _ (side : Side) (f : Frame) where
   named_more (v ∷ us) (m ∷ ns) u n h w = (h.0, named_more us ns u n h.1 w)
 
   named_with : (b : Bool) (us : List Strategy) (ns : NamedFootprints) (u : Strategy) (n : Option PositionFootprint) → WinAsKept side f us ns → WinsAsKept side f u n
-      → WinAsKept side f (with_name b u us) (with_named_footprint b n ns)
+      → WinAsKept side f (with_named_tree b u us) (with_named_footprint b n ns)
   named_with true us ns u n h w = named_more us ns u n h w
   named_with false us ns u n h w = h
 
@@ -362,17 +362,17 @@ module _ (side : Side) (f : Frame) where
   named_at (u ∷ us) (m ∷ ns) (suc k) x h e = named_at us ns k x h.1 e
 
   mutual
-    unreached_kept : (us : List Strategy) (ns : NamedFootprints) (o : Outline) → WinAsKept side f us ns → WinAsKept side f (names_behind us o) (unreached ns o)
+    unreached_kept : (us : List Strategy) (ns : NamedFootprints) (o : Outline) → WinAsKept side f us ns → WinAsKept side f (named_trees_after us o) (with_unreached_names ns o)
     unreached_kept us ns ended h = h
     unreached_kept us ns (picked n t o) h =
-        named_with n (names_behind us o) (unreached ns o) (pick t (unfolded us o)) None (unreached_kept us ns o h) tt
+        named_with n (named_trees_after us o) (with_unreached_names ns o) (pick t (unfolded us o)) None (unreached_kept us ns o h) tt
     unreached_kept us ns (replied n bs) h =
-        named_with n (names_behind_all us bs) (unreached_all ns bs) (reply (entries_with us bs)) None (unreached_all_kept us ns bs h) tt
+        named_with n (named_trees_after_branches us bs) (with_unreached_branch_names ns bs) (reply (unfolded_entries us bs)) None (unreached_all_kept us ns bs h) tt
     unreached_kept us ns (part k) h = h
 
-    unreached_all_kept : (us : List Strategy) (ns : NamedFootprints) (bs : Branches) → WinAsKept side f us ns → WinAsKept side f (names_behind_all us bs) (unreached_all ns bs)
+    unreached_all_kept : (us : List Strategy) (ns : NamedFootprints) (bs : Branches) → WinAsKept side f us ns → WinAsKept side f (named_trees_after_branches us bs) (with_unreached_branch_names ns bs)
     unreached_all_kept us ns no_branch h = h
-    unreached_all_kept us ns (branch t o bs) h = unreached_all_kept (names_behind us o) (unreached ns o) bs (unreached_kept us ns o h)
+    unreached_all_kept us ns (branch t o bs) h = unreached_all_kept (named_trees_after us o) (with_unreached_names ns o) bs (unreached_kept us ns o h)
 
   -- ---- the whole
 
@@ -388,13 +388,13 @@ module _ (side : Side) (f : Frame) where
   before_reply s t u Lost r l h e = subst (IsSoundBehind side f s t u) (sym e) (l, h)
   before_reply s t u Unfit r l h e = subst (IsSoundBehind side f s t u) (sym e) tt
 
-  at_end : (s : State) (r : ReplayResult) → IsResultOfEnd side f s r → IsSound side f s done r
+  at_end : (s : State) (r : ReplayResult) → IsResultOfDone side f s r → IsSound side f s done r
   at_end s (Won x) h =
       let here = met_empty f s x h.1 in (here, λ s' m. same_winner side f (history s) (history s') [] s s' (met_carried f x s s' here m) ∙ h.0)
   at_end s Lost h = h
   at_end s Unfit h = tt
 
-  of_name : (us : List Strategy) (ns : NamedFootprints) (k : ℕ) (s : State) (r : ReplayResult) → WinAsKept side f us ns → IsResultOfName f (get_or ns k None) s r
+  of_name : (us : List Strategy) (ns : NamedFootprints) (k : ℕ) (s : State) (r : ReplayResult) → WinAsKept side f us ns → IsResultOfPart f (get_or ns k None) s r
       → IsSound side f s (get_or us k done) r
   of_name us ns k s (Won x) h e = (e.1, named_at us ns k x h e.0)
   of_name us ns k s Lost h e = absurd e
@@ -405,72 +405,72 @@ module _ (side : Side) (f : Frame) where
 
   -- by what is found behind a turn
   abbrev Behind : List Strategy → NamedFootprints → Outline → State → NamedFootprints → Type 0
-  Behind us ns o s ms = (q : ReplayResult) → FindsOutline side f ns o s q ms → IsSound side f s (unfolded us o) q × WinAsKept side f (names_behind us o) ms
+  Behind us ns o s ms = (q : ReplayResult) → FindsOutline side f ns o s q ms → IsSound side f s (unfolded us o) q × WinAsKept side f (named_trees_after us o) ms
 
   of_pick : (us : List Strategy) (ns : NamedFootprints) (t : Turn) (o : Outline) (s : State) (r : ReplayResult) (ms : NamedFootprints) → WinAsKept side f us ns → Behind us ns o (after f s t) ms
-      → FindsPick side f ns t o s r ms → IsSound side f s (pick t (unfolded us o)) r × WinAsKept side f (names_behind us o) ms
+      → FindsPick side f ns t o s r ms → IsSound side f s (pick t (unfolded us o)) r × WinAsKept side f (named_trees_after us o) ms
   of_pick us ns t o s r ms h g (inl w) = let k = g w.2.0 w.2.1.0 in (before_pick s t (unfolded us o) w.2.0 r w.0 w.1 k.0 w.2.1.1, k.1)
   of_pick us ns t o s r ms h g (inr w) = (
     subst (IsSound side f s (pick t (unfolded us o))) (sym w.1) (λ v. w.0 v.1 v.2),
-    subst (WinAsKept side f (names_behind us o)) (sym w.2) (unreached_kept us ns o h),
+    subst (WinAsKept side f (named_trees_after us o)) (sym w.2) (unreached_kept us ns o h),
   )
 
   of_branch : (us : List Strategy) (ns : NamedFootprints) (t : Turn) (o : Outline) (s : State) (r : ReplayResult) (ms : NamedFootprints) → WinAsKept side f us ns → Behind us ns o (after f s t) ms
-      → FindsBranch side f ns t o s r ms → IsSoundBehind side f s t (unfolded us o) r × WinAsKept side f (names_behind us o) ms
+      → FindsBranch side f ns t o s r ms → IsSoundBehind side f s t (unfolded us o) r × WinAsKept side f (named_trees_after us o) ms
   of_branch us ns t o s r ms h g (inl w) = let k = g w.1.0 w.1.1.0 in (before_reply s t (unfolded us o) w.1.0 r w.0 k.0 w.1.1.1, k.1)
   of_branch us ns t o s r ms h g (inr w) = (
     subst (IsSoundBehind side f s t (unfolded us o)) (sym w.1.1.0) (alone_behind s t (unfolded us o) w.1.0 w.0 w.1.1.1),
-    subst (WinAsKept side f (names_behind us o)) (sym w.2) (unreached_kept us ns o h),
+    subst (WinAsKept side f (named_trees_after us o)) (sym w.2) (unreached_kept us ns o h),
   )
 
   of_reply : (us : List Strategy) (ns : NamedFootprints) (bs : Branches) (s : State) (r : ReplayResult) (ms : NamedFootprints) → AreOrderly f.size 0 bs → WinAsKept side f us ns
-      → ((q : ReplayResult) → FindsBranches side f ns bs s q ms → AreSound side f s (entries_with us bs) q × WinAsKept side f (names_behind_all us bs) ms)
-      → FindsReply side f ns bs s r ms → IsSound side f s (reply (entries_with us bs)) r × WinAsKept side f (names_behind_all us bs) ms
+      → ((q : ReplayResult) → FindsBranches side f ns bs s q ms → AreSound side f s (unfolded_entries us bs) q × WinAsKept side f (named_trees_after_branches us bs) ms)
+      → FindsReply side f ns bs s r ms → IsSound side f s (reply (unfolded_entries us bs)) r × WinAsKept side f (named_trees_after_branches us bs) ms
   of_reply us ns bs s r ms o h g (inl w) =
       let e = w.2.1.0 in
       let k = g e.1.1.0 e.1.1.1.0 in (
-        sound_reply side f s us bs w.2.0 r w.0 w.1 o (sound_together side f s (entries_with us bs) e.0 e.1.1.0 w.2.0 e.1.0 k.0 e.1.1.1.1) w.2.1.1,
+        sound_reply side f s us bs w.2.0 r w.0 w.1 o (sound_together side f s (unfolded_entries us bs) e.0 e.1.1.0 w.2.0 e.1.0 k.0 e.1.1.1.1) w.2.1.1,
         k.1,
       )
   of_reply us ns bs s r ms o h g (inr w) = (
-    subst (IsSound side f s (reply (entries_with us bs))) (sym w.1) (λ v. w.0 v.0 v.1),
-    subst (WinAsKept side f (names_behind_all us bs)) (sym w.2) (unreached_all_kept us ns bs h),
+    subst (IsSound side f s (reply (unfolded_entries us bs))) (sym w.1) (λ v. w.0 v.0 v.1),
+    subst (WinAsKept side f (named_trees_after_branches us bs)) (sym w.2) (unreached_all_kept us ns bs h),
   )
 
   with_name_kept : (n : Bool) (us : List Strategy) (ls ms : NamedFootprints) (s : State) (u : Strategy) (r : ReplayResult) → IsSound side f s u r × WinAsKept side f us ls
-      → ms ≡ with_named_footprint n (kept_footprint r) ls → IsSound side f s u r × WinAsKept side f (with_name n u us) ms
+      → ms ≡ with_named_footprint n (kept_footprint r) ls → IsSound side f s u r × WinAsKept side f (with_named_tree n u us) ms
   with_name_kept n us ls ms s u r k e = (k.0, rw e (named_with n us ls u (kept_footprint r) k.1 (kept_sound s u r k.0)))
 
   mutual
     pub sound : (us : List Strategy) (ns : NamedFootprints) (o : Outline) (s : State) (r : ReplayResult) (ms : NamedFootprints) → IsOrderly f.size o → WinAsKept side f us ns
-        → FindsOutline side f ns o s r ms → IsSound side f s (unfolded us o) r × WinAsKept side f (names_behind us o) ms
+        → FindsOutline side f ns o s r ms → IsSound side f s (unfolded us o) r × WinAsKept side f (named_trees_after us o) ms
     sound us ns ended s r ms o h e = (at_end s r e.0, subst (WinAsKept side f us) (sym e.1) h)
     sound us ns (part k) s r ms o h e = (of_name us ns k s r h e.0, subst (WinAsKept side f us) (sym e.1) h)
     sound us ns (picked n t c) s r ms o h e =
-        with_name_kept n (names_behind us c) e.0 ms s (pick t (unfolded us c)) r
+        with_name_kept n (named_trees_after us c) e.0 ms s (pick t (unfolded us c)) r
         (of_pick us ns t c s r e.0 h (λ q g. sound us ns c (after f s t) q e.0 o.1 h g) e.1.1) e.1.0
     sound us ns (replied n bs) s r ms o h e =
-        with_name_kept n (names_behind_all us bs) e.0 ms s (reply (entries_with us bs)) r
+        with_name_kept n (named_trees_after_branches us bs) e.0 ms s (reply (unfolded_entries us bs)) r
         (of_reply us ns bs s r e.0 o h (λ q g. sound_all us ns 0 bs s q e.0 o h g) e.1.1) e.1.0
 
     sound_all : (us : List Strategy) (ns : NamedFootprints) (least : ℕ) (bs : Branches) (s : State) (r : ReplayResult) (ms : NamedFootprints) → AreOrderly f.size least bs
-        → WinAsKept side f us ns → FindsBranches side f ns bs s r ms → AreSound side f s (entries_with us bs) r × WinAsKept side f (names_behind_all us bs) ms
+        → WinAsKept side f us ns → FindsBranches side f ns bs s r ms → AreSound side f s (unfolded_entries us bs) r × WinAsKept side f (named_trees_after_branches us bs) ms
     sound_all us ns least no_branch s r ms o h e = (
       subst (AreSound side f s none) (sym e.0.1.0) (met_empty f s e.0.0 e.0.1.1, λ s' m t u k. absurd k),
       subst (WinAsKept side f us) (sym e.1) h,
     )
     sound_all us ns least (branch t c bs) s r ms o h e =
         let here = of_branch us ns t c s e.0 e.1.1.0 h (λ q g. sound us ns c (after f s t) q e.1.1.0 o.2 h g) e.1.1.1.0 in
-        let rest = sound_all (names_behind us c) e.1.1.0 (number_on f.size t + 1) bs s e.1.0 ms o.3 here.1 e.1.1.1.1 in
-        (sound_more side f s t (unfolded us c) (entries_with (names_behind us c) bs) e.0 e.1.0 r here.0 rest.0 e.1.1.1.2, rest.1)
+        let rest = sound_all (named_trees_after us c) e.1.1.0 (number_on f.size t + 1) bs s e.1.0 ms o.3 here.1 e.1.1.1.1 in
+        (sound_more side f s t (unfolded us c) (unfolded_entries (named_trees_after us c) bs) e.0 e.1.0 r here.0 rest.0 e.1.1.1.2, rest.1)
 
 -- the answer says whether the tree wins
 pub answer_sound : (side : Side) (f : Frame) (o : Outline) (s : State) (r : ReplayResult) (ms : NamedFootprints) → IsOrderly f.size o → FindsOutline side f [] o s r ms
-    → IfSome (answer_of r) (λ wins. IsTrue wins ↔ Wins side f (unfolded [] o) s)
+    → IfSome (wins_if_fit r) (λ wins. IsTrue wins ↔ Wins side f (unfolded [] o) s)
 answer_sound side f o s r ms ordered h = pass r (sound side f [] [] o s r ms ordered tt h).0
   where
     pass : (q : ReplayResult) → IsSound side f s (unfolded [] o) q
-        → IfSome (answer_of q) (λ wins. IsTrue wins ↔ Wins side f (unfolded [] o) s)
+        → IfSome (wins_if_fit q) (λ wins. IsTrue wins ↔ Wins side f (unfolded [] o) s)
     pass (Won x) k = (λ e. k.1 s k.0, λ w. refl)
     pass Lost k = (λ e. absurd (true≢false (sym e)), λ w. absurd (k w))
     pass Unfit k = tt

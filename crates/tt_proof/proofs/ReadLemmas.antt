@@ -5,7 +5,7 @@ use Rattle.tt_game.specs.declared.turns.Turn.{Turn}
 use Rattle.tt_proof.specs.declared.certificate_read.CertFault.{CertFault}
 use Rattle.tt_proof.specs.declared.certificate_read.CertFault.TheVariants.{Syntax, TooDeep, NoMemory}
 use Rattle.tt_proof.specs.Strategy.{Strategy, Entries, done, pick, reply, none, entry, depth, depth_of_entries, IsOnBoard, IsInOrder}
-use Rattle.tt_proof.specs.CertificateText.{won_symbol, pick_symbol, replies_symbol, turn_text, tree_text, entries_text, EndsBelow, EndsInEntries}
+use Rattle.tt_proof.specs.CertificateText.{won_symbol, pick_symbol, replies_symbol, turn_text, tree_text, entries_text, IsTreeTextDownTo, IsEntriesTextDownTo}
 use Rattle.tt_proof.specs.inside.CertificateReading.{TreeAt, DeepAt, EntriesAt, EntriesDeepAt, FaultAt, EntriesFaultAt}
 use Rattle.tt_proof.proofs.TextLemmas.{heads, tails}
 
@@ -16,7 +16,7 @@ module _ (size : Size) where
 
   -- a strategy that is deeper than e has a turn with e turns above it
   mutual
-    pub deep_tree : (u : Strategy) (e : ℕ) → e < depth u → (x : List ℕ) × ((y : List ℕ) × (EndsBelow size u e x × (tree_text size u ≡ x ++ y)))
+    pub deep_tree : (u : Strategy) (e : ℕ) → e < depth u → (x : List ℕ) × ((y : List ℕ) × (IsTreeTextDownTo size u e x × (tree_text size u ≡ x ++ y)))
     deep_tree done e lt = absurd (omega (arith, lt))
     deep_tree (pick t u) zero lt = (pick_symbol ∷ turn_text size t, (tree_text size u, (refl, refl)))
     deep_tree (pick t u) (suc e) lt =
@@ -26,7 +26,7 @@ module _ (size : Size) where
 
     -- so have entries that are deeper than e
     deep_entries : (es : Entries) (e : ℕ) → e < depth_of_entries es →
-        (x : List ℕ) × ((y : List ℕ) × (EndsInEntries size es e x × (entries_text size es ≡ x ++ y)))
+        (x : List ℕ) × ((y : List ℕ) × (IsEntriesTextDownTo size es e x × (entries_text size es ≡ x ++ y)))
     deep_entries none e lt = absurd (omega (arith, lt))
     deep_entries (entry t u es) zero lt = (turn_text size t, (tree_text size u ++ entries_text size es, (inl refl, refl)))
     deep_entries (entry t u es) (suc e) lt = pass (cases e (depth u) (depth_of_entries es) lt) (deep_tree u e) (deep_entries es (suc e))
@@ -54,9 +54,9 @@ module _ (size : Size) where
 
         -- the turn lies in the first entry's tree, or behind it
         pass : (e < depth u) ⊎ (suc e < depth_of_entries es) →
-            (e < depth u → (x : List ℕ) × ((y : List ℕ) × (EndsBelow size u e x × (tree_text size u ≡ x ++ y)))) →
-            (suc e < depth_of_entries es → (x : List ℕ) × ((y : List ℕ) × (EndsInEntries size es (suc e) x × (entries_text size es ≡ x ++ y)))) →
-            (x : List ℕ) × ((y : List ℕ) × (EndsInEntries size (entry t u es) (suc e) x × (entries_text size (entry t u es) ≡ x ++ y)))
+            (e < depth u → (x : List ℕ) × ((y : List ℕ) × (IsTreeTextDownTo size u e x × (tree_text size u ≡ x ++ y)))) →
+            (suc e < depth_of_entries es → (x : List ℕ) × ((y : List ℕ) × (IsEntriesTextDownTo size es (suc e) x × (entries_text size es ≡ x ++ y)))) →
+            (x : List ℕ) × ((y : List ℕ) × (IsEntriesTextDownTo size (entry t u es) (suc e) x × (entries_text size (entry t u es) ≡ x ++ y)))
         pass (inl lt) f g =
             let r = f lt in (
               turn_text size t ++ r.0,
@@ -96,7 +96,7 @@ module _ (size : Size) where
       no (reply es) y e = h _ _ e (inr (inr refl))
 
       -- nor is a turn too deep
-      deep : (u : Strategy) (k : ℕ) (x y : List ℕ) → r ≡ x ++ y → EndsBelow size u k x → ⊥
+      deep : (u : Strategy) (k : ℕ) (x y : List ℕ) → r ≡ x ++ y → IsTreeTextDownTo size u k x → ⊥
       deep done k x y e w = w
       deep (pick t u) zero x y e w = h _ _ (e ∙ ap (λ z. z ++ y) w) (inr (inl refl))
       deep (pick t u) (suc k) x y e w = h _ _ (e ∙ ap (λ z. z ++ y) w.1.0) (inr (inl refl))
@@ -115,7 +115,7 @@ module _ (size : Size) where
       no (reply es) y o e = omega (arith, heads e)
 
       -- nor is a turn too deep
-      deep : (u : Strategy) (k : ℕ) (x y : List ℕ) → IsInOrder size u → pick_symbol ∷ r ≡ x ++ y → EndsBelow size u k x → ⊥
+      deep : (u : Strategy) (k : ℕ) (x y : List ℕ) → IsInOrder size u → pick_symbol ∷ r ≡ x ++ y → IsTreeTextDownTo size u k x → ⊥
       deep done k x y o e w = w
       deep (pick t u) zero x y o e w = h t y o.0 (tails (e ∙ ap (λ z. z ++ y) w))
       deep (pick t u) (suc k) x y o e w = h t (w.0 ++ y) o.0 (tails (e ∙ ap (λ z. z ++ y) w.1.0))
@@ -161,7 +161,7 @@ module _ (size : Size) where
       no (reply es) y i low g = omega (arith, heads g)
 
       -- nor is a turn too deep
-      deep : (u : Strategy) (x y : List ℕ) → IsInOrder size u → pick_symbol ∷ r ≡ x ++ y → EndsBelow size u (suc e) x → ⊥
+      deep : (u : Strategy) (x y : List ℕ) → IsInOrder size u → pick_symbol ∷ r ≡ x ++ y → IsTreeTextDownTo size u (suc e) x → ⊥
       deep done x y i g w = w
       deep (pick v u) x y i g w =
           h.1 (record {
@@ -201,7 +201,7 @@ module _ (size : Size) where
       no (reply es) y i low g = h.0 es y (record { in_order = i; shallow = low; text = tails g })
 
       -- nor is a turn too deep
-      deep : (u : Strategy) (k : ℕ) (x y : List ℕ) → IsInOrder size u → replies_symbol ∷ r ≡ x ++ y → EndsBelow size u k x →
+      deep : (u : Strategy) (k : ℕ) (x y : List ℕ) → IsInOrder size u → replies_symbol ∷ r ≡ x ++ y → IsTreeTextDownTo size u k x →
           (EntriesDeepAt size k 0 r → EntriesDeepAt size d 0 r) → ⊥
       deep done k x y i g w to = w
       deep (pick v u) zero x y i g w to = omega (arith, heads (g ∙ ap (λ z. z ++ y) w))

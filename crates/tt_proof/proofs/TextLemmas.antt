@@ -5,7 +5,7 @@ use Rattle.tt_sgf.specs.declared.size.Size.{Size}
 use Rattle.tt_game.specs.declared.turns.Turn.{Turn}
 use Rattle.tt_game.specs.declared.turns.Turn.TheVariants.{Play, Pass}
 use Rattle.tt_proof.specs.Strategy.{Strategy, Entries, done, pick, reply, none, entry, depth, depth_of_entries}
-use Rattle.tt_proof.specs.CertificateText.{first_byte, second_byte, tree_text, entries_text, EndsBelow, EndsInEntries}
+use Rattle.tt_proof.specs.CertificateText.{column_byte, row_byte, tree_text, entries_text, IsTreeTextDownTo, IsEntriesTextDownTo}
 
 pub heads : {a b : ℕ} {xs ys : List ℕ} → a ∷ xs ≡ b ∷ ys → a ≡ b
 heads e = cc
@@ -15,7 +15,7 @@ tails e = cc
 
 module _ (size : Size) (some : 1 ≤ size.columns) where
   -- the two bytes of a turn tell it
-  pub same_turn : (t v : Turn) → first_byte size t ≡ first_byte size v → second_byte size t ≡ second_byte size v → t ≡ v
+  pub same_turn : (t v : Turn) → column_byte size t ≡ column_byte size v → row_byte size t ≡ row_byte size v → t ≡ v
   same_turn (Play p) (Play q) a b =
       let rows : p / size.columns ≡ q / size.columns = omega (arith, b) in
       let base = ap (λ n. size.columns * n) rows in
@@ -26,7 +26,7 @@ module _ (size : Size) (some : 1 ≤ size.columns) where
   same_turn Pass Pass a b = refl
 
   -- no turn's text begins with `;`
-  pub turn_not_end : (t : Turn) → first_byte size t ≡ semicolon → ⊥
+  pub turn_not_end : (t : Turn) → column_byte size t ≡ semicolon → ⊥
   turn_not_end (Play p) e = omega (arith, e)
   turn_not_end Pass e = omega (arith, e)
 
@@ -59,7 +59,7 @@ module _ (size : Size) (some : 1 ≤ size.columns) where
         (ap (λ x. entry x u us) t_is ∙ ap (λ x. entry s x us) r.0 ∙ ap (λ x. entry s v x) q.0, q.1)
 
   -- what begins with `;` has no beginning that ends with a turn of entries
-  end_not_turn : (us : Entries) (d : ℕ) (x y z : List ℕ) → (semicolon ∷ []) ++ y ≡ x ++ z → EndsInEntries size us d x → ⊥
+  end_not_turn : (us : Entries) (d : ℕ) (x y z : List ℕ) → (semicolon ∷ []) ++ y ≡ x ++ z → IsEntriesTextDownTo size us d x → ⊥
   end_not_turn none d x y z e h = h
   end_not_turn (entry t u us) zero x y z e (inl h) = turn_not_end t (sym (heads (e ∙ ap (λ w. w ++ z) h)))
   end_not_turn (entry t u us) zero x y z e (inr h) = turn_not_end t (sym (heads (e ∙ ap (λ w. w ++ z) h.1.0)))
@@ -68,7 +68,7 @@ module _ (size : Size) (some : 1 ≤ size.columns) where
 
   mutual
     -- a text with no turn below d turns has no beginning that ends with one
-    pub not_deep : (v u : Strategy) (d : ℕ) (x y z : List ℕ) → depth v ≤ d → tree_text size v ++ y ≡ x ++ z → EndsBelow size u d x → ⊥
+    pub not_deep : (v u : Strategy) (d : ℕ) (x y z : List ℕ) → depth v ≤ d → tree_text size v ++ y ≡ x ++ z → IsTreeTextDownTo size u d x → ⊥
     not_deep v done d x y z low e h = absurd h
     not_deep done (pick t u) zero x y z low e h = absurd (omega (arith, heads (e ∙ ap (λ w. w ++ z) h)))
     not_deep done (pick t u) (suc d) x y z low e h = absurd (omega (arith, heads (e ∙ ap (λ w. w ++ z) h.1.0)))
@@ -83,7 +83,7 @@ module _ (size : Size) (some : 1 ≤ size.columns) where
 
     -- nor has a text of entries
     pub not_deep_behind : (vs us : Entries) (d : ℕ) (x y z : List ℕ) → depth_of_entries vs ≤ d → entries_text size vs ++ y ≡ x ++ z →
-        EndsInEntries size us d x → ⊥
+        IsEntriesTextDownTo size us d x → ⊥
     not_deep_behind none us d x y z low e h = absurd (end_not_turn us d x y z e h)
     not_deep_behind (entry s v vs) none d x y z low e h = absurd h
     not_deep_behind (entry s v vs) (entry t u us) zero x y z low e h = absurd (omega (arith, low))

@@ -6,7 +6,7 @@ use Rattle.tt_proof.specs.declared.certificate_read.CertFault.{CertFault}
 use Rattle.tt_proof.specs.declared.certificate_read.CertFault.TheVariants.{Syntax, TooDeep, NoMemory}
 use Rattle.tt_proof.specs.Strategy.{Strategy, depth}
 use Rattle.tt_proof.specs.CertificateText.{IsCertificate, IsTooDeep, side_prefix}
-use Rattle.tt_proof.specs.Outlines.{Outline, RefersBack, IsOrderly, IsSharedTooDeep, unfolded, outline_text}
+use Rattle.tt_proof.specs.Outlines.{Outline, RefersBack, IsOrderly, IsSharedCertTooDeep, unfolded, outline_text}
 
 -- the numbers of the refusals
 abbrev pub code_of : CertFault → ℕ
@@ -15,18 +15,18 @@ code_of TooDeep = 31
 code_of NoMemory = 40
 
 -- too deep where the bytes are; else no certificate, which is one of no side and tree
-abbrev pub IsFault : Size → List ℕ → CertFault → Type 0
-IsFault size bytes Syntax = ((side : Side) (u : Strategy) → IsCertificate size bytes side u → ⊥) × (IsTooDeep size bytes → ⊥)
-IsFault size bytes TooDeep = IsTooDeep size bytes
-IsFault size bytes NoMemory = Unit {0}
+abbrev pub IsCertFault : Size → List ℕ → CertFault → Type 0
+IsCertFault size bytes Syntax = ((side : Side) (u : Strategy) → IsCertificate size bytes side u → ⊥) × (IsTooDeep size bytes → ⊥)
+IsCertFault size bytes TooDeep = IsTooDeep size bytes
+IsCertFault size bytes NoMemory = Unit {0}
 
 -- with shared parts: too deep, and no certificate but one whose tree is deeper than that; else no certificate, however deep its tree
-abbrev pub IsSharedFault : Size → ℕ → List ℕ → CertFault → Type 0
-IsSharedFault size most_depth bytes Syntax =
+abbrev pub IsSharedCertFault : Size → ℕ → List ℕ → CertFault → Type 0
+IsSharedCertFault size most_depth bytes Syntax =
     ((side : Side) (o : Outline) → RefersBack [] o → IsOrderly size o → bytes ≡ side_prefix side ++ outline_text size o → ⊥)
-    × (IsSharedTooDeep size most_depth bytes → ⊥)
-IsSharedFault size most_depth bytes TooDeep =
-    IsSharedTooDeep size most_depth bytes
+    × (IsSharedCertTooDeep size most_depth bytes → ⊥)
+IsSharedCertFault size most_depth bytes TooDeep =
+    IsSharedCertTooDeep size most_depth bytes
     × ((side : Side) (o : Outline) → RefersBack [] o → IsOrderly size o → bytes ≡ side_prefix side ++ outline_text size o
     → most_depth < depth (unfolded [] o))
-IsSharedFault size most_depth bytes NoMemory = Unit {0}
+IsSharedCertFault size most_depth bytes NoMemory = Unit {0}

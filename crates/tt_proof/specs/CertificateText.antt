@@ -3,7 +3,7 @@ use Rattle.std.specs.Prelude.{◌≡◌, ℕ, zero, suc, ◌+◌, ◌/◌, ◌%�
 use Rattle.tt_sgf.specs.Bytes.{lower_a, semicolon, space}
 use Rattle.tt_sgf.specs.declared.size.Size.{Size}
 use Rattle.tt_game.specs.declared.frame.Side.{Side}
-use Rattle.tt_game.specs.Sides.{side_word}
+use Rattle.tt_game.specs.Sides.{verdict_word}
 use Rattle.tt_game.specs.declared.turns.Turn.{Turn}
 use Rattle.tt_game.specs.declared.turns.Turn.TheVariants.{Play, Pass}
 use Rattle.tt_proof.specs.declared.tree.TheConstants.{MOST_DEPTH}
@@ -26,27 +26,27 @@ dash = 45
 
 -- the word of the side that wins, and a blank
 abbrev pub side_prefix : Side → List ℕ
-side_prefix side = side_word side ++ space ∷ []
+side_prefix side = verdict_word side ++ space ∷ []
 
 module _ (size : Size) where
   -- the letter of the column, or a dash
-  abbrev pub first_byte : Turn → ℕ
-  first_byte (Play p) = lower_a + p % size.columns
-  first_byte Pass = dash
+  abbrev pub column_byte : Turn → ℕ
+  column_byte (Play p) = lower_a + p % size.columns
+  column_byte Pass = dash
 
   -- the letter of the row, or a dash
-  abbrev pub second_byte : Turn → ℕ
-  second_byte (Play p) = lower_a + p / size.columns
-  second_byte Pass = dash
+  abbrev pub row_byte : Turn → ℕ
+  row_byte (Play p) = lower_a + p / size.columns
+  row_byte Pass = dash
 
   -- `ca` is the third column of the first row, `--` a pass
   abbrev pub turn_text : Turn → List ℕ
-  turn_text t = first_byte t ∷ second_byte t ∷ []
+  turn_text t = column_byte t ∷ row_byte t ∷ []
 
   -- the same for people to read: a pass is `pass`
-  abbrev pub shown_turn : Turn → List ℕ
-  shown_turn (Play p) = turn_text (Play p)
-  shown_turn Pass = codes "pass"
+  abbrev pub readable_turn_text : Turn → List ℕ
+  readable_turn_text (Play p) = turn_text (Play p)
+  readable_turn_text Pass = codes "pass"
 
   abbrev mutual
     -- `.`, `!` with a turn and a tree, or `?` with turns and trees up to `;`
@@ -64,20 +64,20 @@ module _ (size : Size) where
 
   abbrev mutual
     -- x is a beginning of the tree's text that ends with a turn, and d turns lie above that one
-    pub EndsBelow : Strategy → ℕ → List ℕ → Type 0
-    EndsBelow done d x = ⊥
-    EndsBelow (pick t u) zero x = x ≡ pick_symbol ∷ turn_text t
-    EndsBelow (pick t u) (suc d) x = (y : List ℕ) × ((x ≡ pick_symbol ∷ (turn_text t ++ y)) × EndsBelow u d y)
-    EndsBelow (reply es) d x = (y : List ℕ) × ((x ≡ replies_symbol ∷ y) × EndsInEntries es d y)
+    pub IsTreeTextDownTo : Strategy → ℕ → List ℕ → Type 0
+    IsTreeTextDownTo done d x = ⊥
+    IsTreeTextDownTo (pick t u) zero x = x ≡ pick_symbol ∷ turn_text t
+    IsTreeTextDownTo (pick t u) (suc d) x = (y : List ℕ) × ((x ≡ pick_symbol ∷ (turn_text t ++ y)) × IsTreeTextDownTo u d y)
+    IsTreeTextDownTo (reply es) d x = (y : List ℕ) × ((x ≡ replies_symbol ∷ y) × IsEntriesTextDownTo es d y)
 
     -- so with the entries' text
-    pub EndsInEntries : Entries → ℕ → List ℕ → Type 0
-    EndsInEntries none d x = ⊥
-    EndsInEntries (entry t u es) zero x =
-        (x ≡ turn_text t) ⊎ ((y : List ℕ) × ((x ≡ turn_text t ++ (tree_text u ++ y)) × EndsInEntries es zero y))
-    EndsInEntries (entry t u es) (suc d) x =
-        ((y : List ℕ) × ((x ≡ turn_text t ++ y) × EndsBelow u d y))
-        ⊎ ((y : List ℕ) × ((x ≡ turn_text t ++ (tree_text u ++ y)) × EndsInEntries es (suc d) y))
+    pub IsEntriesTextDownTo : Entries → ℕ → List ℕ → Type 0
+    IsEntriesTextDownTo none d x = ⊥
+    IsEntriesTextDownTo (entry t u es) zero x =
+        (x ≡ turn_text t) ⊎ ((y : List ℕ) × ((x ≡ turn_text t ++ (tree_text u ++ y)) × IsEntriesTextDownTo es zero y))
+    IsEntriesTextDownTo (entry t u es) (suc d) x =
+        ((y : List ℕ) × ((x ≡ turn_text t ++ y) × IsTreeTextDownTo u d y))
+        ⊎ ((y : List ℕ) × ((x ≡ turn_text t ++ (tree_text u ++ y)) × IsEntriesTextDownTo es (suc d) y))
 
   -- the bytes are the certificate of this side and tree, which is in order and has at most 512 turns on each way down
   pub record IsCertificate (bytes : List ℕ) (side : Side) (u : Strategy) : Type 0 where
@@ -92,5 +92,5 @@ module _ (size : Size) where
     pub beginning : List ℕ
     pub follows : List ℕ
     pub in_order : IsInOrder size tree
-    pub ends : EndsBelow tree MOST_DEPTH beginning
+    pub ends : IsTreeTextDownTo tree MOST_DEPTH beginning
     pub text : bytes ≡ side_prefix side ++ (beginning ++ follows)

@@ -11,17 +11,17 @@ use Rattle.tt_game.specs.declared.frame.Frame.{Frame}
 use Rattle.tt_game.specs.declared.turns.Turn.{Turn}
 use Rattle.tt_game.specs.declared.turns.Turn.TheVariants.{Play, Pass}
 use Rattle.tt_proof.specs.Strategy.{Strategy, Entries, done, pick, reply, none, entry}
-use Rattle.tt_proof.specs.Proven.{Proven}
+use Rattle.tt_proof.specs.ProofClaim.{ProofClaim}
 
 -- the path from a state on, after one more turn: a play appends the colouring that it makes, a pass nothing
-abbrev pub longer : Frame → State → Turn → List Colouring → List Colouring
-longer f s Pass path = path
-longer f s (Play p) path = path ++ made f s p ∷ []
+abbrev pub path_after_turn : Frame → State → Turn → List Colouring → List Colouring
+path_after_turn f s Pass path = path
+path_after_turn f s (Play p) path = path ++ made f s p ∷ []
 
 -- the turn is a play, and makes the colouring
-abbrev pub Makes : Frame → State → Turn → Colouring → Type 0
-Makes f s Pass c = ⊥
-Makes f s (Play p) c = made f s p ≡ c
+abbrev pub MakesColouring : Frame → State → Turn → Colouring → Type 0
+MakesColouring f s Pass c = ⊥
+MakesColouring f s (Play p) c = made f s p ≡ c
 
 module _ (f : Frame) where
   -- a play on an empty point of the region would make the colouring, which the history h has and the path has not
@@ -37,20 +37,20 @@ module _ (f : Frame) where
       -- would not
       pub IsNeeded : Strategy → List Colouring → State → Colouring → Type 0
       IsNeeded done path s c = ⊥
-      IsNeeded (pick t u) path s c = IsLegal f s t × IsNeeded u (longer f s t path) (after f s t) c
+      IsNeeded (pick t u) path s c = IsLegal f s t × IsNeeded u (path_after_turn f s t path) (after f s t) c
       IsNeeded (reply es) path s c = IsRepeated h path s c ⊎ IsNeededBehind es path s c
 
       -- so does the strategy of some entry
       pub IsNeededBehind : Entries → List Colouring → State → Colouring → Type 0
       IsNeededBehind none path s c = ⊥
       IsNeededBehind (entry t u es) path s c =
-          (IsLegal f s t × IsNeeded u (longer f s t path) (after f s t) c) ⊎ IsNeededBehind es path s c
+          (IsLegal f s t × IsNeeded u (path_after_turn f s t path) (after f s t) c) ⊎ IsNeededBehind es path s c
 
   abbrev mutual
     -- the strategy avoids the colouring: its own play at a reached pick makes it
     pub IsAvoided : Strategy → State → Colouring → Type 0
     IsAvoided done s c = ⊥
-    IsAvoided (pick t u) s c = IsLegal f s t × (Makes f s t c ⊎ IsAvoided u (after f s t) c)
+    IsAvoided (pick t u) s c = IsLegal f s t × (MakesColouring f s t c ⊎ IsAvoided u (after f s t) c)
     IsAvoided (reply es) s c = IsAvoidedBehind es s c
 
     -- so does the strategy of some entry
@@ -68,7 +68,7 @@ module _ (f : Frame) where
     -- so does the strategy of some entry
     pub IsMetBehind : Entries → State → Colouring → Type 0
     IsMetBehind none s c = ⊥
-    IsMetBehind (entry t u es) s c = (IsLegal f s t × (Makes f s t c ⊎ IsMet u (after f s t) c)) ⊎ IsMetBehind es s c
+    IsMetBehind (entry t u es) s c = (IsLegal f s t × (MakesColouring f s t c ⊎ IsMet u (after f s t) c)) ⊎ IsMetBehind es s c
 
 -- the strategy, from s, fits s': the position is the same, and the history has all that it needs and nothing that it avoids
 pub record Fits (f : Frame) (u : Strategy) (s s' : State) : Type 0 where
@@ -79,5 +79,5 @@ pub record Fits (f : Frame) (u : Strategy) (s s' : State) : Type 0 where
   pub avoids : (c : Colouring) → IsAvoided f u s c → Contains (history s') c → ⊥
 
 -- the proof may be moved to this state of this frame
-abbrev pub FitsAt : Proven → Frame → State → Type 0
+abbrev pub FitsAt : ProofClaim → Frame → State → Type 0
 FitsAt p f s = (p.frame ≡ f) × Fits p.frame p.tree p.state s

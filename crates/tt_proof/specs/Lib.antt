@@ -3,10 +3,10 @@ pub mod Strategy
 pub mod Nodes
 pub mod Wins
 pub mod Footprints
-pub mod Bounds
+pub mod BoardBounds
 pub mod KeptFootprints
 pub mod StrategyLaws
-pub mod Proven
+pub mod ProofClaim
 pub mod Rejections
 pub mod CertificateText
 pub mod CertificateFaults

@@ -25,32 +25,32 @@ mutual
     branch : Turn → Outline → Branches → Branches
 
 -- the trees of all names, with one more where the tree has a name
-abbrev pub with_name : Bool → Strategy → List Strategy → List Strategy
-with_name true u us = us ++ u ∷ []
-with_name false u us = us
+abbrev pub with_named_tree : Bool → Strategy → List Strategy → List Strategy
+with_named_tree true u us = us ++ u ∷ []
+with_named_tree false u us = us
 
 abbrev mutual
   -- the strategy that an outline is, with the trees put in that the names before it stand for
   pub unfolded : List Strategy → Outline → Strategy
   unfolded us ended = done
   unfolded us (picked n t o) = pick t (unfolded us o)
-  unfolded us (replied n bs) = reply (entries_with us bs)
+  unfolded us (replied n bs) = reply (unfolded_entries us bs)
   unfolded us (part k) = get_or us k done
 
-  pub entries_with : List Strategy → Branches → Entries
-  entries_with us no_branch = none
-  entries_with us (branch t o bs) = entry t (unfolded us o) (entries_with (names_behind us o) bs)
+  pub unfolded_entries : List Strategy → Branches → Entries
+  unfolded_entries us no_branch = none
+  unfolded_entries us (branch t o bs) = entry t (unfolded us o) (unfolded_entries (named_trees_after us o) bs)
 
   -- the trees of all names behind an outline: names are numbers, in the order in which the named trees end
-  pub names_behind : List Strategy → Outline → List Strategy
-  names_behind us ended = us
-  names_behind us (picked n t o) = with_name n (pick t (unfolded us o)) (names_behind us o)
-  names_behind us (replied n bs) = with_name n (reply (entries_with us bs)) (names_behind_all us bs)
-  names_behind us (part k) = us
+  pub named_trees_after : List Strategy → Outline → List Strategy
+  named_trees_after us ended = us
+  named_trees_after us (picked n t o) = with_named_tree n (pick t (unfolded us o)) (named_trees_after us o)
+  named_trees_after us (replied n bs) = with_named_tree n (reply (unfolded_entries us bs)) (named_trees_after_branches us bs)
+  named_trees_after us (part k) = us
 
-  pub names_behind_all : List Strategy → Branches → List Strategy
-  names_behind_all us no_branch = us
-  names_behind_all us (branch t o bs) = names_behind_all (names_behind us o) bs
+  pub named_trees_after_branches : List Strategy → Branches → List Strategy
+  named_trees_after_branches us no_branch = us
+  named_trees_after_branches us (branch t o bs) = named_trees_after_branches (named_trees_after us o) bs
 
 abbrev mutual
   -- a name stands only for a tree that has ended before, and has nine digits at the most
@@ -62,7 +62,7 @@ abbrev mutual
 
   pub BranchesReferBack : List Strategy → Branches → Type 0
   BranchesReferBack us no_branch = Unit {0}
-  BranchesReferBack us (branch t o bs) = RefersBack us o × BranchesReferBack (names_behind us o) bs
+  BranchesReferBack us (branch t o bs) = RefersBack us o × BranchesReferBack (named_trees_after us o) bs
 
 abbrev mutual
   -- the turns lie on the board, and those of each reply rise by their numbers
@@ -109,39 +109,39 @@ module _ (size : Size) where
     pub text : bytes ≡ side_prefix side ++ outline_text o
 
 -- no decimal digit stands in front
-abbrev pub NoDigit : List ℕ → Type 0
-NoDigit [] = Unit {0}
-NoDigit (b ∷ bs) = (48 ≤ b) × (b ≤ 57) → ⊥
+abbrev pub HasNoDigitInFront : List ℕ → Type 0
+HasNoDigitInFront [] = Unit {0}
+HasNoDigitInFront (b ∷ bs) = (48 ≤ b) × (b ≤ 57) → ⊥
 
 module _ (size : Size) where
   abbrev mutual
     -- the bytes begin as the outline's text does, up to where its tree goes deeper than so many turns: up to a turn with as many
     -- above it, or to the whole name of a tree that is too deep there
-    pub GoesDeep : List Strategy → ℕ → Outline → List ℕ → Type 0
-    GoesDeep us left ended r = ⊥
-    GoesDeep us zero (picked n t o) r = (y : List ℕ) × (r ≡ name_text n ++ (pick_symbol ∷ (turn_text size t ++ y)))
-    GoesDeep us (suc left) (picked n t o) r =
-        (y : List ℕ) × ((r ≡ name_text n ++ (pick_symbol ∷ (turn_text size t ++ y))) × GoesDeep us left o y)
-    GoesDeep us left (replied n bs) r = (y : List ℕ) × ((r ≡ name_text n ++ (replies_symbol ∷ y)) × GoDeep us left bs y)
-    GoesDeep us left (part k) r =
-        (y : List ℕ) × ((r ≡ part_symbol ∷ (decimal k ++ y)) × NoDigit y × (left < depth (get_or us k done)))
+    pub OutlineGoesDeep : List Strategy → ℕ → Outline → List ℕ → Type 0
+    OutlineGoesDeep us left ended r = ⊥
+    OutlineGoesDeep us zero (picked n t o) r = (y : List ℕ) × (r ≡ name_text n ++ (pick_symbol ∷ (turn_text size t ++ y)))
+    OutlineGoesDeep us (suc left) (picked n t o) r =
+        (y : List ℕ) × ((r ≡ name_text n ++ (pick_symbol ∷ (turn_text size t ++ y))) × OutlineGoesDeep us left o y)
+    OutlineGoesDeep us left (replied n bs) r = (y : List ℕ) × ((r ≡ name_text n ++ (replies_symbol ∷ y)) × BranchesGoDeep us left bs y)
+    OutlineGoesDeep us left (part k) r =
+        (y : List ℕ) × ((r ≡ part_symbol ∷ (decimal k ++ y)) × HasNoDigitInFront y × (left < depth (get_or us k done)))
 
     -- so with the branches' text
-    pub GoDeep : List Strategy → ℕ → Branches → List ℕ → Type 0
-    GoDeep us left no_branch r = ⊥
-    GoDeep us zero (branch t o bs) r = (y : List ℕ) × (r ≡ turn_text size t ++ y)
-    GoDeep us (suc left) (branch t o bs) r =
-        ((y : List ℕ) × ((r ≡ turn_text size t ++ y) × GoesDeep us left o y))
-        ⊎ ((y : List ℕ) × ((r ≡ turn_text size t ++ (outline_text size o ++ y)) × GoDeep (names_behind us o) (suc left) bs y))
+    pub BranchesGoDeep : List Strategy → ℕ → Branches → List ℕ → Type 0
+    BranchesGoDeep us left no_branch r = ⊥
+    BranchesGoDeep us zero (branch t o bs) r = (y : List ℕ) × (r ≡ turn_text size t ++ y)
+    BranchesGoDeep us (suc left) (branch t o bs) r =
+        ((y : List ℕ) × ((r ≡ turn_text size t ++ y) × OutlineGoesDeep us left o y))
+        ⊎ ((y : List ℕ) × ((r ≡ turn_text size t ++ (outline_text size o ++ y)) × BranchesGoDeep (named_trees_after us o) (suc left) bs y))
 
   -- the bytes begin as a certificate with shared parts does whose tree has more than so many turns on some way down, up to there
-  pub record IsSharedTooDeep (most : ℕ) (bytes : List ℕ) : Type 0 where
+  pub record IsSharedCertTooDeep (most : ℕ) (bytes : List ℕ) : Type 0 where
     pub side : Side
     pub outline : Outline
     pub behind : List ℕ
     pub closed : RefersBack [] outline
     pub orderly : IsOrderly size outline
-    pub deep : GoesDeep [] most outline behind
+    pub deep : OutlineGoesDeep [] most outline behind
     pub text : bytes ≡ side_prefix side ++ behind
 
 -- ---- the outline that a value of the program is, whatever memory it lies in
@@ -149,16 +149,16 @@ abbrev pub branches_of : List (Turn × Outline) → Branches
 branches_of [] = no_branch
 branches_of (b ∷ bs) = branch b.0 b.1 (branches_of bs)
 
-abbrev pub outline_step : layer.Outline-F Outline → Outline
-outline_step layer.Done = ended
-outline_step (layer.Pick n t b) = picked n t b.value
-outline_step (layer.Reply n b) = replied n (branches_of b.value.items)
-outline_step (layer.Part k) = part k
+abbrev pub outline_of_layer : layer.Outline-F Outline → Outline
+outline_of_layer layer.Done = ended
+outline_of_layer (layer.Pick n t b) = picked n t b.value
+outline_of_layer (layer.Reply n b) = replied n (branches_of b.value.items)
+outline_of_layer (layer.Part k) = part k
 
 unfoldable pub outline_of : form.Outline → Outline
-outline_of = form.fold-Outline Outline outline_step
+outline_of = form.fold-Outline Outline outline_of_layer
 
 -- the branches that the list of a `Reply` is
-abbrev pub branches_of_list : List (Turn × form.Outline) → Branches
-branches_of_list [] = no_branch
-branches_of_list (b ∷ bs) = branch b.0 (outline_of b.1) (branches_of_list bs)
+abbrev pub branches_of_reply : List (Turn × form.Outline) → Branches
+branches_of_reply [] = no_branch
+branches_of_reply (b ∷ bs) = branch b.0 (outline_of b.1) (branches_of_reply bs)

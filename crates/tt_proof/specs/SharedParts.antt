@@ -11,20 +11,20 @@ use Rattle.tt_proof.specs.declared.position_footprint.PositionFootprint.{Positio
 use Rattle.tt_proof.specs.declared.outline_replay.ReplayResult.{ReplayResult}
 use Rattle.tt_proof.specs.declared.outline_replay.ReplayResult.TheVariants.{Won, Lost, Unfit}
 use Rattle.tt_proof.specs.Outlines.{Outline, Branches, ended, picked, replied, part, no_branch, branch}
-use Rattle.tt_proof.specs.Footprints.{IsRepeated, Makes}
-use Rattle.tt_proof.specs.KeptFootprints.{frame_board}
+use Rattle.tt_proof.specs.Footprints.{IsRepeated, MakesColouring}
+use Rattle.tt_proof.specs.KeptFootprints.{board_of_colouring}
 
 -- ---- what a tree rests on: a position, boards that a history needs, and boards that it has to avoid
 
 module _ (f : Frame) where
   -- the position is the state's
   pub record HasPosition (s : State) (x : PositionFootprint) : Type 0 where
-    pub present : x.board ≡ frame_board f s.present
+    pub present : x.board ≡ board_of_colouring f s.present
     pub to_move : x.to_move ≡ s.to_move
     pub passes : x.passes ≡ s.passes
 
   -- a tree that rests on this fits at the state: the history has all that is needed and nothing that is avoided
-  pub record Meets (x : PositionFootprint) (s : State) : Type 0 where
+  pub record FootprintFits (x : PositionFootprint) (s : State) : Type 0 where
     pub position : HasPosition s x
     pub needs : (b : Position) → Contains x.needs b → HasBoard f s b
     pub avoids : (b : Position) → Contains x.avoids b → HasBoard f s b → ⊥
@@ -43,7 +43,7 @@ module _ (f : Frame) where
 
   -- the turn is a play, and makes the board
   abbrev pub MakesBoard : State → Turn → Position → Type 0
-  MakesBoard s t b = (b.size ≡ f.size) × Makes f s t b.points
+  MakesBoard s t b = (b.size ≡ f.size) × MakesColouring f s t b.points
 
   -- in front of a turn of the side: the board that the turn makes is no more needed, and has to be avoided
   pub record RestsBeforePick (s : State) (t : Turn) (behind x : PositionFootprint) : Type 0 where
@@ -98,10 +98,10 @@ kept_footprint Lost = None
 kept_footprint Unfit = None
 
 -- whether the tree wins; none where a part doesn't fit
-abbrev pub answer_of : ReplayResult → Option Bool
-answer_of (Won x) = Some true
-answer_of Lost = Some false
-answer_of Unfit = None
+abbrev pub wins_if_fit : ReplayResult → Option Bool
+wins_if_fit (Won x) = Some true
+wins_if_fit Lost = Some false
+wins_if_fit Unfit = None
 
 -- one more where the tree has a name
 abbrev pub with_named_footprint : Bool → Option PositionFootprint → NamedFootprints → NamedFootprints
@@ -110,22 +110,22 @@ with_named_footprint false n ns = ns
 
 abbrev mutual
   -- all names behind an outline that no play reaches
-  pub unreached : NamedFootprints → Outline → NamedFootprints
-  unreached ns ended = ns
-  unreached ns (picked n t o) = with_named_footprint n None (unreached ns o)
-  unreached ns (replied n bs) = with_named_footprint n None (unreached_all ns bs)
-  unreached ns (part k) = ns
+  pub with_unreached_names : NamedFootprints → Outline → NamedFootprints
+  with_unreached_names ns ended = ns
+  with_unreached_names ns (picked n t o) = with_named_footprint n None (with_unreached_names ns o)
+  with_unreached_names ns (replied n bs) = with_named_footprint n None (with_unreached_branch_names ns bs)
+  with_unreached_names ns (part k) = ns
 
-  pub unreached_all : NamedFootprints → Branches → NamedFootprints
-  unreached_all ns no_branch = ns
-  unreached_all ns (branch t o bs) = unreached_all (unreached ns o) bs
+  pub with_unreached_branch_names : NamedFootprints → Branches → NamedFootprints
+  with_unreached_branch_names ns no_branch = ns
+  with_unreached_branch_names ns (branch t o bs) = with_unreached_branch_names (with_unreached_names ns o) bs
 
 module _ (f : Frame) where
   -- on the tree with a name, where the name stands for it
-  abbrev pub IsResultOfName : Option PositionFootprint → State → ReplayResult → Type 0
-  IsResultOfName n s (Won x) = (n ≡ Some x) × Meets f x s
-  IsResultOfName n s Lost = ⊥
-  IsResultOfName n s Unfit = (x : PositionFootprint) → n ≡ Some x → Meets f x s → ⊥
+  abbrev pub IsResultOfPart : Option PositionFootprint → State → ReplayResult → Type 0
+  IsResultOfPart n s (Won x) = (n ≡ Some x) × FootprintFits f x s
+  IsResultOfPart n s Lost = ⊥
+  IsResultOfPart n s Unfit = (x : PositionFootprint) → n ≡ Some x → FootprintFits f x s → ⊥
 
   -- on a reply, by what is found on all its branches: each legal turn needs one
   abbrev pub IsResultOfReply : State → Branches → ReplayResult → ReplayResult → Type 0
@@ -137,10 +137,10 @@ module _ (f : Frame) where
 
 module _ (side : Side) (f : Frame) where
   -- on an ended tree
-  abbrev pub IsResultOfEnd : State → ReplayResult → Type 0
-  IsResultOfEnd s (Won x) = (winner_of f s ≡ Some side) × RestsOnPosition f s x
-  IsResultOfEnd s Lost = winner_of f s ≡ Some side → ⊥
-  IsResultOfEnd s Unfit = ⊥
+  abbrev pub IsResultOfDone : State → ReplayResult → Type 0
+  IsResultOfDone s (Won x) = (winner_of f s ≡ Some side) × RestsOnPosition f s x
+  IsResultOfDone s Lost = winner_of f s ≡ Some side → ⊥
+  IsResultOfDone s Unfit = ⊥
 
   -- on a node, by what is found behind it. Where no play leads on, the names are those that are skipped.
   module _ (s : State) (Behind : ReplayResult → NamedFootprints → Type 0) (skipped : NamedFootprints) (r : ReplayResult) (ms : NamedFootprints) where
@@ -163,26 +163,26 @@ module _ (side : Side) (f : Frame) where
         ⊎ ((winner_of f s ≡ None → s.to_move ≡ opponent side → ⊥) × (r ≡ Lost) × (ms ≡ skipped))
 
   -- on branches, with what plays would repeat
-  abbrev pub WithRepeats : State → (ReplayResult → NamedFootprints → Type 0) → ReplayResult → NamedFootprints → Type 0
-  WithRepeats s Behind r ms = (x : PositionFootprint) × (RestsOnRepeats f s x × ((q : ReplayResult) × (Behind q ms × CombinesTo (Won x) q r)))
+  abbrev pub FindsWithRepeats : State → (ReplayResult → NamedFootprints → Type 0) → ReplayResult → NamedFootprints → Type 0
+  FindsWithRepeats s Behind r ms = (x : PositionFootprint) × (RestsOnRepeats f s x × ((q : ReplayResult) × (Behind q ms × CombinesTo (Won x) q r)))
 
   abbrev mutual
     -- on an outline at a state, by what the names before it rest on; the last list says what all names behind it rest on
     pub FindsOutline : NamedFootprints → Outline → State → ReplayResult → NamedFootprints → Type 0
-    FindsOutline ns ended s r ms = IsResultOfEnd s r × (ms ≡ ns)
+    FindsOutline ns ended s r ms = IsResultOfDone s r × (ms ≡ ns)
     FindsOutline ns (picked n t o) s r ms =
-        (ls : NamedFootprints) × ((ms ≡ with_named_footprint n (kept_footprint r) ls) × PickFinds s (FindsOutline ns o (after f s t)) (unreached ns o) r ls t)
+        (ls : NamedFootprints) × ((ms ≡ with_named_footprint n (kept_footprint r) ls) × PickFinds s (FindsOutline ns o (after f s t)) (with_unreached_names ns o) r ls t)
     FindsOutline ns (replied n bs) s r ms =
-        (ls : NamedFootprints) × ((ms ≡ with_named_footprint n (kept_footprint r) ls) × ReplyFinds s (WithRepeats s (FindsBranches ns bs s)) (unreached_all ns bs) r ls bs)
-    FindsOutline ns (part k) s r ms = IsResultOfName f (get_or ns k None) s r × (ms ≡ ns)
+        (ls : NamedFootprints) × ((ms ≡ with_named_footprint n (kept_footprint r) ls) × ReplyFinds s (FindsWithRepeats s (FindsBranches ns bs s)) (with_unreached_branch_names ns bs) r ls bs)
+    FindsOutline ns (part k) s r ms = IsResultOfPart f (get_or ns k None) s r × (ms ≡ ns)
 
     -- on branches together
     pub FindsBranches : NamedFootprints → Branches → State → ReplayResult → NamedFootprints → Type 0
     FindsBranches ns no_branch s r ms = ((x : PositionFootprint) × ((r ≡ Won x) × RestsOnPosition f s x)) × (ms ≡ ns)
     FindsBranches ns (branch t o bs) s r ms =
         (q : ReplayResult) × ((p : ReplayResult) × ((ls : NamedFootprints) × (
-        BranchFinds s (FindsOutline ns o (after f s t)) (unreached ns o) q ls t × FindsBranches ls bs s p ms × CombinesTo q p r)))
+        BranchFinds s (FindsOutline ns o (after f s t)) (with_unreached_names ns o) q ls t × FindsBranches ls bs s p ms × CombinesTo q p r)))
 
   -- the answer on a whole outline
-  abbrev pub SharedPartsSay : Outline → State → Option Bool → Type 0
-  SharedPartsSay o s a = (r : ReplayResult) × ((ms : NamedFootprints) × (FindsOutline [] o s r ms × (a ≡ answer_of r)))
+  abbrev pub IsOutlineAnswer : Outline → State → Option Bool → Type 0
+  IsOutlineAnswer o s a = (r : ReplayResult) × ((ms : NamedFootprints) × (FindsOutline [] o s r ms × (a ≡ wins_if_fit r)))

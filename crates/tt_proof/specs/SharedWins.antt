@@ -5,8 +5,8 @@ use Rattle.tt_game.specs.declared.frame.Frame.{Frame}
 use Rattle.tt_game.specs.declared.frame.Side.{Side}
 use Rattle.tt_game.specs.declared.turns.Turn.{Turn}
 use Rattle.tt_proof.specs.Outlines.{Outline, IsSharedCertificate, unfolded}
-use Rattle.tt_proof.specs.Proven.{first_of}
-use Rattle.tt_proof.specs.SharedParts.{SharedPartsSay}
+use Rattle.tt_proof.specs.ProofClaim.{first_turn_of}
+use Rattle.tt_proof.specs.SharedParts.{IsOutlineAnswer}
 use Rattle.tt_proof.specs.Strategy.{depth}
 use Rattle.tt_proof.specs.Wins.{Wins}
 
@@ -16,6 +16,6 @@ pub record IsWinningSharedCertificate (f : Frame) (s : State) (side : Side) (fir
   pub outline : Outline
   pub is : IsSharedCertificate f.size bytes side outline
   pub wins : Wins side f (unfolded [] outline) s
-  pub fits : SharedPartsSay side f outline s None → ⊥
+  pub fits : IsOutlineAnswer side f outline s None → ⊥
   pub shallow : depth (unfolded [] outline) ≤ most
-  pub begins : first ≡ first_of (unfolded [] outline)
+  pub begins : first ≡ first_turn_of (unfolded [] outline)

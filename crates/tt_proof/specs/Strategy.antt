@@ -46,16 +46,16 @@ abbrev pub entries_of : List (Turn × Strategy) → Entries
 entries_of [] = none
 entries_of (e ∷ es) = entry e.0 e.1 (entries_of es)
 
-abbrev pub strategy_step : layer.Tree-F Strategy → Strategy
-strategy_step layer.Done = done
-strategy_step (layer.Pick t b) = pick t b.value
-strategy_step (layer.Reply b) = reply (entries_of b.value.items)
+abbrev pub strategy_of_layer : layer.Tree-F Strategy → Strategy
+strategy_of_layer layer.Done = done
+strategy_of_layer (layer.Pick t b) = pick t b.value
+strategy_of_layer (layer.Reply b) = reply (entries_of b.value.items)
 
 -- the strategy that a tree is, whatever memory it lies in
 unfoldable pub strategy_of : Tree → Strategy
-strategy_of = fold-Tree Strategy strategy_step
+strategy_of = fold-Tree Strategy strategy_of_layer
 
 -- the entries that the list of a `Reply` is
-abbrev pub entries_of_list : List (Turn × Tree) → Entries
-entries_of_list [] = none
-entries_of_list (e ∷ es) = entry e.0 (strategy_of e.1) (entries_of_list es)
+abbrev pub entries_of_reply : List (Turn × Tree) → Entries
+entries_of_reply [] = none
+entries_of_reply (e ∷ es) = entry e.0 (strategy_of e.1) (entries_of_reply es)

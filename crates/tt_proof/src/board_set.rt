@@ -111,7 +111,7 @@ fn is_among(board: &Board, boards: &[Board]) -> bool
 }
 
 /// The one of two lists whose last hash is greater, or which alone has one, gives its last board.
-fn take_greatest(left: &mut BoardSet, right: &mut BoardSet) -> Option<SharedBoard>
+fn pop_greatest_hash(left: &mut BoardSet, right: &mut BoardSet) -> Option<SharedBoard>
     ensures { MatchOption result ((left.old ≡ []) × (right.old ≡ [])) (λ x. IsOneLess left.old left.new right.old right.new x) }
 {
     let Some(a) = left.last_hash() else {
@@ -204,7 +204,7 @@ impl BoardSet {
     }
 
     /// Whether the board is one of the last ones, of those that have its hash.
-    fn ends_with(&self, board: &SharedBoard) -> bool
+    fn has_in_last_hash_run(&self, board: &SharedBoard) -> bool
         ensures { IsTrue result → Contains self.now board.now }
     {
         for k in (0..self.boards.len()).rev() {
@@ -228,10 +228,10 @@ impl BoardSet {
     }
 
     /// Adds a board behind all others, where it isn't one of the last ones, of those that have its hash.
-    fn put(&mut self, board: SharedBoard) -> Result<(), NoMemory>
+    fn push_if_new(&mut self, board: SharedBoard) -> Result<(), NoMemory>
         ensures { OnOk result ((b : Position) → Contains self.new b ↔ (Contains self.old b ⊎ (b ≡ board))) }
     {
-        if self.ends_with(&board) {
+        if self.has_in_last_hash_run(&board) {
             return Ok(());
         }
         self.push(board)
@@ -245,12 +245,12 @@ impl BoardSet {
     }
 
     /// Adds the boards of two lists, in falling order where both rise.
-    fn put_falling(&mut self, left: BoardSet, right: BoardSet) -> Result<(), NoMemory>
+    fn put_merged_falling(&mut self, left: BoardSet, right: BoardSet) -> Result<(), NoMemory>
         ensures { OnOk result ((b : Position) → Contains self.new b ↔ (Contains self.old b ⊎ (Contains left b ⊎ Contains right b))) }
     {
         let (mut left, mut right) = (left, right);
-        while let Some(board) = take_greatest(&mut left, &mut right) {
-            self.put(board)?;
+        while let Some(board) = pop_greatest_hash(&mut left, &mut right) {
+            self.push_if_new(board)?;
         }
         Ok(())
     }
@@ -262,7 +262,7 @@ impl BoardSet {
         let alloc = *self.boards.allocator();
         let mine = mem::replace(self, BoardSet::new(alloc));
         self.boards.reserve_exact(mine.boards.len())?;
-        self.put_falling(mine, others)?;
+        self.put_merged_falling(mine, others)?;
         self.reverse();
         Ok(())
     }
@@ -283,7 +283,7 @@ impl BoardSet {
     }
 
     /// Takes the handle at a place out.
-    fn take_out(&mut self, k: usize)
+    fn remove_at(&mut self, k: usize)
         requires { k < length self.old }
         ensures few { length self.new < length self.old }
         ensures others { (b : Position) → Contains self.old b ↔ (Contains self.new b ⊎ (get_or self.old k b ≡ b)) }
@@ -296,12 +296,12 @@ impl BoardSet {
         ensures { (b : Position) → Contains self.new b ↔ (Contains self.old b × (b ≢ board.now)) }
     {
         while let Some(k) = self.index_of(board) {
-            self.take_out(k);
+            self.remove_at(k);
         }
     }
 
     /// The place of the first board whose hash isn't less, where the hashes rise.
-    fn index_for(&self, hash: u64) -> usize
+    fn insertion_index(&self, hash: u64) -> usize
         ensures { result ≤ length self.now }
     {
         let mut low = 0;
@@ -318,7 +318,7 @@ impl BoardSet {
     }
 
     /// Whether the board is one of those from this place on, of the first ones that have its hash.
-    fn has_from(&self, from: usize, board: &SharedBoard) -> bool
+    fn has_in_hash_run(&self, from: usize, board: &SharedBoard) -> bool
         ensures { IsTrue result → Contains self.now board.now }
     {
         for k in from..self.boards.len() {
@@ -333,7 +333,7 @@ impl BoardSet {
     }
 
     /// Adds a board at a place.
-    fn put_at(&mut self, k: usize, board: SharedBoard) -> Result<(), NoMemory>
+    fn insert_at_index(&mut self, k: usize, board: SharedBoard) -> Result<(), NoMemory>
         requires { k ≤ length self.old }
         ensures { OnOk result ((b : Position) → Contains self.new b ↔ (Contains self.old b ⊎ (b ≡ board))) }
     {
@@ -347,11 +347,11 @@ impl BoardSet {
         ensures { OnOk result ((b : Position) → Contains self.new b ↔ (Contains self.old b ⊎ (b ≡ board.now))) }
     {
         let made = SharedBoard::of(alloc, board)?;
-        let k = self.index_for(made.hash);
-        if self.has_from(k, &made) {
+        let k = self.insertion_index(made.hash);
+        if self.has_in_hash_run(k, &made) {
             return Ok(());
         }
-        self.put_at(k, made)
+        self.insert_at_index(k, made)
     }
 
     /// The same boards again, by handles.
@@ -378,7 +378,7 @@ impl BoardSet {
     }
 
     /// Whether all are boards of the line's history.
-    pub fn all_in(&self, line: &Line) -> bool
+    pub fn all_in_history(&self, line: &Line) -> bool
         ensures { IsTrue result ↔ ((b : Position) → Contains self.now b → HasBoard line.now.frame line.now.state b) }
     {
         for held in &self.boards {
@@ -390,7 +390,7 @@ impl BoardSet {
     }
 
     /// Whether none is a board of the line's history.
-    pub fn none_in(&self, line: &Line) -> bool
+    pub fn none_in_history(&self, line: &Line) -> bool
         ensures { IsTrue result ↔ ((b : Position) → Contains self.now b → HasBoard line.now.frame line.now.state b → ⊥) }
     {
         for held in &self.boards {

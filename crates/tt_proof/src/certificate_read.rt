@@ -5,10 +5,10 @@ ghost use Rattle.tt_sgf.specs.Bytes.{lower_a, semicolon};
 ghost use Rattle.tt_sgf.specs.Sizes.{point_count};
 ghost use Rattle.tt_sgf.specs.declared.size.TheConstants.{MOST_POINTS};
 ghost use Rattle.tt_game.specs.declared.turns.Turn.{Turn};
-ghost use Rattle.tt_proof.specs.Strategy.{strategy_of, entries_of_list, number_on, IsOnBoard};
+ghost use Rattle.tt_proof.specs.Strategy.{strategy_of, entries_of_reply, number_on, IsOnBoard};
 ghost use Rattle.tt_proof.specs.CertificateText.{pick_symbol, replies_symbol, turn_text, side_prefix, IsCertificate, IsTooDeep};
 ghost use Rattle.tt_proof.specs.inside.CertificateReading.{TreeAt, EntriesAt, FaultAt, EntriesFaultAt};
-ghost use Rattle.tt_proof.specs.CertificateFaults.{IsFault, code_of};
+ghost use Rattle.tt_proof.specs.CertificateFaults.{IsCertFault, code_of};
 
 use crate::tree::{MOST_DEPTH, Tree};
 use std::alloc::Global;
@@ -85,7 +85,7 @@ pub(crate) fn read_turn(bytes: &[u8], size: Size) -> Option<(Turn, u16, &[u8])>
 }
 
 /// What follows the end of a reply, where that is at the front of the bytes.
-pub(crate) fn after_end(bytes: &[u8]) -> Option<&[u8]>
+pub(crate) fn strip_reply_end(bytes: &[u8]) -> Option<&[u8]>
     ensures { MatchOption result ((y : List ℕ) → bytes.now ≡ semicolon ∷ y → ⊥) (λ r. bytes.now ≡ semicolon ∷ r.now) }
 {
     match bytes.split_first() {
@@ -170,14 +170,14 @@ fn read_entries(
     size: Size,
     left: u16,
 ) -> Result<(Vec<(Turn, Tree)>, &[u8]), CertFault>
-    ensures { MatchResult result (λ r. EntriesAt size left 0 (entries_of_list r.0.items) bytes.now r.1.now)
+    ensures { MatchResult result (λ r. EntriesAt size left 0 (entries_of_reply r.0.items) bytes.now r.1.now)
         (λ e. EntriesFaultAt size left 0 bytes.now e) }
 {
     let mut list = Vec::new(alloc);
     let mut now = bytes;
     let mut least = 0;
     loop {
-        match after_end(now) {
+        match strip_reply_end(now) {
             Some(rest) => return Ok((list, rest)),
             None => match read_turn(now, size) {
                 None => return Err(CertFault::Syntax),
@@ -205,15 +205,15 @@ fn read_entries(
 }
 
 /// What follows the side's word, where that is at the front of the bytes.
-pub(crate) fn after_side(bytes: &[u8], s: Side) -> Option<&[u8]>
+pub(crate) fn strip_side_prefix(bytes: &[u8], s: Side) -> Option<&[u8]>
     ensures { MatchOption result ((y : List ℕ) → bytes.now ≡ side_prefix s ++ y → ⊥) (λ r. bytes.now ≡ side_prefix s ++ r.now) }
 {
-    let blank = bytes.strip_prefix(s.word())?;
+    let blank = bytes.strip_prefix(s.verdict_word())?;
     blank.strip_prefix(b" ".as_slice())
 }
 
 /// The side and the tree that the bytes spell, where `rest` follows the side's word.
-fn read_for(
+fn read_cert_for_side(
     alloc: Global,
     bytes: &[u8],
     rest: &[u8],
@@ -223,7 +223,7 @@ fn read_for(
     requires { bytes.now ≡ side_prefix s ++ rest.now }
     ensures { MatchResult result
         (λ r. IsCertificate size bytes.now r.0 (strategy_of r.1) × (IsTooDeep size bytes.now → ⊥))
-        (λ e. IsFault size bytes.now e) }
+        (λ e. IsCertFault size bytes.now e) }
 {
     match read_strategy(alloc, rest, size, MOST_DEPTH) {
         Err(fault) => Err(fault),
@@ -241,12 +241,12 @@ fn read_for(
 pub fn read_cert(alloc: Global, bytes: &[u8], size: Size) -> Result<(Side, Tree), CertFault>
     ensures { MatchResult result
         (λ r. IsCertificate size bytes.now r.0 (strategy_of r.1) × (IsTooDeep size bytes.now → ⊥))
-        (λ e. IsFault size bytes.now e) }
+        (λ e. IsCertFault size bytes.now e) }
 {
-    match after_side(bytes, Side::Attacker) {
-        Some(rest) => read_for(alloc, bytes, rest, Side::Attacker, size),
-        None => match after_side(bytes, Side::Defender) {
-            Some(rest) => read_for(alloc, bytes, rest, Side::Defender, size),
+    match strip_side_prefix(bytes, Side::Attacker) {
+        Some(rest) => read_cert_for_side(alloc, bytes, rest, Side::Attacker, size),
+        None => match strip_side_prefix(bytes, Side::Defender) {
+            Some(rest) => read_cert_for_side(alloc, bytes, rest, Side::Defender, size),
             None => Err(CertFault::Syntax),
         },
     }

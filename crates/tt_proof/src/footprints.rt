@@ -7,14 +7,14 @@ ghost use Rattle.tt_game.specs.Line.{IsBarredBySuperko};
 ghost use Rattle.tt_game.specs.declared.turns.Turn.{Turn};
 ghost use Rattle.tt_game.specs.declared.frame.Frame.{Frame};
 ghost use Rattle.tt_proof.specs.declared.tree.TheConstants.{MOST_DEPTH};
-ghost use Rattle.tt_proof.specs.Strategy.{Strategy, done, pick, reply, none, depth, depth_of_entries, strategy_of, entries_of, entries_of_list, IsInOrder, AreInOrder, IsOnBoard};
+ghost use Rattle.tt_proof.specs.Strategy.{Strategy, done, pick, reply, none, depth, depth_of_entries, strategy_of, entries_of, entries_of_reply, IsInOrder, AreInOrder, IsOnBoard};
 ghost use Rattle.tt_proof.specs.Footprints.{IsRepeated};
-ghost use Rattle.tt_proof.specs.KeptFootprints.{IsFootprint, IsBoardAfter, IsEntryJoined, AreSized, frame_board, AreLegalPlays};
+ghost use Rattle.tt_proof.specs.KeptFootprints.{IsFootprint, IsBoardAfter, IsEntryJoined, HaveFrameSize, board_of_colouring, AreLegalPlays};
 ghost use Rattle.tt_proof.specs.inside.Collecting.{IsPassedUp, IsPlayed, IsMadeWithin};
-ghost use Rattle.tt_proof.specs.Bounds.{IsWider};
+ghost use Rattle.tt_proof.specs.BoardBounds.{IsWider};
 
+use crate::board_bounds::{BoardBound, union_of_bounds};
 use crate::board_set::BoardSet;
-use crate::bounds::{Bound, wider};
 use crate::tree::Tree;
 use std::alloc::Global;
 use tt_board::Board;
@@ -27,7 +27,7 @@ use tt_sgf::{NoMemory, Point, PointSet};
 pub struct Footprint {
     pub needs: BoardSet,
     pub avoids: BoardSet,
-    pub met: Option<Bound>,
+    pub met: Option<BoardBound>,
 }
 
 impl Footprint {
@@ -44,14 +44,14 @@ impl Footprint {
 
     /// That of a reply without entries: it needs the colourings of the history that plays on empty points of the region
     /// would repeat.
-    pub fn of_repeats(alloc: Global, line: &Line) -> Result<Footprint, NoMemory>
+    pub fn of_empty_reply(alloc: Global, line: &Line) -> Result<Footprint, NoMemory>
         ensures { IfOk result (λ x. IsFootprint line.now.frame line.now.state (reply none) x) }
     {
-        Footprint::of_repeats_beside(alloc, line, &PointSet::empty())
+        Footprint::of_empty_reply_with_legal(alloc, line, &PointSet::empty())
     }
 
     /// The same where plays on these points are known to be legal: such a play repeats nothing, and isn't tried.
-    pub fn of_repeats_beside(
+    pub fn of_empty_reply_with_legal(
         alloc: Global,
         line: &Line,
         legal: &PointSet,
@@ -86,14 +86,14 @@ impl Footprint {
             mut avoids,
             met,
         } = behind;
-        take_made(&mut needs, turn, board);
-        put_played(alloc, &mut avoids, turn, board)?;
+        remove_made_board(&mut needs, turn, board);
+        add_made_board(alloc, &mut avoids, turn, board)?;
         Ok(Footprint { needs, avoids, met })
     }
 
     /// Joins that of the tree behind one more turn of a reply. The turn is legal at the line, and `board` is the one after
     /// it. After want of memory the footprint is of no use.
-    pub fn join(
+    pub fn add_entry(
         &mut self,
         line: &Line,
         turn: &Turn,
@@ -110,9 +110,9 @@ impl Footprint {
             avoids,
             met,
         } = behind;
-        take_made(&mut needs, turn, board);
+        remove_made_board(&mut needs, turn, board);
         self.needs.join(needs)?;
-        self.met = widened(&self.met, turn, board, &met);
+        self.met = widened_bound(&self.met, turn, board, &met);
         self.avoids.join(avoids)
     }
 
@@ -131,7 +131,7 @@ impl Footprint {
 }
 
 /// Of what the child of a turn needs, which led to the board, only that stays which it needs in its parent's history too.
-pub(crate) fn take_made(needs: &mut BoardSet, turn: &Turn, board: &Board)
+pub(crate) fn remove_made_board(needs: &mut BoardSet, turn: &Turn, board: &Board)
     ensures { (b : Position) → Contains needs.new b ↔ IsPassedUp turn.now board.now needs.old b }
 {
     match turn {
@@ -141,7 +141,7 @@ pub(crate) fn take_made(needs: &mut BoardSet, turn: &Turn, board: &Board)
 }
 
 /// Adds the board that a play made; a pass made none.
-pub(crate) fn put_played(
+pub(crate) fn add_made_board(
     alloc: Global,
     avoids: &mut BoardSet,
     turn: &Turn,
@@ -157,15 +157,20 @@ pub(crate) fn put_played(
 
 /// A bound of what is met behind the turns of a reply, from that behind others and from that behind one more, which led to
 /// the board.
-fn widened(met: &Option<Bound>, turn: &Turn, board: &Board, behind: &Option<Bound>) -> Option<Bound>
+fn widened_bound(
+    met: &Option<BoardBound>,
+    turn: &Turn,
+    board: &Board,
+    behind: &Option<BoardBound>,
+) -> Option<BoardBound>
     ensures before { IsWider result met.now }
     ensures behind { IsWider result behind.now }
     ensures made { IsMadeWithin turn.now board.now result }
 {
-    let both = wider(met, behind);
+    let both = union_of_bounds(met, behind);
     match turn {
         Turn::Pass => both,
-        Turn::Play(_) => wider(&both, &Some(Bound::of(board))),
+        Turn::Play(_) => union_of_bounds(&both, &Some(BoardBound::of(board))),
     }
 }
 
@@ -173,16 +178,16 @@ fn widened(met: &Option<Bound>, turn: &Turn, board: &Board, behind: &Option<Boun
 fn repeated(line: &Line, legal: &PointSet, p: Point) -> Option<Board>
     requires { AreLegalPlays line.now.frame line.now.state legal.now }
     ensures { MatchOption result (IsBarredBySuperko line.now.frame line.now.state p → ⊥)
-        (λ b. IsBarredBySuperko line.now.frame line.now.state p × (b ≡ frame_board line.now.frame (made line.now.frame line.now.state p))) }
+        (λ b. IsBarredBySuperko line.now.frame line.now.state p × (b ≡ board_of_colouring line.now.frame (made line.now.frame line.now.state p))) }
 {
     if legal.has(p) {
         return None;
     }
-    line.repeated(p)
+    line.repeated_board(p)
 }
 
 /// Adds the board of the history that a play on the point would repeat.
-fn put_repeated(
+fn add_repeated_board(
     alloc: Global,
     needs: &mut BoardSet,
     line: &Line,
@@ -190,9 +195,9 @@ fn put_repeated(
     p: Point,
 ) -> Result<(), NoMemory>
     requires { AreLegalPlays line.now.frame line.now.state legal.now }
-    ensures sized { OnOk result (AreSized line.now.frame needs.old → AreSized line.now.frame needs.new) }
-    ensures more { OnOk result ((c : Colouring) → Contains needs.new (frame_board line.now.frame c)
-        ↔ (Contains needs.old (frame_board line.now.frame c)
+    ensures sized { OnOk result (HaveFrameSize line.now.frame needs.old → HaveFrameSize line.now.frame needs.new) }
+    ensures more { OnOk result ((c : Colouring) → Contains needs.new (board_of_colouring line.now.frame c)
+        ↔ (Contains needs.old (board_of_colouring line.now.frame c)
         ⊎ (IsBarredBySuperko line.now.frame line.now.state p × (made line.now.frame line.now.state p ≡ c)))) }
 {
     match repeated(line, legal, p) {
@@ -204,15 +209,15 @@ fn put_repeated(
 /// The boards of the history that plays on empty points of the region would repeat.
 fn repeated_boards(alloc: Global, line: &Line, legal: &PointSet) -> Result<BoardSet, NoMemory>
     requires { AreLegalPlays line.now.frame line.now.state legal.now }
-    ensures sized { IfOk result (λ needs. AreSized line.now.frame needs) }
-    ensures exact { IfOk result (λ needs. (c : Colouring) → Contains needs (frame_board line.now.frame c)
+    ensures sized { IfOk result (λ needs. HaveFrameSize line.now.frame needs) }
+    ensures exact { IfOk result (λ needs. (c : Colouring) → Contains needs (board_of_colouring line.now.frame c)
         ↔ IsRepeated line.now.frame (history line.now.state) [] line.now.state c) }
 {
     let region = &line.frame().region;
     let mut needs = BoardSet::new(alloc);
     let mut from = 0;
     while let Some(p) = region.least_from(from) {
-        put_repeated(alloc, &mut needs, line, legal, p)?;
+        add_repeated_board(alloc, &mut needs, line, legal, p)?;
         from = p.number() + 1;
     }
     Ok(needs)
@@ -239,7 +244,7 @@ fn join_entry(
             let found = footprint_of(alloc, tree, line);
             line.pop();
             match found {
-                Ok(behind) => footprint.join(line, turn, &board, behind),
+                Ok(behind) => footprint.add_entry(line, turn, &board, behind),
                 Err(e) => Err(e),
             }
         }
@@ -282,12 +287,12 @@ fn footprint_of_reply(
     list: &[(Turn, Tree)],
     line: &mut Line,
 ) -> Result<Footprint, NoMemory>
-    requires depth { depth_of_entries (entries_of_list list.now) ≤ MOST_DEPTH }
-    requires in_order { AreInOrder line.old.frame.size 0 (entries_of_list list.now) }
-    ensures exact { IfOk result (λ x. IsFootprint line.old.frame line.old.state (reply (entries_of_list list.now)) x) }
+    requires depth { depth_of_entries (entries_of_reply list.now) ≤ MOST_DEPTH }
+    requires in_order { AreInOrder line.old.frame.size 0 (entries_of_reply list.now) }
+    ensures exact { IfOk result (λ x. IsFootprint line.old.frame line.old.state (reply (entries_of_reply list.now)) x) }
     ensures same { line.new ≡ line.old }
 {
-    let mut footprint = Footprint::of_repeats(alloc, line)?;
+    let mut footprint = Footprint::of_empty_reply(alloc, line)?;
     for (turn, tree) in list {
         join_entry(alloc, turn, tree, line, &mut footprint)?;
     }

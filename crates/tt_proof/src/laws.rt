@@ -1,58 +1,58 @@
 //! Laws of trees and of certificates, over the definitions alone.
 
-ghost use Rattle.tt_proof.specs.OutlineLaws.{OneSharedCertificate, CertificatesAreShared, OneSharedAnswer};
-ghost use Rattle.tt_proof.specs.StrategyLaws.{WinningForces, FittingWins, FootprintsCarried, ChildNeeds, OneReading, OneCertificate, TreesAreStrategies};
+ghost use Rattle.tt_proof.specs.OutlineLaws.{OneOutlinePerCertificate, PlainIsSharedCertificate, OneAnswerPerOutline};
+ghost use Rattle.tt_proof.specs.StrategyLaws.{WinningStrategyForces, FittingTreesWin, FootprintsCarryOver, NeedsLosePlayedColouring, OneStrategyPerText, OneStrategyPerCertificate, StrategyOfEquations};
 
 /// A winning tree of depth n makes its side force a win within n turns.
-pub fn winning_forces()
-    ensures { WinningForces }
+pub fn winning_strategy_forces()
+    ensures { WinningStrategyForces }
 {}
 
 /// A tree that wins from one state wins from each state that it fits, whatever the path there.
 pub fn fitting_trees_win()
-    ensures { FittingWins }
+    ensures { FittingTreesWin }
 {}
 
 /// A footprint may be taken to another history without a walk through its tree: where the tree fits, and the history has no
 /// colouring that a turn makes which the tree answers, the tree needs and avoids there what it did. What both histories have
 /// needs no look: a board that is in the tree's own history is made by no such turn.
-pub fn carried()
-    ensures { FootprintsCarried }
+pub fn footprints_carry_over()
+    ensures { FootprintsCarryOver }
 {}
 
 /// What a tree needs is joined from what its children need: the child of a play needs in the history from before the play
 /// what it needs in its own, less the colouring that the play made.
-pub fn child_needs()
-    ensures { ChildNeeds }
+pub fn needs_lose_played_colouring()
+    ensures { NeedsLosePlayedColouring }
 {}
 
 /// A text is of one tree, and no tree's text goes on to be another's.
-pub fn one_reading()
-    ensures { OneReading }
+pub fn one_strategy_per_text()
+    ensures { OneStrategyPerText }
 {}
 
 /// Bytes are the certificate of one side and one tree at the most.
-pub fn one_certificate()
-    ensures { OneCertificate }
+pub fn one_strategy_per_certificate()
+    ensures { OneStrategyPerCertificate }
 {}
 
 /// A tree is the strategy that its form says: nothing more to play, a turn and what its child is, or an answer to each turn of
 /// its list.
-pub fn strategies()
-    ensures { TreesAreStrategies }
+pub fn strategy_of_equations()
+    ensures { StrategyOfEquations }
 {}
 
 /// Bytes are the certificate with shared parts of one side and one outline at the most, and so of one tree.
-pub fn one_shared_certificate()
-    ensures { OneSharedCertificate }
+pub fn one_outline_per_certificate()
+    ensures { OneOutlinePerCertificate }
 {}
 
 /// A certificate is one with shared parts, of the same tree, and no part of it doesn't fit.
-pub fn certificates_are_shared()
-    ensures { CertificatesAreShared }
+pub fn plain_is_shared_certificate()
+    ensures { PlainIsSharedCertificate }
 {}
 
 /// The rule for shared parts has one answer to an outline at a state: it wins, it doesn't, or a part doesn't fit.
-pub fn one_shared_answer()
-    ensures { OneSharedAnswer }
+pub fn one_answer_per_outline()
+    ensures { OneAnswerPerOutline }
 {}

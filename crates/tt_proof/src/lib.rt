@@ -1,8 +1,8 @@
 //! Strategy trees, their exact replay, proofs that win with their footprints, and certificates. Their tests stand in `tt_tests`: `proof_tests`.
 #![tactic(auto)]
 
+mod board_bounds;
 mod board_set;
-mod bounds;
 mod certificate_read;
 mod certificate_write;
 mod footprints;
@@ -19,15 +19,15 @@ mod replays;
 mod tree;
 mod tree_builders;
 
+pub use board_bounds::{BoardBound, is_within};
 pub use board_set::BoardSet;
-pub use bounds::{Bound, is_within};
 pub use certificate_read::{CertFault, read_cert};
-pub use certificate_write::{put_shown, put_turn, write_cert};
+pub use certificate_write::{put_readable_turn, put_turn, write_cert};
 pub use footprints::{Footprint, footprint_of};
-pub use measured_tree::{MeasuredTree, Replies};
-pub use outline_read::read_parts;
-pub use outline_replay::replay_parts;
-pub use outline_write::write_parts;
+pub use measured_tree::{MeasuredTree, ReplyBuilder};
+pub use outline_read::read_shared_cert;
+pub use outline_replay::replay_shared_cert;
+pub use outline_write::write_shared_cert;
 pub use outlines::Outline;
 pub use proven::{Proof, Rejected};
 pub use replays::replay;

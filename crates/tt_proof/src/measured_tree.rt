@@ -37,19 +37,19 @@ impl Model for MeasuredTree {
 
 /// Turns of the other side, each with the measured tree that answers it, from which a measured tree is made.
 #[derive(Drop)]
-pub struct Replies {
+pub struct ReplyBuilder {
     entries: Vec<(Turn, Tree)>,
     levels: u16,
     size: u64,
 }
 
-impl Model for Replies {
+impl Model for ReplyBuilder {
     ghost use Rattle.std.specs.Prelude.{◌≡◌, ◌+◌, ◌-◌, ◌^◌, min, List, map};
     ghost use Rattle.std.specs.Coded.{codes};
     ghost use Rattle.tt_game.specs.contracts.turns.Turn as turns;
     ghost use Rattle.tt_game.specs.declared.turns.Turn.{Turn};
     ghost use Rattle.tt_proof.specs.Nodes.{nodes_of_entries};
-    ghost use Rattle.tt_proof.specs.Strategy.{Strategy, depth_of_entries, strategy_of, entries_of_list};
+    ghost use Rattle.tt_proof.specs.Strategy.{Strategy, depth_of_entries, strategy_of, entries_of_reply};
     ghost use Rattle.tt_proof.specs.laws.StrategyCode.{strategy_code};
 
     ghost Value = { List (Turn × Strategy) };
@@ -58,8 +58,8 @@ impl Model for Replies {
 
     ghost view = { λ r. map (λ e. (e.0, strategy_of e.1)) r.entries.items };
 
-    ghost invariant = { λ r. (r.levels ≡ min (depth_of_entries (entries_of_list r.entries.items)) (2 ^ 16 - 1))
-        × (r.size ≡ min (nodes_of_entries (entries_of_list r.entries.items) + 1) (2 ^ 64 - 1)) };
+    ghost invariant = { λ r. (r.levels ≡ min (depth_of_entries (entries_of_reply r.entries.items)) (2 ^ 16 - 1))
+        × (r.size ≡ min (nodes_of_entries (entries_of_reply r.entries.items) + 1) (2 ^ 64 - 1)) };
 }
 
 impl MeasuredTree {
@@ -129,13 +129,13 @@ impl MeasuredTree {
     }
 }
 
-impl Replies {
+impl ReplyBuilder {
     /// No turn yet, with room for so many.
-    pub fn with_capacity(alloc: Global, capacity: usize) -> Result<Replies, NoMemory>
+    pub fn with_capacity(alloc: Global, capacity: usize) -> Result<ReplyBuilder, NoMemory>
         ensures { IfOk result (λ r. r ≡ []) }
     {
         let entries = Vec::with_capacity(alloc, capacity)?;
-        Ok(Replies {
+        Ok(ReplyBuilder {
             entries,
             levels: 0,
             size: 1,
@@ -158,7 +158,7 @@ impl Replies {
     pub fn into_measured_tree(self, alloc: Global) -> Result<MeasuredTree, NoMemory>
         ensures { IfOk result (λ p. p ≡ reply (entries_of self)) }
     {
-        let Replies {
+        let ReplyBuilder {
             entries,
             levels,
             size,

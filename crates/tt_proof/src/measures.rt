@@ -1,7 +1,7 @@
 //! How deep a tree is, and how many nodes it has.
 
 ghost use Rattle.std.specs.Prelude.{◌≡◌, ◌+◌, ◌-◌, ◌^◌, min};
-ghost use Rattle.tt_proof.specs.Strategy.{depth, depth_of_entries, strategy_of, entries_of_list};
+ghost use Rattle.tt_proof.specs.Strategy.{depth, depth_of_entries, strategy_of, entries_of_reply};
 ghost use Rattle.tt_proof.specs.Nodes.{nodes, nodes_of_entries};
 
 use crate::tree::Tree;
@@ -26,8 +26,8 @@ pub(crate) fn measures(t: &Tree) -> (u16, u64)
 
 #[cycle(measures)]
 fn measures_of_replies(list: &[(Turn, Tree)]) -> (u16, u64)
-    ensures levels { result.0 ≡ min (depth_of_entries (entries_of_list list.now)) (2 ^ 16 - 1) }
-    ensures size { result.1 ≡ min (nodes_of_entries (entries_of_list list.now) + 1) (2 ^ 64 - 1) }
+    ensures levels { result.0 ≡ min (depth_of_entries (entries_of_reply list.now)) (2 ^ 16 - 1) }
+    ensures size { result.1 ≡ min (nodes_of_entries (entries_of_reply list.now) + 1) (2 ^ 64 - 1) }
 {
     let mut most = 0u16;
     let mut count = 1u64;

@@ -5,11 +5,11 @@ ghost use Rattle.tt_sgf.specs.declared.size.TheConstants.{MOST_POINTS};
 ghost use Rattle.tt_proof.specs.CertificateText.{pick_symbol, replies_symbol, side_prefix};
 ghost use Rattle.tt_proof.specs.declared.tree.TheConstants.{MOST_DEPTH};
 ghost use Rattle.tt_proof.specs.Strategy.{depth};
-ghost use Rattle.tt_proof.specs.Outlines.{IsSharedCertificate, outline_of, unfolded, branches_of_list, name_symbol, name_text, part_symbol};
-ghost use Rattle.tt_proof.specs.CertificateFaults.{IsSharedFault};
-ghost use Rattle.tt_proof.specs.inside.OutlineReading.{NoDigit, DigitsAt, ReadsOutline, ReadsBranches, OutlineFaultAt, BranchesFaultAt, with_depth};
+ghost use Rattle.tt_proof.specs.Outlines.{IsSharedCertificate, outline_of, unfolded, branches_of_reply, name_symbol, name_text, part_symbol};
+ghost use Rattle.tt_proof.specs.CertificateFaults.{IsSharedCertFault};
+ghost use Rattle.tt_proof.specs.inside.OutlineReading.{HasNoDigitInFront, DigitsAt, ReadsOutline, ReadsBranches, OutlineFaultAt, BranchesFaultAt, with_depth};
 
-use crate::certificate_read::{CertFault, after_end, after_side, read_turn};
+use crate::certificate_read::{CertFault, read_turn, strip_reply_end, strip_side_prefix};
 use crate::outlines::Outline;
 use crate::tree::MOST_DEPTH;
 use std::alloc::Global;
@@ -17,7 +17,7 @@ use tt_game::{Side, Turn};
 use tt_sgf::{NoMemory, Size};
 
 /// The greatest name: it has nine digits.
-const MOST_NAME: u32 = 999_999_999;
+const GREATEST_NAME: u32 = 999_999_999;
 
 /// The number that the digits at the front of the bytes spell, or the greatest of its type where that is greater, and what
 /// follows.
@@ -44,19 +44,19 @@ fn read_digits(bytes: &[u8]) -> (u32, &[u8])
 /// The name at the front of the bytes, and what follows, which is no digit.
 fn read_name(bytes: &[u8]) -> Option<(usize, &[u8])>
     ensures { MatchOption result
-        ((k : ℕ) (y : List ℕ) → k < 1000000000 → NoDigit y → bytes.now ≡ decimal k ++ y → ⊥)
-        (λ r. (r.0 < 1000000000) × NoDigit r.1.now × (bytes.now ≡ decimal r.0 ++ r.1.now)) }
+        ((k : ℕ) (y : List ℕ) → k < 1000000000 → HasNoDigitInFront y → bytes.now ≡ decimal k ++ y → ⊥)
+        (λ r. (r.0 < 1000000000) × HasNoDigitInFront r.1.now × (bytes.now ≡ decimal r.0 ++ r.1.now)) }
 {
     let (number, rest) = read_digits(bytes);
     let length = bytes.len() - rest.len();
-    if length == 0 || number > MOST_NAME || (length > 1 && bytes[0] == b'0') {
+    if length == 0 || number > GREATEST_NAME || (length > 1 && bytes[0] == b'0') {
         return None;
     }
     Some((number as usize, rest))
 }
 
 /// Adds the depth of a tree, where it has a name.
-fn put_depth(depths: &mut Vec<u16>, named: bool, depth: u16) -> Result<(), NoMemory>
+fn put_depth_if_named(depths: &mut Vec<u16>, named: bool, depth: u16) -> Result<(), NoMemory>
     ensures { OnOk result (depths.new.items ≡ with_depth named depth depths.old.items) }
 {
     if named {
@@ -66,7 +66,7 @@ fn put_depth(depths: &mut Vec<u16>, named: bool, depth: u16) -> Result<(), NoMem
 }
 
 /// The part whose name is at the front of the bytes, its depth, and what follows.
-fn read_part<'a>(
+fn read_part_reference<'a>(
     bytes: &'a [u8],
     left: u16,
     depths: &Vec<u16>,
@@ -111,10 +111,10 @@ fn read_outline<'a>(
                 return Ok((Outline::Done, 0, rest));
             }
             if *first == b'*' {
-                return read_part(rest, left, depths, size);
+                return read_part_reference(rest, left, depths, size);
             }
             if *first == b'=' {
-                return read_named(alloc, rest, size, left, depths);
+                return read_named_outline(alloc, rest, size, left, depths);
             }
             if *first == b'!' {
                 return read_pick(alloc, false, rest, size, left, depths);
@@ -129,7 +129,7 @@ fn read_outline<'a>(
 
 /// The outline behind a `=`, which gives it a name.
 #[cycle(outline)]
-fn read_named<'a>(
+fn read_named_outline<'a>(
     alloc: Global,
     bytes: &'a [u8],
     size: Size,
@@ -177,7 +177,7 @@ fn read_pick<'a>(
                 Err(fault) => Err(fault),
                 Ok((child, depth, rest)) => match Outline::pick(alloc, named, turn, child) {
                     Err(_) => Err(CertFault::NoMemory),
-                    Ok(outline) => match put_depth(depths, named, depth + 1) {
+                    Ok(outline) => match put_depth_if_named(depths, named, depth + 1) {
                         Err(_) => Err(CertFault::NoMemory),
                         Ok(()) => Ok((outline, depth + 1, rest)),
                     },
@@ -204,7 +204,7 @@ fn read_reply<'a>(
         Err(fault) => Err(fault),
         Ok((list, depth, rest)) => match Outline::reply(alloc, named, list) {
             Err(_) => Err(CertFault::NoMemory),
-            Ok(outline) => match put_depth(depths, named, depth) {
+            Ok(outline) => match put_depth_if_named(depths, named, depth) {
                 Err(_) => Err(CertFault::NoMemory),
                 Ok(()) => Ok((outline, depth, rest)),
             },
@@ -222,7 +222,7 @@ fn read_branches<'a>(
     depths: &mut Vec<u16>,
 ) -> Result<(Vec<(Turn, Outline)>, u16, &'a [u8]), CertFault>
     ensures { MatchResult result
-        (λ r. ReadsBranches size left depths.old.items depths.new.items 0 (branches_of_list r.0.items) r.1 bytes.now r.2.now)
+        (λ r. ReadsBranches size left depths.old.items depths.new.items 0 (branches_of_reply r.0.items) r.1 bytes.now r.2.now)
         (λ e. BranchesFaultAt size left depths.old.items 0 bytes.now e) }
 {
     let mut list = Vec::new(alloc);
@@ -230,7 +230,7 @@ fn read_branches<'a>(
     let mut least = 0;
     let mut most = 0u16;
     loop {
-        match after_end(now) {
+        match strip_reply_end(now) {
             Some(rest) => return Ok((list, most, rest)),
             None => match read_turn(now, size) {
                 None => return Err(CertFault::Syntax),
@@ -259,7 +259,7 @@ fn read_branches<'a>(
 }
 
 /// The outline that the bytes behind the side's word spell, whose tree is at most so deep.
-fn read_parts_for(
+fn read_shared_cert_for_side(
     alloc: Global,
     bytes: &[u8],
     rest: &[u8],
@@ -271,7 +271,7 @@ fn read_parts_for(
     requires depth { most_depth ≤ MOST_DEPTH }
     ensures certificate { IfOk result (λ r. IsSharedCertificate size bytes.now r.0 (outline_of r.1)) }
     ensures shallow { IfOk result (λ r. depth (unfolded [] (outline_of r.1)) ≤ most_depth) }
-    ensures fault { IfErr result (λ e. IsSharedFault size most_depth bytes.now e) }
+    ensures fault { IfErr result (λ e. IsSharedCertFault size most_depth bytes.now e) }
 {
     let mut depths = Vec::new(alloc);
     match read_outline(alloc, rest, size, most_depth, &mut depths) {
@@ -286,7 +286,7 @@ fn read_parts_for(
 }
 
 /// The side and the outline that the bytes are the certificate of, on a board of this size. Its tree is at most so deep.
-pub(crate) fn read_within(
+pub(crate) fn read_shared_cert_within(
     alloc: Global,
     bytes: &[u8],
     size: Size,
@@ -295,22 +295,40 @@ pub(crate) fn read_within(
     requires { most_depth ≤ MOST_DEPTH }
     ensures certificate { IfOk result (λ r. IsSharedCertificate size bytes.now r.0 (outline_of r.1)) }
     ensures shallow { IfOk result (λ r. depth (unfolded [] (outline_of r.1)) ≤ most_depth) }
-    ensures fault { IfErr result (λ e. IsSharedFault size most_depth bytes.now e) }
+    ensures fault { IfErr result (λ e. IsSharedCertFault size most_depth bytes.now e) }
 {
-    match after_side(bytes, Side::Attacker) {
-        Some(rest) => read_parts_for(alloc, bytes, rest, Side::Attacker, size, most_depth),
-        None => match after_side(bytes, Side::Defender) {
-            Some(rest) => read_parts_for(alloc, bytes, rest, Side::Defender, size, most_depth),
+    match strip_side_prefix(bytes, Side::Attacker) {
+        Some(rest) => read_shared_cert_for_side(
+            alloc,
+            bytes,
+            rest,
+            Side::Attacker,
+            size,
+            most_depth,
+        ),
+        None => match strip_side_prefix(bytes, Side::Defender) {
+            Some(rest) => read_shared_cert_for_side(
+                alloc,
+                bytes,
+                rest,
+                Side::Defender,
+                size,
+                most_depth,
+            ),
             None => Err(CertFault::Syntax),
         },
     }
 }
 
 /// The side and the outline that the bytes are the certificate of, on a board of this size.
-pub fn read_parts(alloc: Global, bytes: &[u8], size: Size) -> Result<(Side, Outline), CertFault>
+pub fn read_shared_cert(
+    alloc: Global,
+    bytes: &[u8],
+    size: Size,
+) -> Result<(Side, Outline), CertFault>
     ensures { MatchResult result
         (λ r. IsSharedCertificate size bytes.now r.0 (outline_of r.1))
-        (λ e. IsSharedFault size MOST_DEPTH bytes.now e) }
+        (λ e. IsSharedCertFault size MOST_DEPTH bytes.now e) }
 {
-    read_within(alloc, bytes, size, MOST_DEPTH)
+    read_shared_cert_within(alloc, bytes, size, MOST_DEPTH)
 }

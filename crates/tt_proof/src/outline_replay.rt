@@ -4,15 +4,15 @@ ghost use Rattle.std.specs.Prelude.{◌≡◌, ◌↔◌, [], None, IfOk, OnOk, 
 ghost use Rattle.tt_game.specs.Game.{IsLegal};
 ghost use Rattle.tt_proof.specs.KeptFootprints.{IsBoardAfter};
 ghost use Rattle.tt_proof.specs.Strategy.{IsOnBoard};
-ghost use Rattle.tt_proof.specs.Outlines.{outline_of, branches_of_list, unfolded, IsOrderly, AreOrderly};
+ghost use Rattle.tt_proof.specs.Outlines.{outline_of, branches_of_reply, unfolded, IsOrderly, AreOrderly};
 ghost use Rattle.tt_proof.specs.Wins.{Wins};
-ghost use Rattle.tt_proof.specs.SharedParts.{CombinesTo, IsResultBeforeTurn, RestsBeforePick, RestsBeforeReply, IsResultOfEnd, IsResultOfName, IsResultOfReply, HasBranch};
-ghost use Rattle.tt_proof.specs.SharedParts.{FindsOutline, kept_footprint, with_named_footprint, unreached, unreached_all, answer_of, SharedPartsSay};
+ghost use Rattle.tt_proof.specs.SharedParts.{CombinesTo, IsResultBeforeTurn, RestsBeforePick, RestsBeforeReply, IsResultOfDone, IsResultOfPart, IsResultOfReply, HasBranch};
+ghost use Rattle.tt_proof.specs.SharedParts.{FindsOutline, kept_footprint, with_named_footprint, with_unreached_names, with_unreached_branch_names, wins_if_fit, IsOutlineAnswer};
 ghost use Rattle.tt_proof.specs.inside.OutlineReplaying.{FindsPick, FindsReply, FindsBranch, FindsTogether};
 
 use crate::outlines::Outline;
 use crate::position_footprint::PositionFootprint;
-use crate::replays::is_asked;
+use crate::replays::awaits_other_side;
 use std::alloc::Global;
 use tt_board::Board;
 use tt_game::{Line, Refused, Side, Turn};
@@ -27,7 +27,7 @@ pub(crate) enum ReplayResult {
 }
 
 /// What is found on two trees together: one that doesn't fit comes before one that doesn't win.
-fn both(first: ReplayResult, second: ReplayResult) -> Result<ReplayResult, NoMemory>
+fn combine_results(first: ReplayResult, second: ReplayResult) -> Result<ReplayResult, NoMemory>
     ensures { IfOk result (CombinesTo first second) }
 {
     match first {
@@ -49,7 +49,7 @@ fn both(first: ReplayResult, second: ReplayResult) -> Result<ReplayResult, NoMem
 }
 
 /// What is found on the pick of a legal turn, which leads to the board, by what is found behind it.
-fn found_before_pick(
+fn result_before_pick(
     alloc: Global,
     line: &Line,
     turn: &Turn,
@@ -70,25 +70,22 @@ fn found_before_pick(
 }
 
 /// What is found on the branch of a legal turn, which leads to the board, by what is found behind it.
-fn replayed_before_turn(
-    line: &Line,
-    turn: &Turn,
-    board: &Board,
-    found: ReplayResult,
-) -> ReplayResult
+fn result_before_reply(line: &Line, turn: &Turn, board: &Board, found: ReplayResult) -> ReplayResult
     requires { IsBoardAfter line.now.frame line.now.state turn.now board.now }
     ensures { IsResultBeforeTurn (RestsBeforeReply line.now.frame line.now.state turn.now) found result }
 {
     match found {
-        ReplayResult::Won(basis) => ReplayResult::Won(basis.passed(line, turn, board)),
+        ReplayResult::Won(basis) => ReplayResult::Won(basis.before_opposing_turn(
+            line, turn, board,
+        )),
         ReplayResult::Lost => ReplayResult::Lost,
         ReplayResult::Unfit => ReplayResult::Unfit,
     }
 }
 
 /// What is found on the outline of nothing more to play.
-fn found_of_done(alloc: Global, s: Side, line: &Line) -> ReplayResult
-    ensures { IsResultOfEnd s line.now.frame line.now.state result }
+fn result_of_done(alloc: Global, s: Side, line: &Line) -> ReplayResult
+    ensures { IsResultOfDone s line.now.frame line.now.state result }
 {
     if line.winner() == Some(s) {
         return ReplayResult::Won(PositionFootprint::of(alloc, line));
@@ -97,16 +94,16 @@ fn found_of_done(alloc: Global, s: Side, line: &Line) -> ReplayResult
 }
 
 /// What is found on the part with this name, whose tree wins where this basis is met.
-fn found_of_part(
+fn result_of_part(
     alloc: Global,
     name: &Option<PositionFootprint>,
     line: &Line,
 ) -> Result<ReplayResult, NoMemory>
-    ensures { IfOk result (IsResultOfName line.now.frame name.now line.now.state) }
+    ensures { IfOk result (IsResultOfPart line.now.frame name.now line.now.state) }
 {
     match name {
         Some(basis) => {
-            if !basis.is_met(line) {
+            if !basis.fits_line(line) {
                 return Ok(ReplayResult::Unfit);
             }
             match basis.try_clone(alloc) {
@@ -119,7 +116,10 @@ fn found_of_part(
 }
 
 /// What is kept of a tree with a name, by what is found on it.
-fn name_of(alloc: Global, found: &ReplayResult) -> Result<Option<PositionFootprint>, NoMemory>
+fn footprint_to_keep(
+    alloc: Global,
+    found: &ReplayResult,
+) -> Result<Option<PositionFootprint>, NoMemory>
     ensures { IfOk result (λ n. n ≡ kept_footprint found.now) }
 {
     match found {
@@ -133,7 +133,7 @@ fn name_of(alloc: Global, found: &ReplayResult) -> Result<Option<PositionFootpri
 }
 
 /// Keeps what is found on a tree, where the tree has a name.
-fn put_name(
+fn put_footprint_if_named(
     alloc: Global,
     named: bool,
     found: &ReplayResult,
@@ -142,14 +142,17 @@ fn put_name(
     ensures { OnOk result (names.new.items ≡ with_named_footprint named (kept_footprint found.now) names.old.items) }
 {
     if named {
-        let name = name_of(alloc, found)?;
+        let name = footprint_to_keep(alloc, found)?;
         names.push(name)?;
     }
     Ok(())
 }
 
 /// Keeps that a tree, where it has a name, stands where no play leads.
-fn put_unreached(named: bool, names: &mut Vec<Option<PositionFootprint>>) -> Result<(), NoMemory>
+fn put_unreached_if_named(
+    named: bool,
+    names: &mut Vec<Option<PositionFootprint>>,
+) -> Result<(), NoMemory>
     ensures { OnOk result (names.new.items ≡ with_named_footprint named None names.old.items) }
 {
     if named {
@@ -161,28 +164,28 @@ fn put_unreached(named: bool, names: &mut Vec<Option<PositionFootprint>>) -> Res
 /// Passes over an outline where no play leads: its names are counted.
 #[cycle(skip)]
 fn skip(o: &Outline, names: &mut Vec<Option<PositionFootprint>>) -> Result<(), NoMemory>
-    ensures { OnOk result (names.new.items ≡ unreached names.old.items (outline_of o.now)) }
+    ensures { OnOk result (names.new.items ≡ with_unreached_names names.old.items (outline_of o.now)) }
 {
     match o {
         Outline::Done => Ok(()),
         Outline::Part(_) => Ok(()),
         Outline::Pick(named, _, child) => {
             skip(child, names)?;
-            put_unreached(*named, names)
+            put_unreached_if_named(*named, names)
         }
         Outline::Reply(named, list) => {
-            skip_each(list, names)?;
-            put_unreached(*named, names)
+            skip_branches(list, names)?;
+            put_unreached_if_named(*named, names)
         }
     }
 }
 
 #[cycle(skip)]
-fn skip_each(
+fn skip_branches(
     list: &[(Turn, Outline)],
     names: &mut Vec<Option<PositionFootprint>>,
 ) -> Result<(), NoMemory>
-    ensures { OnOk result (names.new.items ≡ unreached_all names.old.items (branches_of_list list.now)) }
+    ensures { OnOk result (names.new.items ≡ with_unreached_branch_names names.old.items (branches_of_reply list.now)) }
 {
     for (_, child) in list {
         skip(child, names)?;
@@ -191,7 +194,7 @@ fn skip_each(
 }
 
 fn has_branch(list: &[(Turn, Outline)], turn: Turn) -> bool
-    ensures { IsTrue result ↔ HasBranch (branches_of_list list.now) turn }
+    ensures { IsTrue result ↔ HasBranch (branches_of_reply list.now) turn }
 {
     for branch in list {
         if branch.0 == turn {
@@ -202,8 +205,8 @@ fn has_branch(list: &[(Turn, Outline)], turn: Turn) -> bool
 }
 
 /// Whether each legal turn has a branch.
-fn answers_all(list: &[(Turn, Outline)], line: &Line) -> bool
-    ensures { IsTrue result ↔ ((t : Turn) → IsLegal line.now.frame line.now.state t → HasBranch (branches_of_list list.now) t) }
+fn has_branch_for_each_turn(list: &[(Turn, Outline)], line: &Line) -> bool
+    ensures { IsTrue result ↔ ((t : Turn) → IsLegal line.now.frame line.now.state t → HasBranch (branches_of_reply list.now) t) }
 {
     let turns = line.turns();
     for turn in turns.as_slice() {
@@ -215,12 +218,12 @@ fn answers_all(list: &[(Turn, Outline)], line: &Line) -> bool
 }
 
 /// What is found on a reply by what is found on all its branches.
-fn found_of_reply(list: &[(Turn, Outline)], line: &Line, found: ReplayResult) -> ReplayResult
-    ensures { IsResultOfReply line.now.frame line.now.state (branches_of_list list.now) found result }
+fn result_of_reply(list: &[(Turn, Outline)], line: &Line, found: ReplayResult) -> ReplayResult
+    ensures { IsResultOfReply line.now.frame line.now.state (branches_of_reply list.now) found result }
 {
     match found {
         ReplayResult::Won(basis) => {
-            if answers_all(list, line) {
+            if has_branch_for_each_turn(list, line) {
                 return ReplayResult::Won(basis);
             }
             ReplayResult::Lost
@@ -251,7 +254,7 @@ fn replay_branch(
             let found = replay_outline(alloc, child, s, line, names);
             line.pop();
             match found {
-                Ok(behind) => Ok(replayed_before_turn(line, &turn, &board, behind)),
+                Ok(behind) => Ok(result_before_reply(line, &turn, &board, behind)),
                 Err(e) => Err(e),
             }
         }
@@ -272,15 +275,15 @@ fn replay_branches(
     line: &mut Line,
     names: &mut Vec<Option<PositionFootprint>>,
 ) -> Result<ReplayResult, NoMemory>
-    requires orderly { AreOrderly line.old.frame.size 0 (branches_of_list list.now) }
-    ensures found { IfOk result (λ r. FindsTogether s line.old.frame names.old.items (branches_of_list list.now) line.old.state r names.new.items) }
+    requires orderly { AreOrderly line.old.frame.size 0 (branches_of_reply list.now) }
+    ensures found { IfOk result (λ r. FindsTogether s line.old.frame names.old.items (branches_of_reply list.now) line.old.state r names.new.items) }
     ensures same { line.new ≡ line.old }
 {
-    let basis = PositionFootprint::of_repeats(alloc, line)?;
+    let basis = PositionFootprint::of_empty_reply(alloc, line)?;
     let mut found = ReplayResult::Won(basis);
     for (turn, child) in list {
         let next = replay_branch(alloc, *turn, child, s, line, names)?;
-        found = both(found, next)?;
+        found = combine_results(found, next)?;
     }
     Ok(found)
 }
@@ -293,16 +296,16 @@ fn replay_reply(
     line: &mut Line,
     names: &mut Vec<Option<PositionFootprint>>,
 ) -> Result<ReplayResult, NoMemory>
-    requires orderly { AreOrderly line.old.frame.size 0 (branches_of_list list.now) }
-    ensures found { IfOk result (λ r. FindsReply s line.old.frame names.old.items (branches_of_list list.now) line.old.state r names.new.items) }
+    requires orderly { AreOrderly line.old.frame.size 0 (branches_of_reply list.now) }
+    ensures found { IfOk result (λ r. FindsReply s line.old.frame names.old.items (branches_of_reply list.now) line.old.state r names.new.items) }
     ensures same { line.new ≡ line.old }
 {
-    if !is_asked(s, line) {
-        skip_each(list, names)?;
+    if !awaits_other_side(s, line) {
+        skip_branches(list, names)?;
         return Ok(ReplayResult::Lost);
     }
     match replay_branches(alloc, list, s, line, names) {
-        Ok(found) => Ok(found_of_reply(list, line, found)),
+        Ok(found) => Ok(result_of_reply(list, line, found)),
         Err(e) => Err(e),
     }
 }
@@ -331,7 +334,7 @@ fn replay_pick(
             let found = replay_outline(alloc, child, s, line, names);
             line.pop();
             match found {
-                Ok(behind) => found_before_pick(alloc, line, &turn, &board, behind),
+                Ok(behind) => result_before_pick(alloc, line, &turn, &board, behind),
                 Err(e) => Err(e),
             }
         }
@@ -357,27 +360,27 @@ fn replay_outline(
     ensures same { line.new ≡ line.old }
 {
     match o {
-        Outline::Done => Ok(found_of_done(alloc, s, line)),
+        Outline::Done => Ok(result_of_done(alloc, s, line)),
         Outline::Part(k) => match names.get(*k) {
-            Some(name) => found_of_part(alloc, name, line),
+            Some(name) => result_of_part(alloc, name, line),
             None => Ok(ReplayResult::Unfit),
         },
         Outline::Pick(named, turn, child) => {
             let found = replay_pick(alloc, *turn, child, s, line, names)?;
-            put_name(alloc, *named, &found, names)?;
+            put_footprint_if_named(alloc, *named, &found, names)?;
             Ok(found)
         }
         Outline::Reply(named, list) => {
             let found = replay_reply(alloc, list, s, line, names)?;
-            put_name(alloc, *named, &found, names)?;
+            put_footprint_if_named(alloc, *named, &found, names)?;
             Ok(found)
         }
     }
 }
 
 /// Whether the tree wins on which this is found, where that is known.
-fn said_of(found: &ReplayResult) -> Option<bool>
-    ensures { result ≡ answer_of found.now }
+fn answer_of_result(found: &ReplayResult) -> Option<bool>
+    ensures { result ≡ wins_if_fit found.now }
 {
     match found {
         ReplayResult::Won(_) => Some(true),
@@ -389,20 +392,20 @@ fn said_of(found: &ReplayResult) -> Option<bool>
 /// Whether the outline's tree wins for the side from the line's state; none exactly where a part doesn't fit the history where it
 /// stands in for its tree. Each part is played once. The outline's turns are in order. The line stands as before, also after want of
 /// memory.
-pub fn replay_parts(
+pub fn replay_shared_cert(
     alloc: Global,
     o: &Outline,
     s: Side,
     line: &mut Line,
 ) -> Result<Option<bool>, NoMemory>
     requires { IsOrderly line.old.frame.size (outline_of o.now) }
-    ensures parts { IfOk result (SharedPartsSay s line.old.frame (outline_of o.now) line.old.state) }
+    ensures parts { IfOk result (IsOutlineAnswer s line.old.frame (outline_of o.now) line.old.state) }
     ensures exact { IfOk result (λ answer. IfSome answer (λ wins. IsTrue wins ↔ Wins s line.old.frame (unfolded [] (outline_of o.now)) line.old.state)) }
     ensures same { line.new ≡ line.old }
 {
     let mut names = Vec::new(alloc);
     match replay_outline(alloc, o, s, line, &mut names) {
-        Ok(found) => Ok(said_of(&found)),
+        Ok(found) => Ok(answer_of_result(&found)),
         Err(e) => Err(e),
     }
 }

@@ -3,15 +3,15 @@
 ghost use Rattle.std.specs.Prelude.{◌≡◌, ◌≤◌, true, length, IfOk, IfSome};
 ghost use Rattle.tt_proof.specs.declared.tree.TheConstants.{MOST_DEPTH};
 ghost use Rattle.tt_proof.specs.Strategy.{strategy_of, IsInOrder};
-ghost use Rattle.tt_proof.specs.Proven.{first_of};
+ghost use Rattle.tt_proof.specs.ProofClaim.{first_turn_of};
 ghost use Rattle.tt_proof.specs.SharedWins.{IsWinningSharedCertificate};
 
 pub(crate) mod draft;
 pub(crate) mod kept_trees;
 
 use crate::certificate_read::CertFault;
-use crate::outline_read::read_within;
-use crate::outline_replay::replay_parts;
+use crate::outline_read::read_shared_cert_within;
+use crate::outline_replay::replay_shared_cert;
 use crate::outline_write::draft::Draft;
 use crate::tree::Tree;
 use std::alloc::Global;
@@ -20,7 +20,7 @@ use tt_sgf::NoMemory;
 
 /// Whether the bytes are a certificate with shared parts whose tree wins for the side at the line, is at most so deep and begins
 /// with that turn. Where a part doesn't fit the answer is no.
-fn is_winning(
+fn is_winning_cert(
     alloc: Global,
     s: Side,
     bytes: &[u8],
@@ -32,12 +32,12 @@ fn is_winning(
     ensures { IfOk result (λ b. b ≡ true → IsWinningSharedCertificate line.old.frame line.old.state s first most_depth bytes.now) }
 {
     let size = line.frame().size;
-    match read_within(alloc, bytes, size, most_depth) {
+    match read_shared_cert_within(alloc, bytes, size, most_depth) {
         Ok((side, outline)) => {
             if side != s || outline.first() != first {
                 return Ok(false);
             }
-            match replay_parts(alloc, &outline, side, line) {
+            match replay_shared_cert(alloc, &outline, side, line) {
                 Ok(wins) => Ok(wins == Some(true)),
                 Err(e) => Err(e),
             }
@@ -49,7 +49,7 @@ fn is_winning(
 }
 
 /// The text that the tree's walk at the line leads to, of at most so many bytes.
-fn drafted(
+fn draft_text(
     alloc: Global,
     s: Side,
     t: &Tree,
@@ -74,7 +74,7 @@ fn drafted(
 /// A certificate with shared parts of a tree that wins for the side at the line, is at most so deep and begins as this one does,
 /// where that takes at most so many bytes. A tree whose position comes again is written once where it wins there too, whatever
 /// tree this one has there. The depth is at most 512, the points lie on the board, and the turns of each reply rise.
-pub fn write_parts(
+pub fn write_shared_cert(
     alloc: Global,
     s: Side,
     t: &Tree,
@@ -85,14 +85,14 @@ pub fn write_parts(
     requires depth { most_depth ≤ MOST_DEPTH }
     requires in_order { IsInOrder line.now.frame.size (strategy_of t.now) }
     ensures wins { IfOk result (λ o. IfSome o (λ v.
-        IsWinningSharedCertificate line.now.frame line.now.state s (first_of (strategy_of t.now)) most_depth v.items)) }
+        IsWinningSharedCertificate line.now.frame line.now.state s (first_turn_of (strategy_of t.now)) most_depth v.items)) }
     ensures short { IfOk result (λ o. IfSome o (λ v. length v.items ≤ most_bytes)) }
 {
-    let Some(text) = drafted(alloc, s, t, line, most_depth, most_bytes)? else {
+    let Some(text) = draft_text(alloc, s, t, line, most_depth, most_bytes)? else {
         return Ok(None);
     };
     let mut copy = line.try_clone()?;
-    if is_winning(alloc, s, text.as_slice(), &mut copy, most_depth, t.first())? {
+    if is_winning_cert(alloc, s, text.as_slice(), &mut copy, most_depth, t.first())? {
         return Ok(Some(text));
     }
     Ok(None)

@@ -1,8 +1,8 @@
 //! Outlines: strategy trees in which a part is written once and named.
 
 ghost use Rattle.std.specs.Prelude.{◌≡◌, [], IfOk};
-ghost use Rattle.tt_proof.specs.Outlines.{picked, replied, outline_of, branches_of_list, unfolded};
-ghost use Rattle.tt_proof.specs.Proven.{first_of};
+ghost use Rattle.tt_proof.specs.Outlines.{picked, replied, outline_of, branches_of_reply, unfolded};
+ghost use Rattle.tt_proof.specs.ProofClaim.{first_turn_of};
 
 use std::alloc::Global;
 use std::sync::Arc;
@@ -44,14 +44,14 @@ impl Outline {
         named: bool,
         branches: Vec<(Turn, Outline)>,
     ) -> Result<Outline, NoMemory>
-        ensures { IfOk result (λ o. outline_of o ≡ replied named (branches_of_list branches.items)) }
+        ensures { IfOk result (λ o. outline_of o ≡ replied named (branches_of_reply branches.items)) }
     {
         Ok(Outline::Reply(named, Arc::new(alloc, branches)?))
     }
 
     /// The turn that the tree begins with, where it plays one at once.
     pub(crate) fn first(&self) -> Option<Turn>
-        ensures { result ≡ first_of (unfolded [] (outline_of self.now)) }
+        ensures { result ≡ first_turn_of (unfolded [] (outline_of self.now)) }
     {
         match self {
             Outline::Pick(_, turn, _) => Some(*turn),

@@ -2,10 +2,10 @@
 
 ghost use Rattle.std.specs.Prelude.{◌≡◌, ◌↔◌, IfOk, IsTrue};
 ghost use Rattle.tt_proof.specs.KeptFootprints.{IsBoardAfter};
-ghost use Rattle.tt_proof.specs.SharedParts.{Meets, RestsOnPosition, RestsOnRepeats, RestsBeforePick, RestsBeforeReply, RestsOnBoth};
+ghost use Rattle.tt_proof.specs.SharedParts.{FootprintFits, RestsOnPosition, RestsOnRepeats, RestsBeforePick, RestsBeforeReply, RestsOnBoth};
 
 use crate::board_set::BoardSet;
-use crate::footprints::{Footprint, put_played, take_made};
+use crate::footprints::{Footprint, add_made_board, remove_made_board};
 use std::alloc::Global;
 use tt_board::Board;
 use tt_game::{Line, Side, Turn};
@@ -36,14 +36,14 @@ impl PositionFootprint {
     }
 
     /// The line's position with a history that has the boards which plays would repeat.
-    pub(crate) fn of_repeats(alloc: Global, line: &Line) -> Result<PositionFootprint, NoMemory>
+    pub(crate) fn of_empty_reply(alloc: Global, line: &Line) -> Result<PositionFootprint, NoMemory>
         ensures { IfOk result (λ x. RestsOnRepeats line.now.frame line.now.state x) }
     {
         let Footprint {
             needs,
             avoids,
             met: _,
-        } = Footprint::of_repeats(alloc, line)?;
+        } = Footprint::of_empty_reply(alloc, line)?;
         Ok(PositionFootprint {
             board: line.present().copy(),
             to_move: line.to_move(),
@@ -71,8 +71,8 @@ impl PositionFootprint {
             mut needs,
             mut avoids,
         } = self;
-        take_made(&mut needs, turn, board);
-        put_played(alloc, &mut avoids, turn, board)?;
+        remove_made_board(&mut needs, turn, board);
+        add_made_board(alloc, &mut avoids, turn, board)?;
         Ok(PositionFootprint {
             board: line.present().copy(),
             to_move: line.to_move(),
@@ -83,7 +83,12 @@ impl PositionFootprint {
     }
 
     /// What a tree that rests on this rests on in front of the turn of the other side, which leads to the board.
-    pub(crate) fn passed(self, line: &Line, turn: &Turn, board: &Board) -> PositionFootprint
+    pub(crate) fn before_opposing_turn(
+        self,
+        line: &Line,
+        turn: &Turn,
+        board: &Board,
+    ) -> PositionFootprint
         requires { IsBoardAfter line.now.frame line.now.state turn.now board.now }
         ensures { RestsBeforeReply line.now.frame line.now.state turn.now self result }
     {
@@ -94,7 +99,7 @@ impl PositionFootprint {
             mut needs,
             avoids,
         } = self;
-        take_made(&mut needs, turn, board);
+        remove_made_board(&mut needs, turn, board);
         PositionFootprint {
             board: line.present().copy(),
             to_move: line.to_move(),
@@ -149,15 +154,15 @@ impl PositionFootprint {
     }
 
     /// Whether the line has the position, and its history all that is needed and nothing that is avoided.
-    pub(crate) fn is_met(&self, line: &Line) -> bool
-        ensures { IsTrue result ↔ Meets line.now.frame self.now line.now.state }
+    pub(crate) fn fits_line(&self, line: &Line) -> bool
+        ensures { IsTrue result ↔ FootprintFits line.now.frame self.now line.now.state }
     {
         if self.to_move != line.to_move() || self.passes != line.passes() {
             return false;
         }
-        if !self.board.same(line.present()) || !self.needs.all_in(line) {
+        if !self.board.same(line.present()) || !self.needs.all_in_history(line) {
             return false;
         }
-        self.avoids.none_in(line)
+        self.avoids.none_in_history(line)
     }
 }

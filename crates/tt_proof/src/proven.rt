@@ -9,15 +9,15 @@ ghost use Rattle.tt_game.specs.declared.turns.Turn.{Turn};
 ghost use Rattle.tt_proof.specs.declared.tree.TheConstants.{MOST_DEPTH};
 ghost use Rattle.tt_proof.specs.Strategy.{pick, reply, done, depth, strategy_of, IsInOrder, entries_of};
 ghost use Rattle.tt_proof.specs.Nodes.{nodes};
-ghost use Rattle.tt_proof.specs.Bounds.{IsWithin};
-ghost use Rattle.tt_proof.specs.Proven.{IsWon, StandsAt, IsChild, AreChildren, turns_of, trees_by_turn, first_of};
+ghost use Rattle.tt_proof.specs.BoardBounds.{IsWithin};
+ghost use Rattle.tt_proof.specs.ProofClaim.{IsWinningTree, StandsAt, IsChild, AreChildren, turns_of, trees_by_turn, first_turn_of};
 ghost use Rattle.tt_proof.specs.Footprints.{FitsAt};
 ghost use Rattle.tt_proof.specs.KeptFootprints.{IsFootprint};
 ghost use Rattle.tt_proof.specs.Rejections.{IsRejected};
 
-use crate::bounds::{Bound, is_within};
+use crate::board_bounds::{BoardBound, is_within};
 use crate::footprints::{Footprint, footprint_of};
-use crate::measured_tree::{MeasuredTree, Replies};
+use crate::measured_tree::{MeasuredTree, ReplyBuilder};
 use crate::replays::replay;
 use crate::tree::Tree;
 use std::alloc::Global;
@@ -39,17 +39,17 @@ pub struct Proof {
 impl Model for Proof {
     ghost use Rattle.std.specs.Coded.{codes};
     ghost use Rattle.tt_sgf.specs.contracts.sets.PointSet as points;
-    ghost use Rattle.tt_proof.specs.Proven.{Proven};
-    ghost use Rattle.tt_proof.specs.KeptFootprints.{IsFooted};
+    ghost use Rattle.tt_proof.specs.ProofClaim.{ProofClaim};
+    ghost use Rattle.tt_proof.specs.KeptFootprints.{WinsWithFootprint};
     ghost use Rattle.tt_proof.specs.laws.StrategyCode.{strategy_code};
 
-    ghost Value = { Proven };
+    ghost Value = { ProofClaim };
 
     ghost coded = { Prim.hlevel (codes, points.the_row.coded, strategy_code) };
 
     ghost view = { λ p. record { frame = p.snapshot.frame; state = p.snapshot.state; side = p.side; tree = p.measured_tree } };
 
-    ghost invariant = { λ p. IsFooted p.side p.snapshot.frame p.snapshot.state p.measured_tree p.footprint };
+    ghost invariant = { λ p. WinsWithFootprint p.side p.snapshot.frame p.snapshot.state p.measured_tree p.footprint };
 }
 
 /// Why a tree was not made a proof. The tree comes back.
@@ -63,7 +63,7 @@ impl Proof {
     /// The side that the tree wins for.
     pub fn side(&self) -> Side
         ensures side { result ≡ self.now.side }
-        ensures wins { IsWon self.now.side self.now.frame self.now.state self.now.tree }
+        ensures wins { IsWinningTree self.now.side self.now.frame self.now.state self.now.tree }
     {
         self.side
     }
@@ -71,7 +71,7 @@ impl Proof {
     /// The tree.
     pub fn tree(&self) -> &Tree
         ensures tree { strategy_of result.now ≡ self.now.tree }
-        ensures wins { IsWon self.now.side self.now.frame self.now.state self.now.tree }
+        ensures wins { IsWinningTree self.now.side self.now.frame self.now.state self.now.tree }
     {
         self.measured_tree.tree()
     }
@@ -79,15 +79,15 @@ impl Proof {
     /// The tree with its measures.
     pub fn measured_tree(&self) -> &MeasuredTree
         ensures measured_tree { result.now ≡ self.now.tree }
-        ensures wins { IsWon self.now.side self.now.frame self.now.state self.now.tree }
+        ensures wins { IsWinningTree self.now.side self.now.frame self.now.state self.now.tree }
     {
         &self.measured_tree
     }
 
     /// The tree with its measures, and its footprint, and nothing of where the proof stood.
-    fn into_parts(self) -> (MeasuredTree, Footprint)
+    fn into_tree_and_footprint(self) -> (MeasuredTree, Footprint)
         ensures measured_tree { result.0 ≡ self.tree }
-        ensures wins { IsWon self.side self.frame self.state self.tree }
+        ensures wins { IsWinningTree self.side self.frame self.state self.tree }
         ensures footprint { IsFootprint self.frame self.state self.tree result.1 }
     {
         let Proof {
@@ -101,7 +101,7 @@ impl Proof {
 
     /// The turn that the side plays first, where it is to move.
     pub fn first(&self) -> Option<Turn>
-        ensures { result ≡ first_of self.now.tree }
+        ensures { result ≡ first_turn_of self.now.tree }
     {
         self.measured_tree.tree().first()
     }
@@ -153,7 +153,7 @@ impl Proof {
     pub fn stands_at(&self, line: &Line) -> bool
         ensures { IsTrue result ↔ StandsAt self.now line.now.frame line.now.state }
     {
-        self.snapshot.stands_with(line)
+        self.snapshot.is_state_of(line)
     }
 
     /// The board of the proof's own position, made anew.
@@ -175,22 +175,22 @@ impl Proof {
     /// turn is played, and it takes no memory. A tree can win where it doesn't fit: there `replay` decides.
     pub fn fits(&self, line: &Line) -> bool
         ensures fits { IsTrue result ↔ FitsAt self.now line.now.frame line.now.state }
-        ensures wins { IsTrue result → IsWon self.now.side line.now.frame line.now.state self.now.tree }
+        ensures wins { IsTrue result → IsWinningTree self.now.side line.now.frame line.now.state self.now.tree }
     {
         if !self.snapshot.is_position_of(line) {
             return false;
         }
-        if !self.footprint.needs.all_in(line) {
+        if !self.footprint.needs.all_in_history(line) {
             return false;
         }
-        self.footprint.avoids.none_in(line)
+        self.footprint.avoids.none_in_history(line)
     }
 
     /// Whether the tree wins at the line, too: it does where it fits, and otherwise a replay decides. The line has a board of the
     /// proof's size. It stands as before, also after want of memory.
     pub fn wins_at(&self, line: &mut Line) -> Result<bool, NoMemory>
         requires { self.now.frame.size ≡ line.old.frame.size }
-        ensures exact { IfOk result (λ wins. IsTrue wins ↔ IsWon self.now.side line.old.frame line.old.state self.now.tree) }
+        ensures exact { IfOk result (λ wins. IsTrue wins ↔ IsWinningTree self.now.side line.old.frame line.old.state self.now.tree) }
         ensures unasked { FitsAt self.now line.old.frame line.old.state → result ≡ Ok true }
         ensures same { line.new ≡ line.old }
     {
@@ -205,7 +205,7 @@ impl Proof {
     /// with which the proof's begins too, was made where the proof stood, too, or lies outside the bound of all boards that turns of
     /// the other side make.
     pub fn footprint_if_known(&self, line: &Line) -> Option<&Footprint>
-        ensures wins { IfSome result (λ _. IsWon self.now.side line.now.frame line.now.state self.now.tree) }
+        ensures wins { IfSome result (λ _. IsWinningTree self.now.side line.now.frame line.now.state self.now.tree) }
         ensures exact { IfSome result (λ x. IsFootprint line.now.frame line.now.state self.now.tree x.now) }
         ensures stands { StandsAt self.now line.now.frame line.now.state → result ≢ None }
     {
@@ -213,9 +213,9 @@ impl Proof {
         if self.stands_at(line) {
             return Some(own);
         }
-        let behind = &line.history()[self.snapshot.begun_with(line)..];
+        let behind = &line.history()[self.snapshot.common_beginning_length(line)..];
         let earlier = &behind[..behind.len().saturating_sub(1)];
-        if self.fits(line) && are_known(&own.met, &self.snapshot, earlier) {
+        if self.fits(line) && are_outside_or_made(&own.met, &self.snapshot, earlier) {
             return Some(own);
         }
         None
@@ -224,7 +224,7 @@ impl Proof {
     /// The footprint of the tree at the line, where it wins: the proof's own where that is seen without a walk, else it is
     /// found by one. The line stands as before, also after want of memory.
     pub fn footprint_at(&self, alloc: Global, line: &mut Line) -> Result<Footprint, NoMemory>
-        requires wins { IsWon self.now.side line.old.frame line.old.state self.now.tree }
+        requires wins { IsWinningTree self.now.side line.old.frame line.old.state self.now.tree }
         ensures exact { IfOk result (λ x. IsFootprint line.old.frame line.old.state self.now.tree x) }
         ensures same { line.new ≡ line.old }
     {
@@ -246,7 +246,7 @@ impl Proof {
         match replay(&t, s, line) {
             Err(_) => Err(Rejected::NoMemory(t)),
             Ok(false) => Err(Rejected::NotWinning(t)),
-            Ok(true) => match rested(alloc, &t, line) {
+            Ok(true) => match snapshot_and_footprint(alloc, &t, line) {
                 Ok((snapshot, footprint)) => Ok(Proof {
                     snapshot,
                     side: s,
@@ -288,7 +288,7 @@ impl Proof {
     {
         let board = child.present();
         let side = child.side();
-        let (below, behind) = child.into_parts();
+        let (below, behind) = child.into_tree_and_footprint();
         let footprint = Footprint::picked(alloc, line, &t, &board, behind)?;
         let snapshot = line.snapshot()?;
         let measured_tree = MeasuredTree::pick(alloc, t, below)?;
@@ -314,12 +314,12 @@ impl Proof {
         ensures { IfOk result (λ p. StandsAt p line.now.frame line.now.state × (p.side ≡ opponent line.now.state.to_move)
             × (p.tree ≡ reply (entries_of (trees_by_turn children.items)))) }
     {
-        let mut footprint = Footprint::of_repeats(alloc, line)?;
-        let mut replies = Replies::with_capacity(alloc, children.len())?;
+        let mut footprint = Footprint::of_empty_reply(alloc, line)?;
+        let mut replies = ReplyBuilder::with_capacity(alloc, children.len())?;
         for (turn, child) in children {
             let board = child.present();
-            let (measured_tree, behind) = child.into_parts();
-            footprint.join(line, &turn, &board, behind)?;
+            let (measured_tree, behind) = child.into_tree_and_footprint();
+            footprint.add_entry(line, &turn, &board, behind)?;
             replies.push(turn, measured_tree)?;
         }
         let snapshot = line.snapshot()?;
@@ -334,13 +334,13 @@ impl Proof {
 
     /// The proof of a measured tree that is known to win at the line, and of its footprint there. No turn is played for it, and its
     /// tree is not looked at.
-    pub fn winning_with(
+    pub fn from_known_win(
         line: &Line,
         s: Side,
         measured_tree: MeasuredTree,
         footprint: Footprint,
     ) -> Result<Proof, NoMemory>
-        requires wins { IsWon s line.now.frame line.now.state measured_tree }
+        requires wins { IsWinningTree s line.now.frame line.now.state measured_tree }
         requires footprint { IsFootprint line.now.frame line.now.state measured_tree footprint }
         ensures { IfOk result (λ p. StandsAt p line.now.frame line.now.state × (p.side ≡ s) × (p.tree ≡ measured_tree)) }
     {
@@ -355,21 +355,21 @@ impl Proof {
 }
 
 /// Whether the board lies outside the bound, or was made where the snapshot is.
-fn is_known(bound: &Option<Bound>, snapshot: &Snapshot, board: &Board) -> bool
+fn is_outside_or_made(bound: &Option<BoardBound>, snapshot: &Snapshot, board: &Board) -> bool
     ensures { IsTrue result → IsWithin bound.now board.now → Contains (history snapshot.now.state) board.now.points }
 {
     if is_within(bound, board) {
-        return snapshot.has_made(board);
+        return snapshot.has_later_board(board);
     }
     true
 }
 
 /// Whether each of the boards lies outside the bound, or was made where the snapshot is.
-fn are_known(bound: &Option<Bound>, snapshot: &Snapshot, boards: &[Board]) -> bool
+fn are_outside_or_made(bound: &Option<BoardBound>, snapshot: &Snapshot, boards: &[Board]) -> bool
     ensures { IsTrue result → All (λ b. IsWithin bound.now b → Contains (history snapshot.now.state) b.points) boards.now }
 {
     for board in boards {
-        if !is_known(bound, snapshot, board) {
+        if !is_outside_or_made(bound, snapshot, board) {
             return false;
         }
     }
@@ -377,7 +377,11 @@ fn are_known(bound: &Option<Bound>, snapshot: &Snapshot, boards: &[Board]) -> bo
 }
 
 /// Where the line stands, and the footprint of the tree there. The line stands as before.
-fn rested(alloc: Global, t: &Tree, line: &mut Line) -> Result<(Snapshot, Footprint), NoMemory>
+fn snapshot_and_footprint(
+    alloc: Global,
+    t: &Tree,
+    line: &mut Line,
+) -> Result<(Snapshot, Footprint), NoMemory>
     requires depth { depth (strategy_of t.now) ≤ MOST_DEPTH }
     requires in_order { IsInOrder line.old.frame.size (strategy_of t.now) }
     ensures stands { IfOk result (λ r. (r.0.frame ≡ line.old.frame) × (r.0.state ≡ line.old.state)) }

@@ -2,7 +2,7 @@
 
 ghost use Rattle.std.specs.Prelude.{◌≡◌, ◌↔◌, ℕ, ◌<◌, ◌≤◌, IfOk, IsTrue, None, length};
 ghost use Rattle.tt_proof.specs.declared.tree.TheConstants.{MOST_DEPTH};
-ghost use Rattle.tt_proof.specs.Strategy.{done, pick, reply, depth, depth_of_entries, strategy_of, entries_of_list, IsInOrder, AreInOrder, IsOnBoard};
+ghost use Rattle.tt_proof.specs.Strategy.{done, pick, reply, depth, depth_of_entries, strategy_of, entries_of_reply, IsInOrder, AreInOrder, IsOnBoard};
 ghost use Rattle.tt_proof.specs.Wins.{Wins};
 ghost use Rattle.tt_proof.specs.inside.Replaying.{HasEntry, LegalWin, AnswersAfter, AnswersEach};
 ghost use Rattle.tt_game.specs.declared.turns.Turn.{Turn};
@@ -14,7 +14,7 @@ use tt_game::{Line, Refused, Side, Turn};
 use tt_sgf::{NoMemory, Point};
 
 fn has_turn(list: &[(Turn, Tree)], turn: Turn) -> bool
-    ensures { IsTrue result ↔ HasEntry (entries_of_list list.now) turn }
+    ensures { IsTrue result ↔ HasEntry (entries_of_reply list.now) turn }
 {
     for entry in list {
         if entry.0 == turn {
@@ -26,7 +26,7 @@ fn has_turn(list: &[(Turn, Tree)], turn: Turn) -> bool
 
 /// Whether the entry at the place is of the turn.
 fn has_turn_at(list: &[(Turn, Tree)], place: usize, turn: Turn) -> bool
-    ensures entry { IsTrue result → HasEntry (entries_of_list list.now) turn }
+    ensures entry { IsTrue result → HasEntry (entries_of_reply list.now) turn }
     ensures within { IsTrue result → place < length list.now }
 {
     match list.get(place) {
@@ -36,9 +36,9 @@ fn has_turn_at(list: &[(Turn, Tree)], place: usize, turn: Turn) -> bool
 }
 
 /// Whether the play has an entry, or is not legal. It is made only where it has none.
-fn is_answered(list: &[(Turn, Tree)], line: &Line, p: Point) -> bool
+fn is_answered_or_illegal(list: &[(Turn, Tree)], line: &Line, p: Point) -> bool
     requires { p < point_count line.now.frame.size }
-    ensures { IsTrue result ↔ (IsLegal line.now.frame line.now.state (Turn.Play p) → HasEntry (entries_of_list list.now) (Turn.Play p)) }
+    ensures { IsTrue result ↔ (IsLegal line.now.frame line.now.state (Turn.Play p) → HasEntry (entries_of_reply list.now) (Turn.Play p)) }
 {
     line.present().at(p).is_some()
         || has_turn(list, Turn::Play(p))
@@ -48,7 +48,7 @@ fn is_answered(list: &[(Turn, Tree)], line: &Line, p: Point) -> bool
 /// Whether each legal play has an entry. Entries mostly stand in the order of their points: so the one behind the last
 /// that was found is looked at first.
 fn plays_are_answered(list: &[(Turn, Tree)], line: &Line) -> bool
-    ensures { IsTrue result ↔ ((p : ℕ) → IsLegal line.now.frame line.now.state (Turn.Play p) → HasEntry (entries_of_list list.now) (Turn.Play p)) }
+    ensures { IsTrue result ↔ ((p : ℕ) → IsLegal line.now.frame line.now.state (Turn.Play p) → HasEntry (entries_of_reply list.now) (Turn.Play p)) }
 {
     let frame = line.frame();
     let mut place = 0;
@@ -56,7 +56,7 @@ fn plays_are_answered(list: &[(Turn, Tree)], line: &Line) -> bool
     while let Some(p) = frame.region.least_from(from) {
         if has_turn_at(list, place, Turn::Play(p)) {
             place += 1;
-        } else if frame.size.holds(p) && !is_answered(list, line, p) {
+        } else if frame.size.holds(p) && !is_answered_or_illegal(list, line, p) {
             return false;
         }
         from = p.number() + 1;
@@ -65,17 +65,17 @@ fn plays_are_answered(list: &[(Turn, Tree)], line: &Line) -> bool
 }
 
 /// Whether nobody has won and the other side is to move.
-pub(crate) fn is_asked(s: Side, line: &Line) -> bool
+pub(crate) fn awaits_other_side(s: Side, line: &Line) -> bool
     ensures { IsTrue result ↔ ((winner_of line.now.frame line.now.state ≡ None) × (line.now.state.to_move ≡ opponent s)) }
 {
     line.winner().is_none() && line.to_move() == s.opponent()
 }
 
 /// Whether the other side is to move and the list has an entry for each of its turns.
-fn answers_each(list: &[(Turn, Tree)], s: Side, line: &Line) -> bool
-    ensures { IsTrue result ↔ AnswersEach s line.now.frame line.now.state (entries_of_list list.now) }
+fn answers_each_turn(list: &[(Turn, Tree)], s: Side, line: &Line) -> bool
+    ensures { IsTrue result ↔ AnswersEach s line.now.frame line.now.state (entries_of_reply list.now) }
 {
-    is_asked(s, line) && has_turn(list, Turn::Pass) && plays_are_answered(list, line)
+    awaits_other_side(s, line) && has_turn(list, Turn::Pass) && plays_are_answered(list, line)
 }
 
 /// Whether the child wins after the turn; none where the turn is not legal. The line stands as before.
@@ -108,10 +108,10 @@ fn replay_after(
 
 /// Whether each entry of a legal turn wins after it. The line stands as before.
 #[cycle(replay)]
-fn replay_each(list: &[(Turn, Tree)], s: Side, line: &mut Line) -> Result<bool, NoMemory>
-    requires depth { depth_of_entries (entries_of_list list.now) ≤ MOST_DEPTH }
-    requires in_order { AreInOrder line.old.frame.size 0 (entries_of_list list.now) }
-    ensures exact { IfOk result (λ wins. IsTrue wins ↔ LegalWin s line.old.frame line.old.state (entries_of_list list.now)) }
+fn replay_entries(list: &[(Turn, Tree)], s: Side, line: &mut Line) -> Result<bool, NoMemory>
+    requires depth { depth_of_entries (entries_of_reply list.now) ≤ MOST_DEPTH }
+    requires in_order { AreInOrder line.old.frame.size 0 (entries_of_reply list.now) }
+    ensures exact { IfOk result (λ wins. IsTrue wins ↔ LegalWin s line.old.frame line.old.state (entries_of_reply list.now)) }
     ensures same { line.new ≡ line.old }
 {
     for (turn, child) in list {
@@ -142,15 +142,15 @@ fn replay_pick(turn: Turn, child: &Tree, s: Side, line: &mut Line) -> Result<boo
 
 #[cycle(replay)]
 fn replay_reply(list: &[(Turn, Tree)], s: Side, line: &mut Line) -> Result<bool, NoMemory>
-    requires depth { depth_of_entries (entries_of_list list.now) ≤ MOST_DEPTH }
-    requires in_order { AreInOrder line.old.frame.size 0 (entries_of_list list.now) }
-    ensures exact { IfOk result (λ wins. IsTrue wins ↔ Wins s line.old.frame (reply (entries_of_list list.now)) line.old.state) }
+    requires depth { depth_of_entries (entries_of_reply list.now) ≤ MOST_DEPTH }
+    requires in_order { AreInOrder line.old.frame.size 0 (entries_of_reply list.now) }
+    ensures exact { IfOk result (λ wins. IsTrue wins ↔ Wins s line.old.frame (reply (entries_of_reply list.now)) line.old.state) }
     ensures same { line.new ≡ line.old }
 {
-    if !answers_each(list, s, line) {
+    if !answers_each_turn(list, s, line) {
         return Ok(false);
     }
-    replay_each(list, s, line)
+    replay_entries(list, s, line)
 }
 
 /// Whether the tree wins for the side from the line's state. Entries of turns that aren't legal aren't looked at.

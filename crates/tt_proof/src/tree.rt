@@ -2,7 +2,7 @@
 
 ghost use Rattle.std.specs.Prelude.{◌≡◌, IfOk};
 ghost use Rattle.tt_proof.specs.Strategy.{strategy_of};
-ghost use Rattle.tt_proof.specs.Proven.{first_of};
+ghost use Rattle.tt_proof.specs.ProofClaim.{first_turn_of};
 
 use std::sync::Arc;
 use tt_game::Turn;
@@ -42,7 +42,7 @@ impl Tree {
 
     /// The turn that the side plays first, where it plays one at once.
     pub fn first(&self) -> Option<Turn>
-        ensures { result ≡ first_of (strategy_of self.now) }
+        ensures { result ≡ first_turn_of (strategy_of self.now) }
     {
         match self {
             Tree::Pick(turn, _) => Some(*turn),

@@ -1,7 +1,7 @@
 //! Trees made of their parts.
 
 ghost use Rattle.std.specs.Prelude.{◌≡◌, IfOk};
-ghost use Rattle.tt_proof.specs.Strategy.{done, pick, reply, strategy_of, entries_of_list};
+ghost use Rattle.tt_proof.specs.Strategy.{done, pick, reply, strategy_of, entries_of_reply};
 
 use crate::tree::Tree;
 use std::alloc::Global;
@@ -29,7 +29,7 @@ impl Tree {
     /// The tree that answers each of the listed turns with its own tree.
     #[tactic(auto, using(crate::proofs::StrategyLemmas::strategy_of_reply))]
     pub fn reply(alloc: Global, entries: Vec<(Turn, Tree)>) -> Result<Tree, NoMemory>
-        ensures { IfOk result (λ t. strategy_of t ≡ reply (entries_of_list entries.items)) }
+        ensures { IfOk result (λ t. strategy_of t ≡ reply (entries_of_reply entries.items)) }
     {
         Ok(Tree::Reply(Arc::new(alloc, entries)?))
     }

@@ -1,19 +1,19 @@
 -- What steps together ask for, and what they spend.
 use Rattle.std.proofs.Common.{◌≡◌, ◌≢◌, ◌↔◌, ℕ, ◌+◌, ◌-◌, ◌^◌, ◌<◌, ◌⊎◌, Bool, true, false, Some, inl, inr, refl, sym, ◌∙◌, ap, subst, arith}
-use Rattle.tt_search.specs.Grants.{Asked, AskedBy}
+use Rattle.tt_search.specs.Grants.{GrantTally, IsAskOfStep}
 use Rattle.tt_search.specs.inside.Asking.{AreAsked}
 use Rattle.tt_search.specs.PartialTree.{PartialTree}
 use Rattle.tt_search.specs.inside.Walking.{Stand, Stage}
 use Rattle.tt_search.specs.inside.Taken.{Taken, IsLeft}
-use Rattle.tt_search.specs.Searched.{Searched}
-use Rattle.tt_search.specs.RunEnds.{HasSpent, SpentBy}
+use Rattle.tt_search.specs.SearchState.{SearchState}
+use Rattle.tt_search.specs.RunEnds.{HasSpent, IsSpentBy}
 use Rattle.tt_search.specs.declared.search.End.TheVariants as end
 use Rattle.tt_search.specs.declared.limits.Reason.{Reason}
 use Rattle.tt_search.specs.declared.limits.Reason.TheVariants.{Budget, Depth, Total, Memory}
 use Rattle.tt_search.specs.declared.limits.Step.{Step}
 use Rattle.tt_search.specs.declared.limits.Step.TheVariants.{Expanded, Closed, Settled, Stuck}
-use Rattle.tt_search.specs.declared.descent.Stop.{Stop}
-use Rattle.tt_search.specs.declared.descent.Stop.TheVariants.{OneStep}
+use Rattle.tt_search.specs.declared.descent.StopAfter.{StopAfter}
+use Rattle.tt_search.specs.declared.descent.StopAfter.TheVariants.{OneStep}
 
 -- an expansion needs some of what is left
 pub room_to_ask : (at : Stand) (old : Stage) (step : Step) (tree : PartialTree) (granted : ℕ) → Taken at old step tree → granted + old.left < 2 ^ 64 → step ≡ Expanded → granted < 2 ^ 64 - 1
@@ -23,27 +23,27 @@ room_to_ask at old step tree granted h room e =
     omega (arith, left, room)
 
 -- one step asks for what it asks
-pub asked_once : (stop : Stop) (old new : Asked) (step : Step) → AskedBy old step new → AreAsked stop old step new
+pub asked_once : (stop : StopAfter) (old new : GrantTally) (step : Step) → IsAskOfStep old step new → AreAsked stop old step new
 asked_once stop old new step h = record { before = old; granted = refl; one = λ e. refl; asked = h }
 
 -- what was granted so far, where none was refused
-pub record IsGranted (stop : Stop) (old now : Asked) : Type 0 where
+pub record IsGranted (stop : StopAfter) (old now : GrantTally) : Type 0 where
   pub same : now.refused ≡ old.refused
   pub one : stop ≡ OneStep → now ≡ old
 
 -- nothing yet
-pub granted_first : (stop : Stop) (old : Asked) → IsGranted stop old old
+pub granted_first : (stop : StopAfter) (old : GrantTally) → IsGranted stop old old
 granted_first stop old = record { same = refl; one = λ e. refl }
 
-module _ (stop : Stop) (old now new : Asked) (step : Step) (far : IsGranted stop old now) (h : AreAsked stop now step new) where
+module _ (stop : StopAfter) (old now new : GrantTally) (step : Step) (far : IsGranted stop old now) (h : AreAsked stop now step new) where
   -- a round that is the last one
   pub asked_last : AreAsked stop old step new
   asked_last = record { before = h.before; granted = h.granted ∙ far.same; one = λ e. h.one e ∙ far.one e; asked = h.asked }
 
   -- an expansion is asked for only where none was refused, and then none is
-  kept_by : (before : Asked) → (step ≡ Expanded) ⊎ (step ≡ Closed) → AskedBy before step new → new.refused ≡ before.refused
-  kept_by before (inl e) k = let was = subst (λ s. AskedBy before s new) e k in ap (λ (a : Asked). a.refused) was.1 ∙ sym was.0
-  kept_by before (inr e) k = ap (λ (a : Asked). a.refused) (subst (λ s. AskedBy before s new) e k)
+  kept_by : (before : GrantTally) → (step ≡ Expanded) ⊎ (step ≡ Closed) → IsAskOfStep before step new → new.refused ≡ before.refused
+  kept_by before (inl e) k = let was = subst (λ s. IsAskOfStep before s new) e k in ap (λ (a : GrantTally). a.refused) was.1 ∙ sym was.0
+  kept_by before (inr e) k = ap (λ (a : GrantTally). a.refused) (subst (λ s. IsAskOfStep before s new) e k)
 
   -- a round that changes its tree, where others follow
   pub granted_more : (once : Bool) → (once ≡ true) ↔ (stop ≡ OneStep) → once ≡ false → (step ≡ Expanded) ⊎ (step ≡ Closed) → IsGranted stop old new
@@ -55,17 +55,17 @@ module _ (stop : Stop) (old now new : Asked) (step : Step) (far : IsGranted stop
 -- ---- runs
 
 -- where the last step expands or closes, none is refused
-pub kept_refused : (stop : Stop) (old new : Asked) (step : Step) → AreAsked stop old step new → (step ≡ Expanded) ⊎ (step ≡ Closed) → new.refused ≡ old.refused
+pub kept_refused : (stop : StopAfter) (old new : GrantTally) (step : Step) → AreAsked stop old step new → (step ≡ Expanded) ⊎ (step ≡ Closed) → new.refused ≡ old.refused
 kept_refused stop old new step h changed = kept_by stop old old new step (granted_first stop old) h h.before changed h.asked ∙ h.granted
 
 -- nor where it finds the search settled
-pub settled_refused : (stop : Stop) (old new : Asked) → AreAsked stop old Settled new → new.refused ≡ old.refused
-settled_refused stop old new h = ap (λ (a : Asked). a.refused) h.asked ∙ h.granted
+pub settled_refused : (stop : StopAfter) (old new : GrantTally) → AreAsked stop old Settled new → new.refused ≡ old.refused
+settled_refused stop old new h = ap (λ (a : GrantTally). a.refused) h.asked ∙ h.granted
 
 -- what a run spent that ends stuck
-pub spent_stuck : (stop : Stop) (start search : Searched) (first old new : Asked) (reason : Reason) → HasSpent start first search new → old.refused ≡ first.refused
-    → AreAsked stop old (Stuck reason) new → SpentBy start first (end.Stuck reason (Some search)) new
-spent_stuck stop start search first old new Budget spent same h = (spent, ap (λ (a : Asked). a.refused) h.asked ∙ h.granted ∙ same)
-spent_stuck stop start search first old new Depth spent same h = (spent, ap (λ (a : Asked). a.refused) h.asked ∙ h.granted ∙ same)
-spent_stuck stop start search first old new Total spent same h = (spent, ap (λ (a : Asked). a.refused) h.asked)
-spent_stuck stop start search first old new Memory spent same h = (spent, ap (λ (a : Asked). a.refused) h.asked ∙ h.granted ∙ same)
+pub spent_stuck : (stop : StopAfter) (start search : SearchState) (first old new : GrantTally) (reason : Reason) → HasSpent start first search new → old.refused ≡ first.refused
+    → AreAsked stop old (Stuck reason) new → IsSpentBy start first (end.Stuck reason (Some search)) new
+spent_stuck stop start search first old new Budget spent same h = (spent, ap (λ (a : GrantTally). a.refused) h.asked ∙ h.granted ∙ same)
+spent_stuck stop start search first old new Depth spent same h = (spent, ap (λ (a : GrantTally). a.refused) h.asked ∙ h.granted ∙ same)
+spent_stuck stop start search first old new Total spent same h = (spent, ap (λ (a : GrantTally). a.refused) h.asked)
+spent_stuck stop start search first old new Memory spent same h = (spent, ap (λ (a : GrantTally). a.refused) h.asked ∙ h.granted ∙ same)

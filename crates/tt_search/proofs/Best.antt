@@ -7,7 +7,7 @@ use Rattle.tt_game.specs.declared.turns.Turn.{Turn}
 use Rattle.tt_game.specs.Game.{opponent}
 use Rattle.tt_search.specs.PartialTree.{PartialTree, fresh, won, closed, expanded, Children, no_more, more}
 use Rattle.tt_search.specs.Numbers.{infinite, least, capped_sum, decided_number, number, numbers, IsUndecided}
-use Rattle.tt_search.specs.MostProving.{index, best}
+use Rattle.tt_search.specs.MostProving.{first_index_of, index_of_best}
 use Rattle.tt_search.specs.inside.Children.{children_of}
 use Rattle.tt_search.proofs.Rows.{least_le, number_le}
 
@@ -61,7 +61,7 @@ index_least v x xs e h = grind (arith, common_steps)
 
 -- the place of the number is there, and the child there has the number
 abbrev pub IsChildAt : Side → ℕ → List PartialTree → PartialTree → Type 0
-IsChildAt goal v trees d = (index v (numbers goal (children_of trees)) < length trees) × (number goal (get_or trees (index v (numbers goal (children_of trees))) d) ≡ v)
+IsChildAt goal v trees d = (first_index_of v (numbers goal (children_of trees)) < length trees) × (number goal (get_or trees (first_index_of v (numbers goal (children_of trees))) d) ≡ v)
 
 -- the first child with the least number is the first of all, or else it is found among the others
 child_here : (goal : Side) (v : ℕ) (tree : PartialTree) (trees : List PartialTree) (d : PartialTree) → v ≡ least (numbers goal (children_of (tree ∷ trees)))
@@ -98,7 +98,7 @@ undecided_from tree Defender a b = (b, a)
 
 -- the best child of an undecided node is there and undecided
 pub best_child : (mover : Side) (turns : List Turn) (trees : List PartialTree) (d : PartialTree) → IsUndecided (expanded mover turns (children_of trees))
-    → (best mover (children_of trees) < length trees) × IsUndecided (get_or trees (best mover (children_of trees)) d)
+    → (index_of_best mover (children_of trees) < length trees) × IsUndecided (get_or trees (index_of_best mover (children_of trees)) d)
 best_child mover turns trees d u =
     let v : ℕ = least (numbers mover (children_of trees)) in
     let tree : PartialTree = expanded mover turns (children_of trees) in
@@ -106,7 +106,7 @@ best_child mover turns trees d u =
     let positive : v ≢ 0 = λ e. undecided_number tree u mover (own_number mover turns (children_of trees) ∙ e) in
     let k = child_at mover v trees d finite refl in (
       k.0,
-      undecided_from (get_or trees (best mover (children_of trees)) d) mover
+      undecided_from (get_or trees (index_of_best mover (children_of trees)) d) mover
           (λ e. positive (sym k.1 ∙ e))
-          (λ e. finite (sym k.1 ∙ (dual mover (get_or trees (best mover (children_of trees)) d)).from_zero e)),
+          (λ e. finite (sym k.1 ∙ (dual mover (get_or trees (index_of_best mover (children_of trees)) d)).from_zero e)),
     )

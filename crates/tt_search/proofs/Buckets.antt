@@ -10,7 +10,7 @@ use Rattle.tt_game.specs.declared.history.bloom_filter.BloomFilter.{BloomFilter}
 use Rattle.tt_game.specs.Keys.{key_of}
 use Rattle.tt_game.specs.Line.{LineWithUndo}
 use Rattle.tt_game.specs.BloomFilter.{MayHold}
-use Rattle.tt_proof.specs.Proven.{Proven}
+use Rattle.tt_proof.specs.ProofClaim.{ProofClaim}
 use Rattle.tt_search.specs.Stores.{HasKeyAndSide, IsNewest}
 use Rattle.tt_search.specs.KeyIndex.{index_hash, key_hashes}
 use Rattle.tt_search.specs.declared.store.key_index.TheConstants.{KEY_FILTER_BITS}
@@ -131,28 +131,28 @@ unmarked_past_next heads before hashes hash slot next linked within same is late
 -- ---- the newest proof
 
 module _ (line : LineWithUndo) (side : Side) where
-  newest_over : (xs ys : List Proven) (o : Option Proven) → IsNewest line side xs None → IsNewest line side ys o → IsNewest line side (xs ++ ys) o
+  newest_over : (xs ys : List ProofClaim) (o : Option ProofClaim) → IsNewest line side xs None → IsNewest line side ys o → IsNewest line side (xs ++ ys) o
   newest_over [] ys o none h = h
   newest_over (x ∷ xs) ys o (inl none) h = absurd (grind (arith, none))
   newest_over (x ∷ xs) ys o (inr none) h = inr (none.0, newest_over xs ys o none.1 h)
 
-  newest_before : (xs ys : List Proven) (p : Proven) → IsNewest line side xs (Some p) → IsNewest line side (xs ++ ys) (Some p)
+  newest_before : (xs ys : List ProofClaim) (p : ProofClaim) → IsNewest line side xs (Some p) → IsNewest line side (xs ++ ys) (Some p)
   newest_before [] ys p h = absurd (grind (arith, h))
   newest_before (x ∷ xs) ys p (inl h) = inl h
   newest_before (x ∷ xs) ys p (inr h) = inr (h.0, newest_before xs ys p h.1)
 
-  reversed : (ps : List Proven) (p : Proven) (o : Option Proven) → IsNewest line side (reverse ps ++ p ∷ []) o → IsNewest line side (reverse (p ∷ ps)) o
+  reversed : (ps : List ProofClaim) (p : ProofClaim) (o : Option ProofClaim) → IsNewest line side (reverse ps ++ p ∷ []) o → IsNewest line side (reverse (p ∷ ps)) o
   reversed ps p o h = subst (λ qs. IsNewest line side qs o) (sym (reverse-append (p ∷ []) ps)) h
 
-  none_behind : (ps : List Proven) (p : Proven) (n : ℕ) → NoneFrom line side (p ∷ ps) (suc n) → NoneFrom line side ps n
+  none_behind : (ps : List ProofClaim) (p : ProofClaim) (n : ℕ) → NoneFrom line side (p ∷ ps) (suc n) → NoneFrom line side ps n
   none_behind ps p n h i q low is = h (suc i) q (omega (arith, low)) is
 
-  pub none_newest : (ps : List Proven) → NoneFrom line side ps 0 → IsNewest line side (reverse ps) None
+  pub none_newest : (ps : List ProofClaim) → NoneFrom line side ps 0 → IsNewest line side (reverse ps) None
   none_newest [] h = refl
   none_newest (p ∷ ps) h =
       reversed ps p None (newest_over (reverse ps) (p ∷ []) None (none_newest ps (λ i q low is. h (suc i) q (omega arith) is)) (inr (h 0 p (omega arith) refl, refl)))
 
-  pub found_newest : (ps : List Proven) (n : ℕ) (p : Proven) → slice_get ps n ≡ Some p → HasKeyAndSide line side p → NoneFrom line side ps (suc n) → IsNewest line side (reverse ps) (Some p)
+  pub found_newest : (ps : List ProofClaim) (n : ℕ) (p : ProofClaim) → slice_get ps n ≡ Some p → HasKeyAndSide line side p → NoneFrom line side ps (suc n) → IsNewest line side (reverse ps) (Some p)
   found_newest [] n p is a h = absurd (grind (arith, is))
   found_newest (q ∷ ps) zero p is a h = let same : q ≡ p = cc is in
       reversed ps q (Some p) (newest_over (reverse ps) (q ∷ []) (Some p) (none_newest ps (none_behind ps q 0 h)) (inl (subst (HasKeyAndSide line side) (sym same) a, ap Some (sym same))))
@@ -160,43 +160,43 @@ module _ (line : LineWithUndo) (side : Side) where
 
   -- ---- the walk down a bucket
 
-  hash_at : (hashes : List ℕ) (ps : List Proven) (i : ℕ) (p : Proven) → hashes ≡ key_hashes ps → slice_get ps i ≡ Some p → get_or hashes i 0 ≡ index_hash (key_of p.frame p.state)
+  hash_at : (hashes : List ℕ) (ps : List ProofClaim) (i : ℕ) (p : ProofClaim) → hashes ≡ key_hashes ps → slice_get ps i ≡ Some p → get_or hashes i 0 ≡ index_hash (key_of p.frame p.state)
   hash_at hashes ps i p e is =
       ap (λ l. get_or l i 0) e
       ∙ get_or_from_slice_get (key_hashes ps) i (index_hash (key_of p.frame p.state)) 0
-      (slice_get-map (λ (q : Proven). index_hash (key_of q.frame q.state)) ps i ∙ ap (option_map (λ (q : Proven). index_hash (key_of q.frame q.state))) is)
+      (slice_get-map (λ (q : ProofClaim). index_hash (key_of q.frame q.state)) ps i ∙ ap (option_map (λ (q : ProofClaim). index_hash (key_of q.frame q.state))) is)
 
-  answer_hash : (p : Proven) → HasKeyAndSide line side p → index_hash (key_of p.frame p.state) ≡ index_hash (key_of line.frame line.state)
+  answer_hash : (p : ProofClaim) → HasKeyAndSide line side p → index_hash (key_of p.frame p.state) ≡ index_hash (key_of line.frame line.state)
   answer_hash p a = ap index_hash a.same_key
 
   -- what answers has the hash of the question
-  pub answers_hash : (hashes : List ℕ) (ps : List Proven) (i hash : ℕ) (p : Proven) → hashes ≡ key_hashes ps → hash ≡ index_hash (key_of line.frame line.state) → slice_get ps i ≡ Some p
+  pub answers_hash : (hashes : List ℕ) (ps : List ProofClaim) (i hash : ℕ) (p : ProofClaim) → hashes ≡ key_hashes ps → hash ≡ index_hash (key_of line.frame line.state) → slice_get ps i ≡ Some p
       → HasKeyAndSide line side p → get_or hashes i 0 ≡ hash
   answers_hash hashes ps i hash p all m is a = hash_at hashes ps i p all is ∙ answer_hash p a ∙ sym m
 
   -- no proof answers from a slot on from which no slot has the question's hash
-  pub none_unmarked : (hashes : List ℕ) (ps : List Proven) (hash n : ℕ) → hashes ≡ key_hashes ps → hash ≡ index_hash (key_of line.frame line.state) → NoHashFrom hashes hash n
+  pub none_unmarked : (hashes : List ℕ) (ps : List ProofClaim) (hash n : ℕ) → hashes ≡ key_hashes ps → hash ≡ index_hash (key_of line.frame line.state) → NoHashFrom hashes hash n
       → NoneFrom line side ps n
   none_unmarked hashes ps hash n all m un i p low at a =
       let many : length hashes ≡ length ps = ap length all ∙ length-map ps _ in
       un i low (omega (arith, many, slice_get_within ps i p at)) (answers_hash hashes ps i hash p all m at a)
 
   -- nothing answers where no slot has the question's hash
-  pub newest_unmarked : (hashes : List ℕ) (ps : List Proven) (hash n : ℕ) → hashes ≡ key_hashes ps → hash ≡ index_hash (key_of line.frame line.state) → NoHashFrom hashes hash n → n ≡ 0
+  pub newest_unmarked : (hashes : List ℕ) (ps : List ProofClaim) (hash n : ℕ) → hashes ≡ key_hashes ps → hash ≡ index_hash (key_of line.frame line.state) → NoHashFrom hashes hash n → n ≡ 0
       → IsNewest line side (reverse ps) None
   newest_unmarked hashes ps hash n all m un none = none_newest ps (λ i p low at. none_unmarked hashes ps hash n all m un i p (omega (arith, none)) at)
 
   -- no proof answers past the slot before one that doesn't answer
-  pub none_past_next : (heads before hashes : List ℕ) (ps : List Proven) (hash slot next : ℕ) → hashes ≡ key_hashes ps → hash ≡ index_hash (key_of line.frame line.state)
+  pub none_past_next : (heads before hashes : List ℕ) (ps : List ProofClaim) (hash slot next : ℕ) → hashes ≡ key_hashes ps → hash ≡ index_hash (key_of line.frame line.state)
       → AreBuckets heads before hashes (length hashes) → slot < length hashes → bucket_of_hash (get_or hashes slot 0) (length heads) ≡ bucket_of_hash hash (length heads)
       → next ≡ get_or before slot 0
-      → NoneFrom line side ps (slot + 1) → ((p : Proven) → slice_get ps slot ≡ Some p → HasKeyAndSide line side p → ⊥) → NoneFrom line side ps next
+      → NoneFrom line side ps (slot + 1) → ((p : ProofClaim) → slice_get ps slot ≡ Some p → HasKeyAndSide line side p → ⊥) → NoneFrom line side ps next
   none_past_next heads before hashes ps hash slot next all m linked within same is later here i p low =
-      past_next (λ j. (q : Proven) → slice_get ps j ≡ Some q → HasKeyAndSide line side q → ⊥) heads before hashes hash slot next linked within same is
+      past_next (λ j. (q : ProofClaim) → slice_get ps j ≡ Some q → HasKeyAndSide line side q → ⊥) heads before hashes hash slot next linked within same is
       (λ j other q at a. other (answers_hash hashes ps j hash q all m at a)) here (λ j late q. later j q late) i low p
 
   -- a proof at a slot doesn't answer where the one that was looked at there fails the test
-  pub not_found : (ps : List Proven) (slot : ℕ) (b : Bool) (p q : Proven) → slice_get ps slot ≡ Some q → slice_get ps slot ≡ Some p → b ≡ false
+  pub not_found : (ps : List ProofClaim) (slot : ℕ) (b : Bool) (p q : ProofClaim) → slice_get ps slot ≡ Some q → slice_get ps slot ≡ Some p → b ≡ false
       → (IsTrue b ↔ ((key_of q.frame q.state ≡ key_of line.frame line.state) × (q.side ≡ side))) → HasKeyAndSide line side p → ⊥
   not_found ps slot b p q there at e h a =
       let same : p ≡ q = cc (sym at ∙ there) in

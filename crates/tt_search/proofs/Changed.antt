@@ -6,7 +6,7 @@ use Rattle.tt_game.specs.declared.frame.Side.{Side}
 use Rattle.tt_game.specs.Game.{opponent}
 use Rattle.tt_search.specs.PartialTree.{PartialTree, fresh}
 use Rattle.tt_search.specs.Numbers.{infinite, cap, least, has_infinite, capped_sum, number, numbers}
-use Rattle.tt_search.specs.MostProving.{index, first_least}
+use Rattle.tt_search.specs.MostProving.{first_index_of, first_least_index}
 use Rattle.tt_search.specs.inside.Children.{children_of}
 use Rattle.tt_search.specs.inside.Choices.{Choices, node_with, best_index}
 use Rattle.tt_search.specs.inside.Pairs.{changed_sum, ArePair}
@@ -21,29 +21,29 @@ use Rattle.tt_search.proofs.Best.{own_number, other_number}
 -- ---- numbers
 
 -- the number at its place is there, behind a first one that may be it
-at_first : (v x : ℕ) (xs : List ℕ) → (index v xs < length xs → get_or xs (index v xs) 0 ≡ v) → (b : Bool) → (x == v) ≡ b → index v (x ∷ xs) < length (x ∷ xs)
-    → get_or (x ∷ xs) (index v (x ∷ xs)) 0 ≡ v
+at_first : (v x : ℕ) (xs : List ℕ) → (first_index_of v xs < length xs → get_or xs (first_index_of v xs) 0 ≡ v) → (b : Bool) → (x == v) ≡ b → first_index_of v (x ∷ xs) < length (x ∷ xs)
+    → get_or (x ∷ xs) (first_index_of v (x ∷ xs)) 0 ≡ v
 at_first v x xs rest true e l = rw e (grind (arith, common_steps))
 at_first v x xs rest false e l =
-    let here : index v (x ∷ xs) ≡ index v xs + 1 = ap (λ c. if c then 0 else index v xs + 1) e in
+    let here : first_index_of v (x ∷ xs) ≡ first_index_of v xs + 1 = ap (λ c. if c then 0 else first_index_of v xs + 1) e in
     rw (here, add-one) (rest (omega (arith, l, here)))
 
 -- the number at its place is there
-at_index : (v : ℕ) (xs : List ℕ) → index v xs < length xs → get_or xs (index v xs) 0 ≡ v
+at_index : (v : ℕ) (xs : List ℕ) → first_index_of v xs < length xs → get_or xs (first_index_of v xs) 0 ≡ v
 at_index v [] l = absurd (omega arith)
 at_index v (x ∷ xs) l = at_first v x xs (at_index v xs) (x == v) refl l
 
 -- a number no greater than the least, in the place of the first least one behind another, is the first least one
-set_behind : (v m x : ℕ) (xs : List ℕ) (i : ℕ) → (i ≡ index v xs → index m (set xs i m) ≡ i) → (b : Bool) → (x == v) ≡ b → suc i ≡ index v (x ∷ xs) → v ≤ x → m ≤ v
-    → index m (x ∷ set xs i m) ≡ suc i
-set_behind v m x xs i rest true q e b h = absurd (omega (arith, e, ap (λ c. if c then 0 else index v xs + 1) q))
+set_behind : (v m x : ℕ) (xs : List ℕ) (i : ℕ) → (i ≡ first_index_of v xs → first_index_of m (set xs i m) ≡ i) → (b : Bool) → (x == v) ≡ b → suc i ≡ first_index_of v (x ∷ xs) → v ≤ x → m ≤ v
+    → first_index_of m (x ∷ set xs i m) ≡ suc i
+set_behind v m x xs i rest true q e b h = absurd (omega (arith, e, ap (λ c. if c then 0 else first_index_of v xs + 1) q))
 set_behind v m x xs i rest false q e b h =
-    let here : i ≡ index v xs = omega (arith, e, ap (λ c. if c then 0 else index v xs + 1) q) in
+    let here : i ≡ first_index_of v xs = omega (arith, e, ap (λ c. if c then 0 else first_index_of v xs + 1) q) in
     let k = rest here in
     grind (arith, common_steps)
 
 -- a number no greater than the least, in the place of the first least one, is the first least one
-index_set : (v m : ℕ) (xs : List ℕ) (i : ℕ) → i ≡ index v xs → i < length xs → v ≤ least xs → m ≤ v → index m (set xs i m) ≡ i
+index_set : (v m : ℕ) (xs : List ℕ) (i : ℕ) → i ≡ first_index_of v xs → i < length xs → v ≤ least xs → m ≤ v → first_index_of m (set xs i m) ≡ i
 index_set v m [] i e l b h = absurd (omega arith)
 index_set v m (x ∷ xs) zero e l b h = grind (arith, common_steps)
 index_set v m (x ∷ xs) (suc i) e l b h = set_behind v m x xs i (λ k. index_set v m xs i k (omega arith) (omega (arith, b)) h) (x == v) refl e (omega (arith, b)) h
@@ -179,7 +179,7 @@ module _ (mover : Side) (old new : ChildNodes) (p : ℕ) (tree : PartialTree) (i
     -- and the place is that of the best child
     pub index_stays : p ≡ best_index (choices_of mover new)
     index_stays =
-        sym (ap first_least (row_is mover) ∙ ap (λ v. index v (set (row mover) p (number mover tree))) least_set_is
+        sym (ap first_least_index (row_is mover) ∙ ap (λ v. first_index_of v (set (row mover) p (number mover tree))) least_set_is
         ∙ index_set (least (row mover)) (number mover tree) (row mover) p is (in_row mover) (omega arith) no_more)
 
   -- where the sum was below the cap, the change gives the new sum

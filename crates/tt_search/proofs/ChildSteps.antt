@@ -19,7 +19,7 @@ use Rattle.tt_search.specs.declared.limits.Reason.TheVariants.{Budget, Depth, To
 use Rattle.tt_search.specs.declared.limits.Step.{Step}
 use Rattle.tt_search.specs.declared.limits.Step.TheVariants.{Expanded, Stuck}
 use Rattle.tt_search.specs.declared.tree.children.ChildNodes.{ChildNodes}
-use Rattle.tt_search.specs.declared.descent.Stop.{Stop}
+use Rattle.tt_search.specs.declared.descent.StopAfter.{StopAfter}
 use Rattle.tt_search.specs.declared.descent.Descent.{Descent}
 use Rattle.tt_search.proofs.Grown.{won_decided}
 use Rattle.tt_search.proofs.Steps.{IsOfferable, expansion_offerable}
@@ -175,7 +175,7 @@ module _ (x : ChildNodes) (i rank : ℕ) (e : Edge) (node : PartialTree) (l : i 
       ∙ sym n
 
   -- steps of the node are steps of the child
-  pub node_steps : (stop : Stop) (at : Stand) (left : ℕ) (step : Step) (new : PartialTree) (left_after : ℕ) (y : ChildNodes) → y.edges ≡ x.edges
+  pub node_steps : (stop : StopAfter) (at : Stand) (left : ℕ) (step : Step) (new : PartialTree) (left_after : ℕ) (y : ChildNodes) → y.edges ≡ x.edges
       → y.grown.items ≡ set x.grown.items rank new → node ≡ get_or x.grown.items rank node → AreStepsAt stop at (stage node left) step (stage new left_after)
       → StepsBelowAt stop at i x left step y left_after
   node_steps stop at left step new left_after y edges row n k = (
@@ -191,7 +191,7 @@ module _ (x : ChildNodes) (i rank : ℕ) (e : Edge) (node : PartialTree) (l : i 
   )
 
 -- a step at a fresh child is one of its steps
-pub one_step : (stop : Stop) (walk : Descent) (index : ℕ) (x : ChildNodes) (step : Step) (y : ChildNodes) (after : Descent) → child_of x index ≡ fresh → FirstStepAt walk index x step y after
+pub one_step : (stop : StopAfter) (walk : Descent) (index : ℕ) (x : ChildNodes) (step : Step) (y : ChildNodes) (after : Descent) → child_of x index ≡ fresh → FirstStepAt walk index x step y after
     → StepsBelow stop walk index x step y after
 one_step stop walk index x step y after c (tree, taken, counted, put) = (
   tree,

@@ -3,16 +3,16 @@ use Rattle.std.proofs.Common.{◌≡◌, ◌≤◌, Ok, Err, IfOk, sym, subst}
 use Rattle.std.specs.declared.result.Result.{Result}
 use Rattle.tt_game.specs.declared.frame.Side.{Side}
 use Rattle.tt_proof.specs.Strategy.{depth}
-use Rattle.tt_proof.specs.Proven.{Proven, StandsAt}
+use Rattle.tt_proof.specs.ProofClaim.{ProofClaim, StandsAt}
 use Rattle.tt_search.specs.Numbers.{number}
 use Rattle.tt_search.specs.Settled.{strategy_for}
 use Rattle.tt_search.specs.inside.Within.{StaysWithin}
-use Rattle.tt_search.specs.Searched.{Searched}
+use Rattle.tt_search.specs.SearchState.{SearchState}
 use Rattle.tt_search.specs.RunEnds.{IsProofOf}
 use Rattle.tt_search.proofs.Strategies.{low}
 
 -- a proof at the search's line, for the side it is settled for and with the tree's strategy, is the search's
-pub is_proof : {E : Type 0} (search : Searched) (side : Side) (r : Result Proven E) → number side search.tree ≡ 0
+pub is_proof : {E : Type 0} (search : SearchState) (side : Side) (r : Result ProofClaim E) → number side search.tree ≡ 0
     → StaysWithin search.line.frame.size search.limits.depth search.tree → IfOk r (λ p. StandsAt p search.line.frame search.line.state) → IfOk r (λ p. p.side ≡ side)
     → IfOk r (λ p. p.tree ≡ strategy_for side search.tree) → IfOk r (λ p. IsProofOf search p)
 is_proof search side (Err e) z h stands of tree = tt

@@ -5,7 +5,7 @@ use Rattle.tt_game.specs.declared.frame.Side.{Side}
 use Rattle.tt_search.specs.PartialTree.{PartialTree}
 use Rattle.tt_search.specs.inside.Children.{children_of}
 use Rattle.tt_search.specs.Numbers.{cap, least, has_infinite, capped_sum, numbers}
-use Rattle.tt_search.specs.MostProving.{first_least}
+use Rattle.tt_search.specs.MostProving.{first_least_index}
 use Rattle.tt_search.specs.inside.Edges.{edge_state_of, edge_trees, AreFresh}
 use Rattle.tt_search.specs.declared.tree.edges.Edge.{Edge}
 use Rattle.tt_search.specs.declared.tree.edges.EdgeState.TheVariants.{Fresh}
@@ -32,7 +32,7 @@ least_ones zero h = omega (arith, h)
 least_ones (suc n) h = least_more n
 
 -- and the first one has it
-pub first_ones : (n : ℕ) → 0 < n → first_least (replicate n 1) ≡ 0
+pub first_ones : (n : ℕ) → 0 < n → first_least_index (replicate n 1) ≡ 0
 first_ones zero h = refl
 first_ones (suc n) h = rw (least_more n) refl
 

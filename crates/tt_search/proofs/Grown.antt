@@ -9,8 +9,8 @@ use Rattle.tt_proof.specs.Strategy.{Strategy}
 use Rattle.tt_search.specs.PartialTree.{PartialTree, fresh, won, closed, expanded, Children, no_more, more}
 use Rattle.tt_sgf.specs.declared.size.Size.{Size}
 use Rattle.tt_game.specs.Turns.{legal_turns}
-use Rattle.tt_search.specs.Numbers.{count, count_all, IsUndecided}
-use Rattle.tt_search.specs.MostProving.{best, most_proving_state, state_below, most_proving_depth, depth_below, with_most_proving, with_below}
+use Rattle.tt_search.specs.Numbers.{count, expanded_in_children, IsUndecided}
+use Rattle.tt_search.specs.MostProving.{index_of_best, most_proving_state, state_below, most_proving_depth, depth_below, with_most_proving, with_leaf_below}
 use Rattle.tt_search.specs.Growing.{leaf_with_winner, new_leaf, new_leaves, expansion, IsPartialTree, ArePartialTrees}
 use Rattle.tt_search.specs.inside.Within.{StaysWithin, AllStayWithin}
 use Rattle.tt_search.specs.inside.Children.{children_of}
@@ -50,9 +50,9 @@ undecided_at (tree ∷ trees) zero d l u = u
 undecided_at (tree ∷ trees) (suc i) d l u = undecided_at trees i d (omega arith) u
 
 -- the best child of an undecided node is there and undecided
-pub best_undecided : (mover : Side) (turns : List Turn) (children : Children) → IsUndecided (expanded mover turns children) → UndecidedAt (best mover children) children
-best_undecided mover turns children u = subst (λ r. IsUndecided (expanded mover turns r) → UndecidedAt (best mover r) r) (children_of-trees_by_turn children)
-    (λ v. undecided_at (trees_by_turn children) (best mover (children_of (trees_by_turn children))) fresh (best_child mover turns (trees_by_turn children) fresh v).0
+pub best_undecided : (mover : Side) (turns : List Turn) (children : Children) → IsUndecided (expanded mover turns children) → UndecidedAt (index_of_best mover children) children
+best_undecided mover turns children u = subst (λ r. IsUndecided (expanded mover turns r) → UndecidedAt (index_of_best mover r) r) (children_of-trees_by_turn children)
+    (λ v. undecided_at (trees_by_turn children) (index_of_best mover (children_of (trees_by_turn children))) fresh (best_child mover turns (trees_by_turn children) fresh v).0
     (best_child mover turns (trees_by_turn children) fresh v).1) u
 
 mutual
@@ -61,10 +61,10 @@ mutual
   count_grown leaf fresh u = omega arith
   count_grown leaf (won side) u = absurd (won_decided side u)
   count_grown leaf (closed side tree) u = absurd (closed_decided side tree u)
-  count_grown leaf (expanded mover turns children) u = omega (arith, count_all_grown leaf (best mover children) children (best_undecided mover turns children u))
+  count_grown leaf (expanded mover turns children) u = omega (arith, count_all_grown leaf (index_of_best mover children) children (best_undecided mover turns children u))
 
   -- so it does below an undecided child
-  count_all_grown : (leaf : PartialTree) (i : ℕ) (children : Children) → UndecidedAt i children → count_all (with_below leaf i children) ≡ count_all children + count leaf
+  count_all_grown : (leaf : PartialTree) (i : ℕ) (children : Children) → UndecidedAt i children → expanded_in_children (with_leaf_below leaf i children) ≡ expanded_in_children children + count leaf
   count_all_grown leaf i no_more u = absurd u
   count_all_grown leaf zero (more tree children) u = omega (arith, count_grown leaf tree u)
   count_all_grown leaf (suc i) (more tree children) u = omega (arith, count_all_grown leaf i children u)
@@ -75,7 +75,7 @@ mutual
   leaf_open f s fresh p u = p
   leaf_open f s (won side) p u = absurd (won_decided side u)
   leaf_open f s (closed side tree) p u = absurd (closed_decided side tree u)
-  leaf_open f s (expanded mover turns children) p u = row_open f s turns (best mover children) children p.3 (best_undecided mover turns children u)
+  leaf_open f s (expanded mover turns children) p u = row_open f s turns (index_of_best mover children) children p.3 (best_undecided mover turns children u)
 
   -- nor below the undecided child at the place
   row_open : (f : Frame) (s : State) (turns : List Turn) (i : ℕ) (children : Children) → ArePartialTrees f s turns children → UndecidedAt i children
@@ -92,11 +92,11 @@ mutual
   partial_grown f s leaf fresh p l = l
   partial_grown f s leaf (won side) p l = l
   partial_grown f s leaf (closed side tree) p l = l
-  partial_grown f s leaf (expanded mover turns children) p l = (p.0, p.1, p.2, row_partial_grown f s leaf turns (best mover children) children p.3 l)
+  partial_grown f s leaf (expanded mover turns children) p l = (p.0, p.1, p.2, row_partial_grown f s leaf turns (index_of_best mover children) children p.3 l)
 
   -- so do the children where that is done below one of them
   row_partial_grown : (f : Frame) (s : State) (leaf : PartialTree) (turns : List Turn) (i : ℕ) (children : Children) → ArePartialTrees f s turns children
-      → IsPartialTree f (state_below f s turns i children) leaf → ArePartialTrees f s turns (with_below leaf i children)
+      → IsPartialTree f (state_below f s turns i children) leaf → ArePartialTrees f s turns (with_leaf_below leaf i children)
   row_partial_grown f s leaf [] i no_more p l = tt
   row_partial_grown f s leaf [] i (more tree children) p l = absurd p
   row_partial_grown f s leaf (t ∷ turns) i no_more p l = absurd p
@@ -110,11 +110,15 @@ mutual
   stays_grown size room leaf fresh f l = subst (λ n. StaysWithin size n leaf) (omega arith) l
   stays_grown size room leaf (won side) f l = subst (λ n. StaysWithin size n leaf) (omega arith) l
   stays_grown size room leaf (closed side tree) f l = subst (λ n. StaysWithin size n leaf) (omega arith) l
-  stays_grown size room leaf (expanded mover turns children) f l = (f.0, row_stays_grown size (room - 1) leaf (best mover children) children f.1 (subst (λ n. StaysWithin size n leaf) (omega arith) l))
+  stays_grown size room leaf (expanded mover turns children) f l = (
+    f.0,
+    row_stays_grown size (room - 1) leaf (index_of_best mover children) children f.1 (subst
+        (λ n. StaysWithin size n leaf) (omega arith) l),
+  )
 
   -- so do the children where that is done below one of them
   row_stays_grown : (size : Size) (room : ℕ) (leaf : PartialTree) (i : ℕ) (children : Children) → AllStayWithin size room children
-      → StaysWithin size (room - depth_below i children) leaf → AllStayWithin size room (with_below leaf i children)
+      → StaysWithin size (room - depth_below i children) leaf → AllStayWithin size room (with_leaf_below leaf i children)
   row_stays_grown size room leaf i no_more f l = tt
   row_stays_grown size room leaf zero (more tree children) f l = (stays_grown size room leaf tree f.0 l, f.1)
   row_stays_grown size room leaf (suc i) (more tree children) f l = (f.0, row_stays_grown size room leaf i children f.1 l)
@@ -161,7 +165,7 @@ pub new_leaf_count : (f : Frame) (s : State) → count (new_leaf f s) ≡ 0
 new_leaf_count f s = leaf_of_count (winner_of f s)
 
 -- nor have the new leaves of turns
-new_leaves_count : (f : Frame) (s : State) (turns : List Turn) → count_all (new_leaves f s turns) ≡ 0
+new_leaves_count : (f : Frame) (s : State) (turns : List Turn) → expanded_in_children (new_leaves f s turns) ≡ 0
 new_leaves_count f s [] = refl
 new_leaves_count f s (t ∷ turns) = omega (arith, new_leaf_count f (after f s t), new_leaves_count f s turns)
 

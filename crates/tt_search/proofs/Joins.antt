@@ -8,17 +8,17 @@ use Rattle.tt_game.specs.declared.frame.Side.TheVariants.{Attacker, Defender}
 use Rattle.tt_game.specs.declared.turns.Turn.{Turn}
 use Rattle.tt_game.specs.declared.turns.Turn.TheVariants.{Pass}
 use Rattle.tt_game.specs.Game.{State, IsLegal, after}
-use Rattle.tt_game.specs.laws.TurnLaws.{EachIsLegal, are_legal}
+use Rattle.tt_game.specs.laws.TurnLaws.{EachIsLegal, legal_turns_are_legal}
 use Rattle.tt_proof.specs.declared.footprints.Footprint.{Footprint}
 use Rattle.tt_proof.specs.Strategy.{Strategy, Entries, reply, entry, entries_of}
 use Rattle.tt_proof.specs.KeptFootprints.{IsFootprint, IsEntryJoined}
 use Rattle.tt_search.specs.PartialTree.{PartialTree, fresh, expanded}
-use Rattle.tt_search.specs.Numbers.{is_same, numbers}
+use Rattle.tt_search.specs.Numbers.{is_same_side, numbers}
 use Rattle.tt_search.specs.Growing.{ArePartialTrees}
 use Rattle.tt_search.specs.inside.Within.{AllStayWithin}
 use Rattle.tt_search.specs.inside.Children.{children_of}
 use Rattle.tt_search.specs.inside.Edges.{edge_turn, edge_state_of, edge_turns, tree_of, edge_trees, grown_behind, grown_in}
-use Rattle.tt_search.specs.Settled.{strategy_for, first_settled, replies}
+use Rattle.tt_search.specs.Settled.{strategy_for, first_settled_index, replies}
 use Rattle.tt_search.specs.inside.Joining.{IsSettledAt, AreSettledAt}
 use Rattle.tt_search.specs.inside.Choices.{node_with}
 use Rattle.tt_search.specs.inside.ChildNodes.{choices_of, children_in, child_of}
@@ -36,7 +36,7 @@ on_ok (Ok x) P Q h p = h x p
 on_ok (Err e) P Q h p = tt
 
 -- a side is the same as itself
-same_as_itself : (side : Side) → is_same side side ≡ true
+same_as_itself : (side : Side) → is_same_side side side ≡ true
 same_as_itself Attacker = refl
 same_as_itself Defender = refl
 
@@ -67,18 +67,18 @@ module _ (side : Side) (f : Frame) (s : State) where
 
   -- the first settled child of a node where the side is to move is settled behind its turn
   picked_child : (turns : List Turn) (trees : List PartialTree) (t : Turn) (d : PartialTree) → IsSettledAt side f s (expanded side turns (children_of trees))
-      → IsSettledChild (first_settled side (children_of trees)) turns trees t d
+      → IsSettledChild (first_settled_index side (children_of trees)) turns trees t d
   picked_child turns trees t d h =
-      child_at (first_settled side (children_of trees)) turns trees t d (subst (EachIsLegal f s) (sym h.partial.2) (are_legal f s)) h.partial.3 h.stays.1
+      child_at (first_settled_index side (children_of trees)) turns trees t d (subst (EachIsLegal f s) (sym h.partial.2) (legal_turns_are_legal f s)) h.partial.3 h.stays.1
       (zero_at side (children_of trees) (own_zero side side turns (children_of trees) (same_as_itself side) h.settled))
 
   -- so its place is there
-  pub picked_there : (x : ChildNodes) (i : ℕ) → IsSettledAt side f s (node_with (choices_of side x)) → i ≡ first_settled side (children_in x) → i < length x.edges
+  pub picked_there : (x : ChildNodes) (i : ℕ) → IsSettledAt side f s (node_with (choices_of side x)) → i ≡ first_settled_index side (children_in x) → i < length x.edges
   picked_there x i h is =
       omega (arith, is, length-trees_by_turn x.edges x.grown.items, (picked_child (edge_turns x.edges) (edge_trees x.edges x.grown.items) Pass fresh h).there)
 
   -- and what the code finds there is a legal turn, and a tree that is settled behind it
-  pub picked_here : (x : ChildNodes) (i : ℕ) (e : Edge) (t : Turn) (child : PartialTree) → IsSettledAt side f s (node_with (choices_of side x)) → i ≡ first_settled side (children_in x)
+  pub picked_here : (x : ChildNodes) (i : ℕ) (e : Edge) (t : Turn) (child : PartialTree) → IsSettledAt side f s (node_with (choices_of side x)) → i ≡ first_settled_index side (children_in x)
       → e ≡ get_or x.edges i e → t ≡ edge_turn e → child ≡ child_of x i → IsLegal f s t × IsSettledAt side f (after f s t) child
   picked_here x i e t child h is at turn is_child =
       let turns = edge_turns x.edges in
@@ -91,14 +91,14 @@ module _ (side : Side) (f : Frame) (s : State) where
   -- ---- the children that are replied to
 
   -- where the other side is to move, all children are settled
-  pub replied_children : (mover : Side) (es : List Edge) (grown : List PartialTree) → is_same side mover ≡ false → grown_in es ≡ length grown
+  pub replied_children : (mover : Side) (es : List Edge) (grown : List PartialTree) → is_same_side side mover ≡ false → grown_in es ≡ length grown
       → IsSettledAt side f s (expanded mover (edge_turns es) (children_of (edge_trees es grown))) → AreSettledAt side f s es grown
   replied_children mover es grown e whole h =
       let children = children_of (edge_trees es grown) in
       record {
         whole = whole;
         settled = all_zero side children (zero_sum (numbers side children) (other_zero side mover (edge_turns es) children e h.settled));
-        legal = subst (EachIsLegal f s) (sym h.partial.2) (are_legal f s);
+        legal = subst (EachIsLegal f s) (sym h.partial.2) (legal_turns_are_legal f s);
         partial = h.partial.3;
         stays = h.stays.1;
       }

@@ -11,7 +11,7 @@ use Rattle.tt_proof.specs.Wins.{Wins}
 use Rattle.tt_search.specs.PartialTree.{PartialTree, fresh, closed, expanded, more}
 use Rattle.tt_search.specs.inside.Weight.{weight, weight_all}
 use Rattle.tt_search.specs.Numbers.{IsUndecided}
-use Rattle.tt_search.specs.MostProving.{best, most_proving_state, state_below, most_proving_depth, depth_below, with_most_proving, with_below}
+use Rattle.tt_search.specs.MostProving.{index_of_best, most_proving_state, state_below, most_proving_depth, depth_below, with_most_proving, with_leaf_below}
 use Rattle.tt_search.specs.Growing.{expansion, IsPartialTree, ArePartialTrees}
 use Rattle.tt_search.specs.inside.Within.{StaysWithin, AllStayWithin}
 use Rattle.tt_search.specs.inside.Walking.{Stand, stage, stand_after, MayGrow}
@@ -55,7 +55,7 @@ depth_at (tree ∷ trees) (suc i) d l = depth_at trees i d (omega arith)
 
 -- a tree put at the leaf below a child's place is put at the child's most-proving leaf
 put_at : (leaf : PartialTree) (trees : List PartialTree) (i : ℕ) (d : PartialTree) → i < length trees
-    → with_below leaf i (children_of trees) ≡ children_of (set trees i (with_most_proving leaf (get_or trees i d)))
+    → with_leaf_below leaf i (children_of trees) ≡ children_of (set trees i (with_most_proving leaf (get_or trees i d)))
 put_at leaf [] i d l = absurd (omega arith)
 put_at leaf (tree ∷ trees) zero d l = refl
 put_at leaf (tree ∷ trees) (suc i) d l = ap (more tree) (put_at leaf trees i d (omega arith))
@@ -80,12 +80,12 @@ weight_at (tree ∷ trees) (suc i) d l = omega (arith, weight_at trees i d (omeg
 
 -- what a step does at the best child, it does at the node
 module _ (at : Stand) (mover : Side) (turns : List Turn) (trees : List PartialTree) (t : Turn) (d : PartialTree) (same : length turns ≡ length trees)
-    (there : best mover (children_of trees) < length trees) where
+    (there : index_of_best mover (children_of trees) < length trees) where
   abbrev pub node : PartialTree
   node = expanded mover turns (children_of trees)
 
   abbrev pub index : ℕ
-  index = best mover (children_of trees)
+  index = index_of_best mover (children_of trees)
 
   abbrev pub child : PartialTree
   child = get_or trees index d
@@ -145,7 +145,8 @@ pub record IsFound (at : Stand) (turns : List Turn) (trees : List PartialTree) (
   pub child : (t : Turn) (child : PartialTree) → t ≡ get_or turns p t → child ≡ get_or trees p child → MayGrow (stand_after at t) child
 
 -- so it is at the place of the best child of a node that may grow
-pub found : (at : Stand) (mover : Side) (turns : List Turn) (trees : List PartialTree) → MayGrow at (expanded mover turns (children_of trees)) → IsFound at turns trees (best mover (children_of trees))
+pub found : (at : Stand) (mover : Side) (turns : List Turn) (trees : List PartialTree) → MayGrow at (expanded mover turns (children_of trees))
+    → IsFound at turns trees (index_of_best mover (children_of trees))
 found at mover turns trees m = record {
   in_turns = in_turns;
   in_trees = in_trees;
@@ -161,7 +162,7 @@ found at mover turns trees m = record {
 }
   where
     p : ℕ
-    p = best mover (children_of trees)
+    p = index_of_best mover (children_of trees)
 
     in_trees : p < length trees
     in_trees = (best_child mover turns trees fresh m.undecided).0

@@ -3,12 +3,12 @@ use Rattle.std.proofs.Common.{◌≡◌, ℕ, zero, suc, ◌+◌, ◌<◌, List,
 use Rattle.std.proofs.lemmas.List.{at_drop_more}
 use Rattle.tt_game.specs.declared.frame.Side.{Side}
 use Rattle.tt_game.specs.declared.frame.Side.TheVariants.{Attacker, Defender}
-use Rattle.tt_proof.specs.Proven.{Proven}
+use Rattle.tt_proof.specs.ProofClaim.{ProofClaim}
 use Rattle.tt_search.specs.PartialTree.{PartialTree, fresh, won, closed, expanded, Children, no_more, more}
 use Rattle.tt_search.specs.Numbers.{number, numbers}
 use Rattle.tt_search.specs.inside.Children.{children_of}
 use Rattle.tt_search.specs.inside.Edges.{edge_state_of, tree_of, edge_trees, grown_behind}
-use Rattle.tt_search.specs.Settled.{first_settled, strategy_for}
+use Rattle.tt_search.specs.Settled.{first_settled_index, strategy_for}
 use Rattle.tt_search.specs.inside.Choices.{node_with}
 use Rattle.tt_search.specs.inside.ChildNodes.{choices_of}
 use Rattle.tt_search.specs.inside.Offered.{IsOffered}
@@ -26,9 +26,9 @@ mutual
   never_both (closed Attacker strategy) h k = omega (arith, k)
   never_both (closed Defender strategy) h k = omega (arith, h)
   never_both (expanded Attacker turns children) h k =
-      never_attacked (first_settled Attacker children) children (zero_at Attacker children h) (all_zero Defender children (zero_sum (numbers Defender children) k))
+      never_attacked (first_settled_index Attacker children) children (zero_at Attacker children h) (all_zero Defender children (zero_sum (numbers Defender children) k))
   never_both (expanded Defender turns children) h k =
-      never_defended (first_settled Defender children) children (zero_at Defender children k) (all_zero Attacker children (zero_sum (numbers Attacker children) h))
+      never_defended (first_settled_index Defender children) children (zero_at Defender children k) (all_zero Attacker children (zero_sum (numbers Attacker children) h))
 
   -- so no child is settled for the attacker where all are for the defender
   never_attacked : (i : ℕ) (children : Children) → IsZeroAt Attacker i children → AreZero Defender children → ⊥
@@ -61,7 +61,7 @@ zero_there side (tree ∷ trees) zero d z = z
 zero_there side (tree ∷ trees) (suc i) d z = zero_there side trees i d z
 
 -- the proof that a node has offered is the side's for which the node is settled, and has its strategy
-pub offered_for : (mover : Side) (children : ChildNodes) (p : Proven) (side : Side) (tree : PartialTree) → IsOffered mover children p
+pub offered_for : (mover : Side) (children : ChildNodes) (p : ProofClaim) (side : Side) (tree : PartialTree) → IsOffered mover children p
     → node_with (choices_of mover children) ≡ tree → number side tree ≡ 0 → (p.side ≡ side) × (p.tree ≡ strategy_for side tree)
 offered_for mover children p side tree h is z =
     let same : p.side ≡ side = one_side p.side side tree (subst (λ t. number p.side t ≡ 0) is h.proof.settled) z in

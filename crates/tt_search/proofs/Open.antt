@@ -8,10 +8,10 @@ use Rattle.tt_game.specs.Turns.{legal_turns}
 use Rattle.tt_game.specs.laws.TurnLaws.{length-legal_turns}
 use Rattle.tt_search.specs.PartialTree.{PartialTree, fresh, won, closed, expanded, Children, no_more, more}
 use Rattle.tt_search.specs.Numbers.{count, IsUndecided}
-use Rattle.tt_search.specs.MostProving.{best, most_proving_state, with_most_proving, with_below}
-use Rattle.tt_search.specs.Growing.{leaf_with_winner, new_leaves, expansion, IsExpansion, IsClosing, IsGrowthStep, GrownFrom}
-use Rattle.tt_search.specs.Searched.{Searched, StepOf, IsSameProblem}
-use Rattle.tt_search.specs.RunEnds.{RanTo}
+use Rattle.tt_search.specs.MostProving.{index_of_best, most_proving_state, with_most_proving, with_leaf_below}
+use Rattle.tt_search.specs.Growing.{leaf_with_winner, new_leaves, expansion, IsExpansion, IsClosing, IsGrowthStep, IsGrownFrom}
+use Rattle.tt_search.specs.SearchState.{SearchState, IsStepOf, IsSameProblem}
+use Rattle.tt_search.specs.RunEnds.{HasRunTo}
 use Rattle.tt_search.specs.declared.limits.Step.{Step}
 use Rattle.tt_search.specs.declared.limits.Step.TheVariants.{Expanded, Closed}
 use Rattle.tt_search.proofs.Grown.{UndecidedAt, best_undecided, won_decided, closed_decided, count_grown, expansion_count}
@@ -34,10 +34,10 @@ mutual
   open_grown leaf fresh u = omega arith
   open_grown leaf (won side) u = absurd (won_decided side u)
   open_grown leaf (closed side tree) u = absurd (closed_decided side tree u)
-  open_grown leaf (expanded mover turns children) u = open_in_grown leaf (best mover children) children (best_undecided mover turns children u)
+  open_grown leaf (expanded mover turns children) u = open_in_grown leaf (index_of_best mover children) children (best_undecided mover turns children u)
 
   -- so it does below an undecided child
-  open_in_grown : (leaf : PartialTree) (i : ℕ) (children : Children) → UndecidedAt i children → open_in (with_below leaf i children) + 1 ≡ open_in children + open_leaves leaf
+  open_in_grown : (leaf : PartialTree) (i : ℕ) (children : Children) → UndecidedAt i children → open_in (with_leaf_below leaf i children) + 1 ≡ open_in children + open_leaves leaf
   open_in_grown leaf i no_more u = absurd u
   open_in_grown leaf zero (more tree children) u = omega (arith, open_grown leaf tree u)
   open_in_grown leaf (suc i) (more tree children) u = omega (arith, open_in_grown leaf i children u)
@@ -76,28 +76,28 @@ falls_closed room budget f s old new u (side, strategy, w, o, d, e) =
     omega (arith, ap open_leaves e, ap count e, open_grown (closed side strategy) old u, count_grown (closed side strategy) old u)
 
 -- what a search has left to do: its fresh leaves, and 363 for each expansion that the budget has left
-abbrev pub left_to_do : Searched → ℕ
+abbrev pub left_to_do : SearchState → ℕ
 left_to_do search = open_leaves search.tree + (search.limits.budget - count search.tree) * 363
 
 -- a step that expands or closes leaves less to do
-pub falls : (old new : Searched) (step : Step) → StepOf old step new → IsSameProblem old new → (step ≡ Expanded) ⊎ (step ≡ Closed) → left_to_do new < left_to_do old
+pub falls : (old new : SearchState) (step : Step) → IsStepOf old step new → IsSameProblem old new → (step ≡ Expanded) ⊎ (step ≡ Closed) → left_to_do new < left_to_do old
 falls old new step k same (inl e) =
-    let h = subst (λ s. StepOf old s new) e k in
+    let h = subst (λ s. IsStepOf old s new) e k in
     subst (λ l. open_leaves new.tree + (l.budget - count new.tree) * 363 < left_to_do old) (sym same.limits)
     (falls_expanded old.limits.depth old.limits.budget old.line.frame old.line.state old.tree new.tree h.0 h.1 h.2)
 falls old new step k same (inr e) =
-    let h = subst (λ s. StepOf old s new) e k in
+    let h = subst (λ s. IsStepOf old s new) e k in
     subst (λ l. open_leaves new.tree + (l.budget - count new.tree) * 363 < left_to_do old) (sym same.limits)
     (falls_closed old.limits.depth old.limits.budget old.line.frame old.line.state old.tree new.tree h.0 h.1)
 
 -- a step that expands or closes is a growth
-grows_by : (old new : Searched) (step : Step) → StepOf old step new → (step ≡ Expanded) ⊎ (step ≡ Closed) → IsGrowthStep old.limits old.line.frame old.line.state old.tree new.tree
-grows_by old new step k (inl e) = let h = subst (λ s. StepOf old s new) e k in (h.0, inl (h.1, h.2))
-grows_by old new step k (inr e) = let h = subst (λ s. StepOf old s new) e k in (h.0, inr h.1)
+grows_by : (old new : SearchState) (step : Step) → IsStepOf old step new → (step ≡ Expanded) ⊎ (step ≡ Closed) → IsGrowthStep old.limits old.line.frame old.line.state old.tree new.tree
+grows_by old new step k (inl e) = let h = subst (λ s. IsStepOf old s new) e k in (h.0, inl (h.1, h.2))
+grows_by old new step k (inr e) = let h = subst (λ s. IsStepOf old s new) e k in (h.0, inr h.1)
 
 -- after growths, a step that expands or closes is one more
-pub grows : (start old new : Searched) (step : Step) → IsSameProblem start old → GrownFrom start.limits start.line.frame start.line.state start.tree old.tree → StepOf old step new
-    → (step ≡ Expanded) ⊎ (step ≡ Closed) → GrownFrom start.limits start.line.frame start.line.state start.tree new.tree
+pub grows : (start old new : SearchState) (step : Step) → IsSameProblem start old → IsGrownFrom start.limits start.line.frame start.line.state start.tree old.tree → IsStepOf old step new
+    → (step ≡ Expanded) ⊎ (step ≡ Closed) → IsGrownFrom start.limits start.line.frame start.line.state start.tree new.tree
 grows start old new step same g k h = (
   suc g.0,
   (
@@ -109,15 +109,15 @@ grows start old new step same g k h = (
 )
 
 -- what is on the same problem as one on a search's problem is on that search's
-pub same_problem : (a b c : Searched) → IsSameProblem a b → IsSameProblem b c → IsSameProblem a c
+pub same_problem : (a b c : SearchState) → IsSameProblem a b → IsSameProblem b c → IsSameProblem a c
 same_problem a b c h k = record { line = k.line ∙ h.line; limits = k.limits ∙ h.limits }
 
 -- a search is reached from itself
-pub reached_itself : (start : Searched) → RanTo start start
+pub reached_itself : (start : SearchState) → HasRunTo start start
 reached_itself start = record { problem = record { line = refl; limits = refl }; grown = (0, refl) }
 
 -- from a search that is reached, a step that expands or closes leads to one that is reached
-pub reached_more : (start old new : Searched) (step : Step) → RanTo start old → IsSameProblem old new → StepOf old step new → (step ≡ Expanded) ⊎ (step ≡ Closed) → RanTo start new
+pub reached_more : (start old new : SearchState) (step : Step) → HasRunTo start old → IsSameProblem old new → IsStepOf old step new → (step ≡ Expanded) ⊎ (step ≡ Closed) → HasRunTo start new
 reached_more start old new step r same k h = record {
   problem = same_problem start old new r.problem same;
   grown = grows start old new step r.problem r.grown k h;

@@ -4,8 +4,8 @@ use Rattle.std.proofs.lemmas.Grind.{common_steps}
 use Rattle.tt_game.specs.declared.frame.Side.{Side}
 use Rattle.tt_game.specs.declared.frame.Side.TheVariants.{Attacker, Defender}
 use Rattle.tt_search.specs.PartialTree.{PartialTree, fresh, won, closed, expanded, Children, no_more, more}
-use Rattle.tt_search.specs.Numbers.{infinite, cap, least, has_infinite, capped_sum, decided_number, combined, number, numbers, IsCappedOrInfinite}
-use Rattle.tt_search.specs.MostProving.{first_least, best}
+use Rattle.tt_search.specs.Numbers.{infinite, cap, least, has_infinite, capped_sum, decided_number, combined_number, number, numbers, IsCappedOrInfinite}
+use Rattle.tt_search.specs.MostProving.{first_least_index, index_of_best}
 
 -- the least of numbers is at most infinite
 pub least_le : (xs : List ℕ) → least xs ≤ infinite
@@ -18,7 +18,7 @@ sum_from total xs = if has_infinite xs then infinite else min (total + sum xs) c
 
 -- the place of the least, where v is the least of those looked at, p its place and i the next place
 abbrev pub best_from : ℕ → ℕ → ℕ → List ℕ → ℕ
-best_from p v i xs = if ltb (least xs) v then i + first_least xs else p
+best_from p v i xs = if ltb (least xs) v then i + first_least_index xs else p
 
 -- a number below the least so far is the new least, and its place the new place
 pub best_from_less : (p v i x : ℕ) (xs : List ℕ) → x < v → best_from i x (i + 1) xs ≡ best_from p v i (x ∷ xs)
@@ -44,7 +44,7 @@ capped_sum_le : (xs : List ℕ) → capped_sum xs ≤ infinite
 capped_sum_le xs = grind (arith, common_steps)
 
 -- so is what the numbers of the children give
-combine_le : (goal mover : Side) (xs : List ℕ) → combined goal mover xs ≤ infinite
+combine_le : (goal mover : Side) (xs : List ℕ) → combined_number goal mover xs ≤ infinite
 combine_le Attacker Attacker xs = least_le xs
 combine_le Attacker Defender xs = capped_sum_le xs
 combine_le Defender Attacker xs = capped_sum_le xs
@@ -58,11 +58,11 @@ number_le goal (closed side tree) = decided_number_le goal side
 number_le goal (expanded mover turns children) = combine_le goal mover (numbers goal children)
 
 -- looked at from the first one on, numbers that begin with one at most infinite give the first least
-best_from_infinite : (x : ℕ) (xs : List ℕ) → x ≤ infinite → best_from 0 infinite 0 (x ∷ xs) ≡ first_least (x ∷ xs)
+best_from_infinite : (x : ℕ) (xs : List ℕ) → x ≤ infinite → best_from 0 infinite 0 (x ∷ xs) ≡ first_least_index (x ∷ xs)
 best_from_infinite x xs h = grind (arith, common_steps, least_le xs)
 
 -- looked at from the first one on, the children's numbers give the best child
-pub best_from_start : (mover : Side) (children : Children) → best_from 0 infinite 0 (numbers mover children) ≡ best mover children
+pub best_from_start : (mover : Side) (children : Children) → best_from 0 infinite 0 (numbers mover children) ≡ index_of_best mover children
 best_from_start mover no_more = refl
 best_from_start mover (more tree children) = best_from_infinite (number mover tree) (numbers mover children) (number_le mover tree)
 
@@ -85,7 +85,7 @@ lesser_capped x y (inr h) (inl k) = inl (omega (arith, k))
 lesser_capped x y (inr h) (inr k) = inr (omega (arith, h, k))
 
 -- so is what the numbers of the children give
-combined_capped : (goal mover : Side) (xs : List ℕ) → IsCappedOrInfinite (least xs) → IsCappedOrInfinite (combined goal mover xs)
+combined_capped : (goal mover : Side) (xs : List ℕ) → IsCappedOrInfinite (least xs) → IsCappedOrInfinite (combined_number goal mover xs)
 combined_capped Attacker Attacker xs h = h
 combined_capped Attacker Defender xs h = chosen_capped (has_infinite xs) (sum xs)
 combined_capped Defender Attacker xs h = chosen_capped (has_infinite xs) (sum xs)

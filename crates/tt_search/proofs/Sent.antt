@@ -18,7 +18,7 @@ use Rattle.tt_proof.proofs.Sent.{shared_send}
 use Rattle.tt_search.specs.contracts.tree.children.BestChild as BestChild
 use Rattle.tt_search.specs.contracts.tree.edge_row.Edges as Edges
 use Rattle.tt_search.specs.contracts.limits.Limits as Limits
-use Rattle.tt_search.specs.contracts.tree.untried.Plays as Plays
+use Rattle.tt_search.specs.contracts.tree.untried.UntriedPlays as UntriedPlays
 use Rattle.tt_search.specs.contracts.tree.node.Node as Node
 use Rattle.tt_search.specs.contracts.tree.node.Node.TheKnot as NodeKnot
 use Rattle.tt_search.specs.declared.tree.node.Node.TheDeep as Deep
@@ -40,11 +40,11 @@ edges_send : IsSend Edges.the_row
 edges_send = search (sendable, crosses) depth 40
 
 -- plays are words, and how many there are
-plays_send : IsSend Plays.the_row
+plays_send : IsSend UntriedPlays.the_row
 plays_send = search (sendable, crosses) depth 40
 
-plays_field : IsSend (as_row Plays.the_field)
-plays_field = as_row_send Plays.the_field plays_send
+plays_field : IsSend (as_row UntriedPlays.the_field)
+plays_field = as_row_send UntriedPlays.the_field plays_send
 
 shared_field : IsSend (as_row (Arc.the_field Proof.the_row Global.the_row ghosts))
 shared_field = search (sendable, crosses, shared_send) depth 40

@@ -6,16 +6,16 @@ use Rattle.tt_game.specs.declared.frame.Side.TheVariants.{Attacker, Defender}
 use Rattle.tt_game.specs.declared.turns.Turn.{Turn}
 use Rattle.tt_game.specs.Line.{LineWithUndo}
 use Rattle.tt_search.specs.PartialTree.{PartialTree, expanded}
-use Rattle.tt_search.specs.Numbers.{combined, number, numbers, count, IsUndecided}
-use Rattle.tt_search.specs.MostProving.{first_least, best}
+use Rattle.tt_search.specs.Numbers.{combined_number, number, numbers, count, IsUndecided}
+use Rattle.tt_search.specs.MostProving.{first_least_index, index_of_best}
 use Rattle.tt_search.specs.inside.Walking.{Stand, Stage, stage, stand, stand_of, stand_after, MayGrow}
 use Rattle.tt_search.specs.inside.Taken.{Taken, IsLeft}
 use Rattle.tt_search.specs.inside.Steady.{HaveSameNumbers, IsGrowth, Steady, AreStepsAt}
 use Rattle.tt_search.specs.inside.Children.{children_of}
 use Rattle.tt_search.specs.declared.limits.Step.{Step}
 use Rattle.tt_search.specs.declared.limits.Step.TheVariants.{Expanded, Closed}
-use Rattle.tt_search.specs.declared.descent.Stop.{Stop}
-use Rattle.tt_search.specs.declared.descent.Stop.TheVariants.{OneStep}
+use Rattle.tt_search.specs.declared.descent.StopAfter.{StopAfter}
+use Rattle.tt_search.specs.declared.descent.StopAfter.TheVariants.{OneStep}
 use Rattle.tt_search.specs.declared.descent.Descent.{Descent}
 use Rattle.tt_search.proofs.Lifted.{lifted}
 use Rattle.tt_search.proofs.Steps.{taken_keeps, counted_expanded, counted_closed, IsTreeWithin, IsOfferable, offerable}
@@ -91,13 +91,13 @@ steady_joined n (suc m) at a b c h (before, k, g, same) =
     subst (λ k. Steady k at a c) one_more (before, steady_joined n m at a b before h k, g, same)
 
 -- where the rounds of a node have led so far
-pub record IsUnderWay (stop : Stop) (at : Stand) (old now : Stage) : Type 0 where
+pub record IsUnderWay (stop : StopAfter) (at : Stand) (old now : Stage) : Type 0 where
   pub rounds : ℕ
   pub steady : Steady rounds at old now
   pub one : stop ≡ OneStep → rounds ≡ 0
   pub may_grow : MayGrow at now.tree
 
-module _ (stop : Stop) (at : Stand) (old now : Stage) (step : Step) (new : Stage) (steps : AreStepsAt stop at now step new) where
+module _ (stop : StopAfter) (at : Stand) (old now : Stage) (step : Step) (new : Stage) (steps : AreStepsAt stop at now step new) where
   -- the steps of a round that is the last one
   pub last_round : IsUnderWay stop at old now → AreStepsAt stop at old step new
   last_round h = record {
@@ -148,7 +148,7 @@ same_numbers a b p d Attacker = p
 same_numbers a b p d Defender = d
 
 -- what steps make of a tree may be offered
-pub steps_offerable : (stop : Stop) (line : LineWithUndo) (room : ℕ) (old : Stage) (step : Step) (new : Stage) → room ≤ 512 → MayGrow (stand line room) old.tree
+pub steps_offerable : (stop : StopAfter) (line : LineWithUndo) (room : ℕ) (old : Stage) (step : Step) (new : Stage) → room ≤ 512 → MayGrow (stand line room) old.tree
     → AreStepsAt stop (stand line room) old step new → IsOfferable line new.tree
 steps_offerable stop line room old step new l m k =
     offerable line room new.tree l (taken_keeps (stand line room) k.before step new.tree (steady_keeps k.how_many (stand line room) old k.before k.steady m) k.taken)
@@ -172,7 +172,7 @@ set_twice [] i a b = refl
 set_twice (t ∷ trees) zero a b = refl
 set_twice (t ∷ trees) (suc i) a b = ap (λ ts. t ∷ ts) (set_twice trees i a b)
 
-module _ (at : Stand) (mover : Side) (turns : List Turn) (trees : List PartialTree) (t : Turn) (child : PartialTree) (p : ℕ) (index_is : p ≡ best mover (children_of trees))
+module _ (at : Stand) (mover : Side) (turns : List Turn) (trees : List PartialTree) (t : Turn) (child : PartialTree) (p : ℕ) (index_is : p ≡ index_of_best mover (children_of trees))
     (in_trees : p < length trees) (same : length turns ≡ length trees) (t_is : t ≡ get_or turns p t) (child_is : child ≡ get_or trees p child) (pos : 0 < at.room) where
   -- the node with another tree in the place of its best child
   abbrev pub with_child : PartialTree → PartialTree
@@ -195,12 +195,12 @@ module _ (at : Stand) (mover : Side) (turns : List Turn) (trees : List PartialTr
   row_is tree h goal = numbers_set goal trees p child tree (h goal ∙ ap (number goal) child_is)
 
   -- and it is the best child again
-  best_is : (tree : PartialTree) → HaveSameNumbers child tree → best mover (children_of (set trees p tree)) ≡ p
-  best_is tree h = ap first_least (row_is tree h mover) ∙ sym index_is
+  best_is : (tree : PartialTree) → HaveSameNumbers child tree → index_of_best mover (children_of (set trees p tree)) ≡ p
+  best_is tree h = ap first_least_index (row_is tree h mover) ∙ sym index_is
 
   -- two trees with the best child's numbers give the node the same numbers
   numbers_are : (a b : PartialTree) → HaveSameNumbers child a → HaveSameNumbers child b → HaveSameNumbers (with_child a) (with_child b)
-  numbers_are a b h k goal = ap (combined goal mover) (row_is b k goal ∙ sym (row_is a h goal))
+  numbers_are a b h k goal = ap (combined_number goal mover) (row_is b k goal ∙ sym (row_is a h goal))
 
   -- lifted, where the place of the best child is given by an equation
   lifted_at : (now : Stage) (q : ℕ) → q ≡ p → (step : Step) (new : PartialTree)
@@ -215,8 +215,8 @@ module _ (at : Stand) (mover : Side) (turns : List Turn) (trees : List PartialTr
   step_lifted : (now : Stage) → HaveSameNumbers child now.tree → (step : Step) (new : PartialTree) → Taken below now step new → Taken at (with_stage now) step (with_child new)
   step_lifted now h step new =
       let row : List PartialTree = set trees p now.tree in
-      let there : best mover (children_of row) < length row = omega (arith, best_is now.tree h, in_trees, length-set trees p now.tree) in
-      lifted_at now (best mover (children_of row)) (best_is now.tree h) step new (lifted at mover turns row t child (same ∙ sym (length-set trees p now.tree)) there now.left step new pos)
+      let there : index_of_best mover (children_of row) < length row = omega (arith, best_is now.tree h, in_trees, length-set trees p now.tree) in
+      lifted_at now (index_of_best mover (children_of row)) (best_is now.tree h) step new (lifted at mover turns row t child (same ∙ sym (length-set trees p now.tree)) there now.left step new pos)
 
   -- a growth of the best child is one of the node
   growth_lifted : (old new : Stage) → HaveSameNumbers child old.tree → IsGrowth below old new → IsGrowth at (with_stage old) (with_stage new)
@@ -235,7 +235,7 @@ module _ (at : Stand) (mover : Side) (turns : List Turn) (trees : List PartialTr
       )
 
   -- the steps of the best child are steps of the node
-  pub steps_lifted : (stop : Stop) (left : ℕ) (step : Step) (new : Stage) → AreStepsAt stop below (stage child left) step new
+  pub steps_lifted : (stop : StopAfter) (left : ℕ) (step : Step) (new : Stage) → AreStepsAt stop below (stage child left) step new
       → AreStepsAt stop at (stage (expanded mover turns (children_of trees)) left) step (with_stage new)
   steps_lifted stop left step new k = record {
     how_many = k.how_many;

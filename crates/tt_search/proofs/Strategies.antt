@@ -8,17 +8,17 @@ use Rattle.tt_game.specs.declared.turns.Turn.{Turn}
 use Rattle.tt_game.specs.declared.frame.Frame.{Frame}
 use Rattle.tt_game.specs.Game.{State, IsLegal, after, winner_of}
 use Rattle.tt_game.specs.laws.Members.{IsIn, in_of_contains}
-use Rattle.tt_game.specs.laws.TurnLaws.{EachIsLegal, RisesFrom, are_legal, contains-legal_turns, rises_from_0}
+use Rattle.tt_game.specs.laws.TurnLaws.{EachIsLegal, RisesFrom, legal_turns_are_legal, contains-legal_turns, legal_turns_rise_from_0}
 use Rattle.tt_game.specs.Turns.{legal_turns}
 use Rattle.tt_proof.specs.Strategy.{Strategy, Entries, depth, depth_of_entries, IsInOrder, AreInOrder, number_on}
-use Rattle.tt_proof.specs.Proven.{IsWon}
+use Rattle.tt_proof.specs.ProofClaim.{IsWinningTree}
 use Rattle.tt_proof.specs.Wins.{Wins, WinsBehind}
 use Rattle.tt_search.specs.PartialTree.{PartialTree, fresh, won, closed, expanded, Children, no_more, more}
-use Rattle.tt_search.specs.Numbers.{is_same, least, capped_sum, decided_number, number, numbers}
-use Rattle.tt_search.specs.MostProving.{index}
+use Rattle.tt_search.specs.Numbers.{is_same_side, least, capped_sum, decided_number, number, numbers}
+use Rattle.tt_search.specs.MostProving.{first_index_of}
 use Rattle.tt_search.specs.Growing.{IsPartialTree, ArePartialTrees}
 use Rattle.tt_search.specs.inside.Within.{StaysWithin, AllStayWithin}
-use Rattle.tt_search.specs.Settled.{strategy_for, first_settled, picked_or_replied, pick_at, replies}
+use Rattle.tt_search.specs.Settled.{strategy_for, first_settled_index, pick_or_reply, pick_at, replies}
 use Rattle.tt_search.specs.inside.Joining.{AreZero}
 
 -- ---- numbers that are 0
@@ -42,13 +42,13 @@ least_zero x y e h = grind (arith, common_steps)
 
 -- the first 0 is the first child's, or else it is found among the others
 zero_by_first : (side : Side) (tree : PartialTree) (children : Children) → least (numbers side (more tree children)) ≡ 0
-    → (least (numbers side children) ≡ 0 → IsZeroAt side (index 0 (numbers side children)) children) → (b : Bool) → (number side tree == 0) ≡ b
-    → IsZeroAt side (index 0 (numbers side (more tree children))) (more tree children)
+    → (least (numbers side children) ≡ 0 → IsZeroAt side (first_index_of 0 (numbers side children)) children) → (b : Bool) → (number side tree == 0) ≡ b
+    → IsZeroAt side (first_index_of 0 (numbers side (more tree children))) (more tree children)
 zero_by_first side tree children e below true q = rw q (grind (arith, common_steps))
 zero_by_first side tree children e below false q = rw (q, add-one) (below (least_zero (number side tree) (least (numbers side children)) e q))
 
 -- where the least number is 0, the first child that is settled is there
-pub zero_at : (side : Side) (children : Children) → least (numbers side children) ≡ 0 → IsZeroAt side (first_settled side children) children
+pub zero_at : (side : Side) (children : Children) → least (numbers side children) ≡ 0 → IsZeroAt side (first_settled_index side children) children
 zero_at side no_more e = absurd (omega arith)
 zero_at side (more tree children) e = zero_by_first side tree children e (zero_at side children) (number side tree == 0) refl
 
@@ -69,21 +69,22 @@ all_zero side (more tree children) e =
 -- ---- who is to move
 
 -- where the side to move has the number 0, so is the least of the children's
-pub own_zero : (side mover : Side) (turns : List Turn) (children : Children) → is_same side mover ≡ true → number side (expanded mover turns children) ≡ 0 → least (numbers side children) ≡ 0
+pub own_zero : (side mover : Side) (turns : List Turn) (children : Children) → is_same_side side mover ≡ true → number side (expanded mover turns children) ≡ 0 → least (numbers side children) ≡ 0
 own_zero Attacker Attacker turns children e z = z
 own_zero Attacker Defender turns children e z = cc
 own_zero Defender Attacker turns children e z = cc
 own_zero Defender Defender turns children e z = z
 
 -- where the other side has it, so is their capped sum
-pub other_zero : (side mover : Side) (turns : List Turn) (children : Children) → is_same side mover ≡ false → number side (expanded mover turns children) ≡ 0 → capped_sum (numbers side children) ≡ 0
+pub other_zero : (side mover : Side) (turns : List Turn) (children : Children) → is_same_side side mover ≡ false → number side (expanded mover turns children) ≡ 0
+    → capped_sum (numbers side children) ≡ 0
 other_zero Attacker Attacker turns children e z = cc
 other_zero Attacker Defender turns children e z = z
 other_zero Defender Attacker turns children e z = z
 other_zero Defender Defender turns children e z = cc
 
 -- the sides that the test calls the same are one
-pub same_is_same : (side mover : Side) → is_same side mover ≡ true → mover ≡ side
+pub same_is_same : (side mover : Side) → is_same_side side mover ≡ true → mover ≡ side
 same_is_same Attacker Attacker e = refl
 same_is_same Attacker Defender e = cc
 same_is_same Defender Attacker e = cc
@@ -91,8 +92,8 @@ same_is_same Defender Defender e = refl
 
 -- a node wins by its pick where the side is to move, and elsewhere by its replies
 by_mover : (side mover : Side) (f : Frame) (s : State) (first : Strategy) (all : Entries) → winner_of f s ≡ None → mover ≡ s.to_move
-    → (is_same side mover ≡ true → Wins side f first s) → (is_same side mover ≡ false → (t : Turn) → IsLegal f s t → WinsBehind side f all t s)
-    → Wins side f (picked_or_replied (is_same side mover) first all) s
+    → (is_same_side side mover ≡ true → Wins side f first s) → (is_same_side side mover ≡ false → (t : Turn) → IsLegal f s t → WinsBehind side f all t s)
+    → Wins side f (pick_or_reply (is_same_side side mover) first all) s
 by_mover Attacker Attacker f s first all w m own others = own refl
 by_mover Attacker Defender f s first all w m own others = (w, sym m, others refl)
 by_mover Defender Attacker f s first all w m own others = (w, sym m, others refl)
@@ -105,8 +106,8 @@ mutual
   wins side f s (won winner) p z = p ∙ ap Some (same_side side winner z)
   wins side f s (closed winner strategy) p z = subst (λ w. Wins w f strategy s) (same_side side winner z) p
   wins side f s (expanded mover turns children) p z =
-      by_mover side mover f s (pick_at side (first_settled side children) turns children) (replies side turns children) p.0 p.1
-      (λ e. pick_wins side f s (first_settled side children) turns children p.0 (sym p.1 ∙ same_is_same side mover e) (subst (EachIsLegal f s) (sym p.2) (are_legal f s)) p.3
+      by_mover side mover f s (pick_at side (first_settled_index side children) turns children) (replies side turns children) p.0 p.1
+      (λ e. pick_wins side f s (first_settled_index side children) turns children p.0 (sym p.1 ∙ same_is_same side mover e) (subst (EachIsLegal f s) (sym p.2) (legal_turns_are_legal f s)) p.3
       (zero_at side children (own_zero side mover turns children e z)))
       (λ e t l. replies_win side f s turns children t p.3 (all_zero side children (zero_sum (numbers side children) (other_zero side mover turns children e z)))
       (subst (λ ts. IsIn ts t) (sym p.2) (in_of_contains (legal_turns f s) t ((contains-legal_turns f s t).1 l))))
@@ -131,7 +132,7 @@ mutual
 -- ---- depth
 
 -- where neither the pick nor the replies are deeper than the room, the one that is taken isn't
-depth_either : (b : Bool) (room : ℕ) (first : Strategy) (all : Entries) → depth first ≤ room → depth_of_entries all ≤ room → depth (picked_or_replied b first all) ≤ room
+depth_either : (b : Bool) (room : ℕ) (first : Strategy) (all : Entries) → depth first ≤ room → depth_of_entries all ≤ room → depth (pick_or_reply b first all) ≤ room
 depth_either true room first all h k = h
 depth_either false room first all h k = k
 
@@ -142,8 +143,8 @@ mutual
   low side size room (won winner) h = omega arith
   low side size room (closed winner strategy) h = h.0
   low side size room (expanded mover turns children) h =
-      depth_either (is_same side mover) room (pick_at side (first_settled side children) turns children) (replies side turns children)
-      (pick_low side size room (first_settled side children) turns children h.0 h.1)
+      depth_either (is_same_side side mover) room (pick_at side (first_settled_index side children) turns children) (replies side turns children)
+      (pick_low side size room (first_settled_index side children) turns children h.0 h.1)
       (replies_low side size room turns children h.0 h.1)
 
   -- nor does the pick, where the children stay within a turn less
@@ -163,7 +164,7 @@ mutual
 -- ---- order
 
 -- where the pick and the replies are in order, the one that is taken is
-ordered_either : (b : Bool) (size : Size) (first : Strategy) (all : Entries) → IsInOrder size first → AreInOrder size 0 all → IsInOrder size (picked_or_replied b first all)
+ordered_either : (b : Bool) (size : Size) (first : Strategy) (all : Entries) → IsInOrder size first → AreInOrder size 0 all → IsInOrder size (pick_or_reply b first all)
 ordered_either true size first all h k = h
 ordered_either false size first all h k = k
 
@@ -174,9 +175,9 @@ mutual
   in_order side f s room (won winner) p h = tt
   in_order side f s room (closed winner strategy) p h = h.1
   in_order side f s room (expanded mover turns children) p h =
-      let up = subst (RisesFrom f.size 0) (sym p.2) (rises_from_0 f s) in
-      ordered_either (is_same side mover) f.size (pick_at side (first_settled side children) turns children) (replies side turns children)
-      (pick_in_order side f s (room - 1) 0 (first_settled side children) turns children up p.3 h.1)
+      let up = subst (RisesFrom f.size 0) (sym p.2) (legal_turns_rise_from_0 f s) in
+      ordered_either (is_same_side side mover) f.size (pick_at side (first_settled_index side children) turns children) (replies side turns children)
+      (pick_in_order side f s (room - 1) 0 (first_settled_index side children) turns children up p.3 h.1)
       (replies_in_order side f s (room - 1) 0 turns children up p.3 h.1)
 
   -- so is the pick at a place
@@ -198,5 +199,5 @@ mutual
 
 -- the strategy of a settled tree makes a proof
 pub makes_proof : (side : Side) (f : Frame) (s : State) (tree : PartialTree) (strategy : Strategy) → strategy ≡ strategy_for side tree → number side tree ≡ 0
-    → IsPartialTree f s tree → StaysWithin f.size 512 tree → IsWon side f s strategy
-makes_proof side f s tree strategy e z p h = subst (IsWon side f s) (sym e) (record { wins = wins side f s tree p z; shallow = low side f.size 512 tree h; in_order = in_order side f s 512 tree p h })
+    → IsPartialTree f s tree → StaysWithin f.size 512 tree → IsWinningTree side f s strategy
+makes_proof side f s tree strategy e z p h = subst (IsWinningTree side f s) (sym e) (record { wins = wins side f s tree p z; shallow = low side f.size 512 tree h; in_order = in_order side f s 512 tree p h })

@@ -8,7 +8,7 @@ use Rattle.tt_sgf.specs.declared.size.TheConstants.{MOST_POINTS}
 use Rattle.tt_game.specs.declared.turns.Turn.TheVariants.{Play, Pass}
 use Rattle.tt_search.specs.inside.Children.{children_of}
 use Rattle.tt_search.specs.inside.Choices.{node_with}
-use Rattle.tt_search.specs.Numbers.{is_same, number, least, capped_sum}
+use Rattle.tt_search.specs.Numbers.{is_same_side, number, least, capped_sum}
 use Rattle.tt_search.specs.inside.ChildNodes.{choices_with}
 use Rattle.tt_search.specs.inside.Edges.{edge_turn, edge_state_of, turn_at, edge_turns, edge_trees, counted, grown_in, AreFresh}
 use Rattle.tt_search.specs.inside.Untried.{fresh_edge, plays_in, AreBelow, AreUntried}
@@ -121,7 +121,7 @@ no_winner (Some side) h = absurd (true≢false h)
 -- a node of which no turn has been tried is settled for nobody
 pub untried_number : (side mover : Side) (es : List Edge) → AreUntried es → number side (node_with (choices_with mover es [])) ≡ 0 → ⊥
 untried_number side mover es u zero_is =
-    elim (is_same side mover) as (λ b. is_same side mover ≡ b → ⊥) [
+    elim (is_same_side side mover) as (λ b. is_same_side side mover ≡ b → ⊥) [
       | true ↦ λ same.
           let one = ap least (ones side es [] u.fresh) ∙ least_ones (length es) u.some in
           omega (arith, one, own_zero side mover (edge_turns es) (children_of (edge_trees es [])) same zero_is)

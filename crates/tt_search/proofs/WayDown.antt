@@ -9,7 +9,7 @@ use Rattle.tt_search.specs.inside.Walking.{Stand, stage, stand, stand_of, stand_
 use Rattle.tt_search.specs.inside.Steady.{AreStepsAt, AreSteps}
 use Rattle.tt_search.specs.inside.ChildSteps.{BestSteps}
 use Rattle.tt_search.specs.declared.limits.Step.{Step}
-use Rattle.tt_search.specs.declared.descent.Stop.{Stop}
+use Rattle.tt_search.specs.declared.descent.StopAfter.{StopAfter}
 use Rattle.tt_search.specs.declared.descent.Descent.{Descent}
 use Rattle.tt_search.proofs.Lifted.{IsFound, found, lengths}
 use Rattle.tt_search.proofs.ChildSteps.{any_default}
@@ -19,7 +19,7 @@ use Rattle.tt_search.proofs.Steady.{steps_lifted}
 pub record IsWayDown (at : Stand) (c : Choices) (node : PartialTree) (t : Turn) : Type 0 where
   pub legal : IsLegal at.frame at.state t
   pub may_grow : MayGrow (stand_after at t) (best_child c)
-  pub steps : (stop : Stop) (left : ℕ) (step : Step) (tree : PartialTree) (left_after : ℕ) → AreStepsAt stop (stand_after at t) (stage (best_child c) left) step (stage tree left_after)
+  pub steps : (stop : StopAfter) (left : ℕ) (step : Step) (tree : PartialTree) (left_after : ℕ) → AreStepsAt stop (stand_after at t) (stage (best_child c) left) step (stage tree left_after)
       → AreStepsAt stop at (stage node left) step (stage (node_with (with_best c tree)) left_after)
 
 module _ (at : Stand) (c : Choices) (m : MayGrow at (node_with c)) where
@@ -75,7 +75,7 @@ module _ (walk : Descent) (c : Choices) (node : PartialTree) (t : Turn) (way : I
   child_may_grow = subst (λ at. MayGrow at (best_child c)) (sym (stand_down t walk down gone)) way.may_grow
 
   -- the steps below, as steps of the node, where the walk comes back up with what they left
-  pub round_steps : (stop : Stop) (step : Step) (d : Choices) (deep up : Descent) → BestSteps stop down c step d deep → up.left ≡ deep.left → AreSteps stop walk node step (node_with d) up
+  pub round_steps : (stop : StopAfter) (step : Step) (d : Choices) (deep up : Descent) → BestSteps stop down c step d deep → up.left ≡ deep.left → AreSteps stop walk node step (node_with d) up
   round_steps stop step d deep up (tree, below, put) l =
       let here = subst (λ at. AreStepsAt stop at (stage (best_child c) down.left) step (stage tree deep.left)) (stand_down t walk down gone) below in
       let steps = way.steps stop walk.left step tree deep.left

@@ -60,13 +60,13 @@ IsGrowthStep limits f s old new =
     IsUndecided old × ((count old < limits.budget × IsExpansion limits.depth f s old new) ⊎ IsClosing limits.depth f s old new)
 
 -- a tree is reached from another one by so many growths
-abbrev pub GrownBy : ℕ → Limits → Frame → State → PartialTree → PartialTree → Type 0
-GrownBy zero limits f s from tree = tree ≡ from
-GrownBy (suc n) limits f s from tree = (before : PartialTree) × GrownBy n limits f s from before × IsGrowthStep limits f s before tree
+abbrev pub IsGrownBy : ℕ → Limits → Frame → State → PartialTree → PartialTree → Type 0
+IsGrownBy zero limits f s from tree = tree ≡ from
+IsGrownBy (suc n) limits f s from tree = (before : PartialTree) × IsGrownBy n limits f s from before × IsGrowthStep limits f s before tree
 
-abbrev pub GrownFrom : Limits → Frame → State → PartialTree → PartialTree → Type 0
-GrownFrom limits f s from tree = (n : ℕ) × GrownBy n limits f s from tree
+abbrev pub IsGrownFrom : Limits → Frame → State → PartialTree → PartialTree → Type 0
+IsGrownFrom limits f s from tree = (n : ℕ) × IsGrownBy n limits f s from tree
 
 -- a tree is reached from the one that is only the root
 abbrev pub IsGrown : Limits → Frame → State → PartialTree → Type 0
-IsGrown limits f s tree = GrownFrom limits f s (new_leaf f s) tree
+IsGrown limits f s tree = IsGrownFrom limits f s (new_leaf f s) tree

@@ -4,7 +4,7 @@ pub mod Numbers
 pub mod MostProving
 pub mod Growing
 pub mod Settled
-pub mod Searched
+pub mod SearchState
 pub mod RunEnds
 pub mod Stores
 pub mod Usable

@@ -9,17 +9,17 @@ use Rattle.tt_search.specs.PartialTree.{PartialTree, fresh, won, closed, expande
 use Rattle.tt_search.specs.Numbers.{numbers, least}
 
 -- the index of the first number that is this one
-abbrev pub index : ℕ → List ℕ → ℕ
-index v [] = 0
-index v (x ∷ xs) = if x == v then 0 else index v xs + 1
+abbrev pub first_index_of : ℕ → List ℕ → ℕ
+first_index_of v [] = 0
+first_index_of v (x ∷ xs) = if x == v then 0 else first_index_of v xs + 1
 
 -- the index of the first least number
-abbrev pub first_least : List ℕ → ℕ
-first_least xs = index (least xs) xs
+abbrev pub first_least_index : List ℕ → ℕ
+first_least_index xs = first_index_of (least xs) xs
 
 -- the index of the child to go to: the first one with the least number of the side to move
-abbrev pub best : Side → Children → ℕ
-best mover children = first_least (numbers mover children)
+abbrev pub index_of_best : Side → Children → ℕ
+index_of_best mover children = first_least_index (numbers mover children)
 
 -- the state at the most-proving leaf of a tree at the state s
 abbrev mutual
@@ -27,7 +27,7 @@ abbrev mutual
   most_proving_state f s fresh = s
   most_proving_state f s (won side) = s
   most_proving_state f s (closed side strategy) = s
-  most_proving_state f s (expanded mover turns children) = state_below f s turns (best mover children) children
+  most_proving_state f s (expanded mover turns children) = state_below f s turns (index_of_best mover children) children
 
   pub state_below : Frame → State → List Turn → ℕ → Children → State
   state_below f s [] i children = s
@@ -41,22 +41,22 @@ abbrev mutual
   most_proving_depth fresh = 0
   most_proving_depth (won side) = 0
   most_proving_depth (closed side strategy) = 0
-  most_proving_depth (expanded mover turns children) = depth_below (best mover children) children + 1
+  most_proving_depth (expanded mover turns children) = depth_below (index_of_best mover children) children + 1
 
   pub depth_below : ℕ → Children → ℕ
   depth_below i no_more = 0
   depth_below zero (more tree children) = most_proving_depth tree
   depth_below (suc i) (more tree children) = depth_below i children
 
--- the tree with another one in the index of its most-proving leaf
+-- the tree with another one in the place of its most-proving leaf
 abbrev mutual
   pub with_most_proving : PartialTree → PartialTree → PartialTree
   with_most_proving leaf fresh = leaf
   with_most_proving leaf (won side) = leaf
   with_most_proving leaf (closed side strategy) = leaf
-  with_most_proving leaf (expanded mover turns children) = expanded mover turns (with_below leaf (best mover children) children)
+  with_most_proving leaf (expanded mover turns children) = expanded mover turns (with_leaf_below leaf (index_of_best mover children) children)
 
-  pub with_below : PartialTree → ℕ → Children → Children
-  with_below leaf i no_more = no_more
-  with_below leaf zero (more tree children) = more (with_most_proving leaf tree) children
-  with_below leaf (suc i) (more tree children) = more tree (with_below leaf i children)
+  pub with_leaf_below : PartialTree → ℕ → Children → Children
+  with_leaf_below leaf i no_more = no_more
+  with_leaf_below leaf zero (more tree children) = more (with_most_proving leaf tree) children
+  with_leaf_below leaf (suc i) (more tree children) = more tree (with_leaf_below leaf i children)

@@ -12,11 +12,11 @@ infinite = 4294967295
 abbrev pub cap : ℕ
 cap = 1000000000
 
-abbrev pub is_same : Side → Side → Bool
-is_same Attacker Attacker = true
-is_same Defender Defender = true
-is_same Attacker Defender = false
-is_same Defender Attacker = false
+abbrev pub is_same_side : Side → Side → Bool
+is_same_side Attacker Attacker = true
+is_same_side Defender Defender = true
+is_same_side Attacker Defender = false
+is_same_side Defender Attacker = false
 
 -- the least of the numbers
 abbrev pub least : List ℕ → ℕ
@@ -33,11 +33,11 @@ capped_sum xs = if has_infinite xs then infinite else min (sum xs) cap
 
 -- what a leaf that is decided for the side gives to the number of the goal
 abbrev pub decided_number : Side → Side → ℕ
-decided_number goal side = if is_same goal side then 0 else infinite
+decided_number goal side = if is_same_side goal side then 0 else infinite
 
 -- what the numbers of the children give: the least where the goal is to move, and otherwise the sum
-abbrev pub combined : Side → Side → List ℕ → ℕ
-combined goal mover xs = if is_same goal mover then least xs else capped_sum xs
+abbrev pub combined_number : Side → Side → List ℕ → ℕ
+combined_number goal mover xs = if is_same_side goal mover then least xs else capped_sum xs
 
 -- the number of a goal: the attacker's is the proof number, the defender's the disproof number
 abbrev mutual
@@ -45,7 +45,7 @@ abbrev mutual
   number goal fresh = 1
   number goal (won side) = decided_number goal side
   number goal (closed side strategy) = decided_number goal side
-  number goal (expanded mover turns children) = combined goal mover (numbers goal children)
+  number goal (expanded mover turns children) = combined_number goal mover (numbers goal children)
 
   pub numbers : Side → Children → List ℕ
   numbers goal no_more = []
@@ -71,8 +71,8 @@ abbrev mutual
   count fresh = 0
   count (won side) = 0
   count (closed side strategy) = 0
-  count (expanded mover turns children) = count_all children + 1
+  count (expanded mover turns children) = expanded_in_children children + 1
 
-  pub count_all : Children → ℕ
-  count_all no_more = 0
-  count_all (more tree children) = count tree + count_all children
+  pub expanded_in_children : Children → ℕ
+  expanded_in_children no_more = 0
+  expanded_in_children (more tree children) = count tree + expanded_in_children children

@@ -1,23 +1,23 @@
 -- How a run ends.
 use Rattle.std.specs.Prelude.{◌≡◌, ◌≤◌, ◌+◌, true, Some, None}
 use Rattle.tt_proof.specs.Strategy.{depth}
-use Rattle.tt_proof.specs.Proven.{Proven, StandsAt}
+use Rattle.tt_proof.specs.ProofClaim.{ProofClaim, StandsAt}
 use Rattle.tt_search.specs.Numbers.{number, count}
-use Rattle.tt_search.specs.Grants.{Asked}
-use Rattle.tt_search.specs.Growing.{GrownFrom}
+use Rattle.tt_search.specs.Grants.{GrantTally}
+use Rattle.tt_search.specs.Growing.{IsGrownFrom}
 use Rattle.tt_search.specs.Settled.{strategy_for}
-use Rattle.tt_search.specs.Searched.{Searched, IsSameProblem, IsStuckFor}
+use Rattle.tt_search.specs.SearchState.{SearchState, IsSameProblem, IsStuckFor}
 use Rattle.tt_search.specs.declared.limits.Reason.TheVariants.{Budget, Depth, Total, Memory}
 use Rattle.tt_search.specs.declared.search.End.{End}
 use Rattle.tt_search.specs.declared.search.End.TheVariants.{Settled, Stuck}
 
 -- a search is on the same line under the same limits, and is reached by growth
-pub record RanTo (start search : Searched) : Type 0 where
+pub record HasRunTo (start search : SearchState) : Type 0 where
   pub problem : IsSameProblem start search
-  pub grown : GrownFrom start.limits start.line.frame start.line.state start.tree search.tree
+  pub grown : IsGrownFrom start.limits start.line.frame start.line.state start.tree search.tree
 
 -- the proof stands at the search's line, within its limit on depth, and its strategy is that of the search's tree
-pub record IsProofOf (search : Searched) (p : Proven) : Type 0 where
+pub record IsProofOf (search : SearchState) (p : ProofClaim) : Type 0 where
   pub stands : StandsAt p search.line.frame search.line.state
   pub shallow : depth p.tree ≤ search.limits.depth
   pub settled : number p.side search.tree ≡ 0
@@ -25,22 +25,22 @@ pub record IsProofOf (search : Searched) (p : Proven) : Type 0 where
 
 -- what each end of a run says: a proof of a search that is reached, or a search that is reached and stuck; a run that
 -- is stuck holds its search
-abbrev pub EndOf : Searched → End → Type 0
-EndOf start (Settled proof) = (search : Searched) × RanTo start search × IsProofOf search proof
-EndOf start (Stuck reason (Some search)) = RanTo start search × IsStuckFor reason search
-EndOf start (Stuck reason None) = ⊥
+abbrev pub IsEndOf : SearchState → End → Type 0
+IsEndOf start (Settled proof) = (search : SearchState) × HasRunTo start search × IsProofOf search proof
+IsEndOf start (Stuck reason (Some search)) = HasRunTo start search × IsStuckFor reason search
+IsEndOf start (Stuck reason None) = ⊥
 
 -- from one search to another one, as many expansions were granted as the tree's count rose by
-abbrev pub HasSpent : Searched → Asked → Searched → Asked → Type 0
+abbrev pub HasSpent : SearchState → GrantTally → SearchState → GrantTally → Type 0
 HasSpent start old search new = new.granted + count start.tree ≡ old.granted + count search.tree
 
 -- what a run spent, by its end: the grants are the expansions of the search that it holds, or of the one whose proof it
 -- answers; one was refused where it is stuck for the total, and elsewhere none was in the run
-abbrev pub SpentBy : Searched → Asked → End → Asked → Type 0
-SpentBy start old (Settled proof) new =
-    (search : Searched) × RanTo start search × IsProofOf search proof × HasSpent start old search new × (new.refused ≡ old.refused)
-SpentBy start old (Stuck Budget (Some search)) new = HasSpent start old search new × (new.refused ≡ old.refused)
-SpentBy start old (Stuck Depth (Some search)) new = HasSpent start old search new × (new.refused ≡ old.refused)
-SpentBy start old (Stuck Total (Some search)) new = HasSpent start old search new × (new.refused ≡ true)
-SpentBy start old (Stuck Memory (Some search)) new = HasSpent start old search new × (new.refused ≡ old.refused)
-SpentBy start old (Stuck reason None) new = ⊥
+abbrev pub IsSpentBy : SearchState → GrantTally → End → GrantTally → Type 0
+IsSpentBy start old (Settled proof) new =
+    (search : SearchState) × HasRunTo start search × IsProofOf search proof × HasSpent start old search new × (new.refused ≡ old.refused)
+IsSpentBy start old (Stuck Budget (Some search)) new = HasSpent start old search new × (new.refused ≡ old.refused)
+IsSpentBy start old (Stuck Depth (Some search)) new = HasSpent start old search new × (new.refused ≡ old.refused)
+IsSpentBy start old (Stuck Total (Some search)) new = HasSpent start old search new × (new.refused ≡ true)
+IsSpentBy start old (Stuck Memory (Some search)) new = HasSpent start old search new × (new.refused ≡ old.refused)
+IsSpentBy start old (Stuck reason None) new = ⊥

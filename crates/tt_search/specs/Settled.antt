@@ -4,16 +4,16 @@ use Rattle.tt_game.specs.declared.frame.Side.{Side}
 use Rattle.tt_game.specs.declared.turns.Turn.{Turn}
 use Rattle.tt_proof.specs.Strategy.{Strategy, Entries, done, pick, reply, none, entry}
 use Rattle.tt_search.specs.PartialTree.{PartialTree, fresh, won, closed, expanded, Children, no_more, more}
-use Rattle.tt_search.specs.Numbers.{is_same, numbers}
-use Rattle.tt_search.specs.MostProving.{index}
+use Rattle.tt_search.specs.Numbers.{is_same_side, numbers}
+use Rattle.tt_search.specs.MostProving.{first_index_of}
 
-abbrev pub picked_or_replied : Bool → Strategy → Entries → Strategy
-picked_or_replied true first all = first
-picked_or_replied false first all = reply all
+abbrev pub pick_or_reply : Bool → Strategy → Entries → Strategy
+pick_or_reply true first all = first
+pick_or_reply false first all = reply all
 
 -- the index of the first child that is settled for the side
-abbrev pub first_settled : Side → Children → ℕ
-first_settled side children = index 0 (numbers side children)
+abbrev pub first_settled_index : Side → Children → ℕ
+first_settled_index side children = first_index_of 0 (numbers side children)
 
 -- at a won leaf nothing is left to do, and a closed leaf has its strategy; where the side is to move it picks the first
 -- child that is settled for it, and elsewhere it has a reply to each turn
@@ -23,7 +23,7 @@ abbrev mutual
   strategy_for side (won winner) = done
   strategy_for side (closed winner strategy) = strategy
   strategy_for side (expanded mover turns children) =
-      picked_or_replied (is_same side mover) (pick_at side (first_settled side children) turns children) (replies side turns children)
+      pick_or_reply (is_same_side side mover) (pick_at side (first_settled_index side children) turns children) (replies side turns children)
 
   pub pick_at : Side → ℕ → List Turn → Children → Strategy
   pick_at side i [] children = done

@@ -4,7 +4,7 @@ ghost use Rattle.std.specs.Prelude.{◌≡◌, ◌<◌, ◌↔◌, ◌+◌, ◌�
 ghost use Rattle.tt_game.specs.Game.{IsLegal};
 ghost use Rattle.tt_proof.specs.declared.tree.TheConstants.{MOST_DEPTH};
 ghost use Rattle.tt_search.specs.inside.Walking.{IsDown};
-ghost use Rattle.tt_search.specs.declared.descent.Stop.TheVariants.{OneStep};
+ghost use Rattle.tt_search.specs.declared.descent.StopAfter.TheVariants.{OneStep};
 
 use std::alloc::Global;
 use tt_game::{Line, Turn};
@@ -12,17 +12,17 @@ use tt_sgf::NoMemory;
 
 /// How far steps go: one step, or steps up to the first that changes the numbers of the node where they began, or is stuck.
 #[derive(Clone, Copy)]
-pub(crate) enum Stop {
+pub(crate) enum StopAfter {
     OneStep,
     NumbersChange,
 }
 
-impl Stop {
+impl StopAfter {
     /// Whether it is that of one step.
     pub(crate) fn is_one_step(self) -> bool
         ensures { (result ≡ true) ↔ (self ≡ OneStep) }
     {
-        matches!(self, Stop::OneStep)
+        matches!(self, StopAfter::OneStep)
     }
 }
 

@@ -8,7 +8,7 @@ ghost use Rattle.tt_game.specs.laws.TurnLaws.{EachIsLegal};
 ghost use Rattle.tt_proof.specs.Strategy.{reply};
 ghost use Rattle.tt_proof.specs.KeptFootprints.{IsFootprint, IsBoardAfter, AreLegalPlays};
 ghost use Rattle.tt_search.specs.inside.Joining.{IsSettledAt, AreSettledAt};
-ghost use Rattle.tt_search.specs.Settled.{strategy_for, first_settled, pick_at, replies};
+ghost use Rattle.tt_search.specs.Settled.{strategy_for, first_settled_index, pick_at, replies};
 ghost use Rattle.tt_search.specs.inside.Children.{children_of};
 ghost use Rattle.tt_search.specs.inside.Edges.{edge_turns, edge_trees};
 ghost use Rattle.tt_search.specs.inside.Choices.{node_with};
@@ -18,7 +18,7 @@ ghost use Rattle.tt_search.specs.inside.Child.{child_tree};
 use crate::tree::children::{Child, ChildNodes};
 use crate::tree::edges::Edge;
 use crate::tree::node::{Growth, Node};
-use crate::tree::numbers::is_same;
+use crate::tree::numbers::is_same_side;
 use std::alloc::Global;
 use tt_board::Board;
 use tt_game::{Line, Side, Turn};
@@ -51,7 +51,7 @@ impl Node {
 
     /// The same where the line stands at the node above, and this one is behind the turn; and the board after the turn.
     #[cycle(footprint)]
-    fn footprint_behind(
+    fn footprint_after(
         &self,
         alloc: Global,
         turn: Turn,
@@ -79,7 +79,7 @@ impl Child<'_> {
     /// The footprint of a child's strategy for the side that it is settled for, where the line stands at the node above, and the
     /// child is behind the turn; and the board after the turn, which is pushed only where the child has grown.
     #[cycle(footprint)]
-    fn footprint_behind(
+    fn footprint_after(
         self,
         alloc: Global,
         turn: Turn,
@@ -93,8 +93,11 @@ impl Child<'_> {
         ensures same { line.new ≡ line.old }
     {
         match self {
-            Child::Fresh | Child::Won(_) => Ok((line.board_behind(turn), Footprint::empty(alloc))),
-            Child::Grown(node) => node.footprint_behind(alloc, turn, line, side),
+            Child::Fresh | Child::Won(_) => Ok((
+                line.board_after_turn(turn),
+                Footprint::empty(alloc),
+            )),
+            Child::Grown(node) => node.footprint_after(alloc, turn, line, side),
         }
     }
 }
@@ -114,10 +117,10 @@ impl ChildNodes {
         ensures exact { IfOk result (λ x. IsFootprint line.old.frame line.old.state (strategy_for side (node_with (choices_of mover self.now))) x) }
         ensures same { line.new ≡ line.old }
     {
-        if is_same(side, mover) {
-            picked(alloc, line, side, self)
+        if is_same_side(side, mover) {
+            pick_footprint(alloc, line, side, self)
         } else {
-            replied(
+            reply_footprint(
                 alloc,
                 line,
                 side,
@@ -131,7 +134,7 @@ impl ChildNodes {
 /// The footprint of the strategy that picks the first child that is settled for the side, which is to move: that child's
 /// alone counts.
 #[cycle(footprint)]
-fn picked(
+fn pick_footprint(
     alloc: Global,
     line: &mut Line,
     side: Side,
@@ -140,18 +143,18 @@ fn picked(
     requires whole { HasItsNodes children.now }
     requires settled { IsSettledAt side line.old.frame line.old.state (node_with (choices_of side children.now)) }
     ensures exact { IfOk result (λ x. IsFootprint line.old.frame line.old.state
-        (pick_at side (first_settled side (children_in children.now)) (edge_turns children.now.edges) (children_in children.now)) x) }
+        (pick_at side (first_settled_index side (children_in children.now)) (edge_turns children.now.edges) (children_in children.now)) x) }
     ensures same { line.new ≡ line.old }
 {
-    let (index, rank) = children.first_settled(side);
+    let (index, rank) = children.first_settled_index(side);
     let turn = children.edges.at(index).turn();
     let child = children.child(index, rank);
-    let (board, behind) = child.footprint_behind(alloc, turn, line, side)?;
+    let (board, behind) = child.footprint_after(alloc, turn, line, side)?;
     Footprint::picked(alloc, line, &turn, &board, behind)
 }
 
 /// The points of the plays among the edges' turns.
-fn played(edges: &[Edge]) -> PointSet
+fn points_of_plays(edges: &[Edge]) -> PointSet
     ensures { (f : Frame) (s : State) → EachIsLegal f s (edge_turns edges.now) → AreLegalPlays f s result }
 {
     let mut points = PointSet::empty();
@@ -165,7 +168,7 @@ fn played(edges: &[Edge]) -> PointSet
 
 /// The footprint of the strategy that replies to each turn: that of the node's own plays, and those of all children.
 #[cycle(footprint)]
-fn replied(
+fn reply_footprint(
     alloc: Global,
     line: &mut Line,
     side: Side,
@@ -177,13 +180,13 @@ fn replied(
         (reply (replies side (edge_turns edges.now) (children_of (edge_trees edges.now grown.now)))) x) }
     ensures same { line.new ≡ line.old }
 {
-    let mut footprint = Footprint::of_repeats_beside(alloc, line, &played(edges))?;
+    let mut footprint = Footprint::of_empty_reply_with_legal(alloc, line, &points_of_plays(edges))?;
     let mut rest = grown;
     for edge in edges {
-        let (child, behind) = Child::first(*edge, rest);
+        let (child, behind) = Child::first_and_rest(*edge, rest);
         let turn = edge.turn();
-        let (board, below) = child.footprint_behind(alloc, turn, line, side)?;
-        footprint.join(line, &turn, &board, below)?;
+        let (board, below) = child.footprint_after(alloc, turn, line, side)?;
+        footprint.add_entry(line, &turn, &board, below)?;
         rest = behind;
     }
     Ok(footprint)

@@ -1,14 +1,14 @@
 //! Leave to expand a node, which a search asks for before each expansion.
 
 ghost use Rattle.std.specs.Prelude.{◌≡◌, ◌+◌, ◌-◌, ◌<◌, ◌^◌, true, false};
-ghost use Rattle.tt_search.specs.Grants.{Asked, AskOf};
+ghost use Rattle.tt_search.specs.Grants.{GrantTally, IsAnswerToAsk};
 
 use std::marker::Model;
 
 /// Who grants expansions. Several searches may ask of one source, so that all of them together stay below a bound.
 pub trait Grants {
     // How many asks were granted through it, and whether one was refused.
-    ghost asked: { Self → Asked };
+    ghost asked: { Self → GrantTally };
     // What no ask changes.
     ghost Source: { Type 0 } = { Unit {0} };
 
@@ -17,7 +17,7 @@ pub trait Grants {
     /// Whether one more expansion is granted, which then counts. Once an ask was refused, so is each later one.
     fn ask(&mut self) -> bool
         requires { (asked self.old).granted < 2 ^ 64 - 1 }
-        ensures answer { AskOf (asked self.old) result (asked self.new) }
+        ensures answer { IsAnswerToAsk (asked self.old) result (asked self.new) }
         ensures source { source self.new ≡ source self.old };
 
     /// How many asks were granted.

@@ -12,17 +12,17 @@ ghost use Rattle.tt_search.specs.inside.Descending.{MayDescend, Descends};
 ghost use Rattle.tt_search.specs.inside.ChildSteps.{IsFreshAt, FirstStepAt, StepsBelow, BestSteps};
 ghost use Rattle.tt_search.specs.inside.Taken.{Taken, IsLeft};
 ghost use Rattle.tt_search.specs.inside.Steady.{AreSteps};
-ghost use Rattle.tt_search.specs.Grants.{AskedBy};
+ghost use Rattle.tt_search.specs.Grants.{IsAskOfStep};
 ghost use Rattle.tt_search.specs.declared.limits.Reason.TheVariants.{Total};
 ghost use Rattle.tt_search.specs.declared.limits.Step.TheVariants.{Expanded, Closed, Stuck};
-ghost use Rattle.tt_search.specs.declared.descent.Stop.TheVariants.{OneStep};
+ghost use Rattle.tt_search.specs.declared.descent.StopAfter.TheVariants.{OneStep};
 
-use crate::descent::{Descent, Stop};
+use crate::descent::{Descent, StopAfter};
 use crate::grants::Grants;
 use crate::leaves::{closed_leaf, expanded_at, new_leaf, untried_children};
 use crate::limits::{Reason, Step};
 use crate::store::Store;
-use crate::store::closing::usable;
+use crate::store::usable_proofs::find_usable_proof;
 use crate::tree::children::{BestChild, ChildNodes};
 use crate::tree::edges::EdgeState;
 use crate::tree::node::{Growth, Node};
@@ -31,7 +31,7 @@ use tt_game::Side;
 use tt_sgf::NoMemory;
 
 /// Whether the step changed its tree.
-fn grows(step: Step) -> bool
+fn changes_tree(step: Step) -> bool
     ensures { (result ≡ true) ↔ ((step ≡ Expanded) ⊎ (step ≡ Closed)) }
 {
     matches!(step, Step::Expanded | Step::Closed)
@@ -41,8 +41,8 @@ fn grows(step: Step) -> bool
 fn ask_grant<G: Grants>(step: Step, grants: &mut G) -> bool
     requires room { step ≡ Expanded → (G.asked grants.old).granted < 2 ^ 64 - 1 }
     requires unasked { step ≢ Stuck Total }
-    ensures granted { result ≡ true → AskedBy (G.asked grants.old) step (G.asked grants.new) }
-    ensures refused { result ≡ false → (step ≡ Expanded) × AskedBy (G.asked grants.old) (Stuck Total) (G.asked grants.new) }
+    ensures granted { result ≡ true → IsAskOfStep (G.asked grants.old) step (G.asked grants.new) }
+    ensures refused { result ≡ false → (step ≡ Expanded) × IsAskOfStep (G.asked grants.old) (Stuck Total) (G.asked grants.new) }
     ensures source { G.source grants.new ≡ G.source grants.old }
 {
     match step {
@@ -52,7 +52,7 @@ fn ask_grant<G: Grants>(step: Step, grants: &mut G) -> bool
 }
 
 /// What the budget has left after a step.
-fn left_after(step: Step, left: u32) -> u32
+fn budget_left_after(step: Step, left: u32) -> u32
     requires { step ≡ Expanded → 0 < left }
     ensures { IsLeft step left result }
 {
@@ -65,7 +65,7 @@ fn left_after(step: Step, left: u32) -> u32
 }
 
 /// Makes room for one more node, and where there is none, for half as many as there are: most lists stay short.
-fn make_room(nodes: &mut Vec<Node>) -> Result<(), NoMemory>
+fn make_room_for_node(nodes: &mut Vec<Node>) -> Result<(), NoMemory>
     ensures items { nodes.new.items ≡ nodes.old.items }
     ensures room { OnOk result (vec_len nodes.new < vec_capacity nodes.new) }
 {
@@ -76,7 +76,7 @@ fn make_room(nodes: &mut Vec<Node>) -> Result<(), NoMemory>
 }
 
 /// Puts a fresh node at a place among others, where there is room for it. It mostly comes last, and then no other one is looked at.
-fn put_fresh(nodes: &mut Vec<Node>, rank: usize)
+fn insert_fresh_node(nodes: &mut Vec<Node>, rank: usize)
     requires within { rank ≤ vec_len nodes.old }
     requires room { vec_len nodes.old < vec_capacity nodes.old }
     ensures items { nodes.new.items ≡ insert nodes.old.items rank fresh }
@@ -99,7 +99,7 @@ impl Node {
     pub(crate) fn grow<S: Store, G: Grants>(
         &mut self,
         walk: &mut Descent,
-        stop: Stop,
+        stop: StopAfter,
         store: &mut S,
         grants: &mut G,
     ) -> Step
@@ -112,8 +112,8 @@ impl Node {
             let disproof = self.number(Side::Defender);
             // A new step may offer again, though a proof couldn't be made in the last one.
             walk.offering = true;
-            let step = self.round(walk, stop, store, grants);
-            if stop.is_one_step() || !grows(step) {
+            let step = self.grow_once(walk, stop, store, grants);
+            if stop.is_one_step() || !changes_tree(step) {
                 return step;
             }
             if self.number(Side::Attacker) != proof || self.number(Side::Defender) != disproof {
@@ -125,10 +125,10 @@ impl Node {
     /// Steps at an undecided node, as `grow`, by one descent: one step at a leaf, and otherwise the steps of its best
     /// child. Each node that becomes settled is offered to the store, the deepest first.
     #[cycle(descent)]
-    fn round<S: Store, G: Grants>(
+    fn grow_once<S: Store, G: Grants>(
         &mut self,
         walk: &mut Descent,
-        stop: Stop,
+        stop: StopAfter,
         store: &mut S,
         grants: &mut G,
     ) -> Step
@@ -141,11 +141,11 @@ impl Node {
             Growth::Expanded(focus, children) => {
                 let was = PhiDelta::of(focus.mover, proof, disproof);
                 let (step, numbers) = children.descend(focus, was, walk, stop, store, grants);
-                let (proof, disproof) = numbers.by_goal(focus.mover);
+                let (proof, disproof) = numbers.proof_and_disproof(focus.mover);
                 self.proof = proof;
                 self.disproof = disproof;
-                if let Some(side) = self.settled_for() {
-                    walk.offering = self.offer(side, walk, store);
+                if let Some(side) = self.settled_side() {
+                    walk.offering = self.offer_proof(side, walk, store);
                 }
                 step
             }
@@ -153,7 +153,7 @@ impl Node {
                 let Ok((focus, children)) = untried_children(walk.alloc, *mover, plays) else {
                     return Step::Stuck(Reason::Memory);
                 };
-                self.first_round(focus, children, walk, stop, store, grants)
+                self.grow_untried(focus, children, walk, stop, store, grants)
             }
             Growth::Won(_) | Growth::Closed(_) | Growth::Offered(_, _, _) => unreachable!(),
             Growth::Fresh => self.first_step(walk, store, grants),
@@ -163,12 +163,12 @@ impl Node {
     /// Steps at a node of which no turn has been tried, by one descent below these children of it, which it keeps.
     #[cycle(descent)]
     #[inline(never)]
-    fn first_round<S: Store, G: Grants>(
+    fn grow_untried<S: Store, G: Grants>(
         &mut self,
         mut focus: BestChild,
         mut children: ChildNodes,
         walk: &mut Descent,
-        stop: Stop,
+        stop: StopAfter,
         store: &mut S,
         grants: &mut G,
     ) -> Step
@@ -180,21 +180,21 @@ impl Node {
     {
         let was = PhiDelta::of(focus.mover, self.proof, self.disproof);
         let (step, numbers) = children.descend(&mut focus, was, walk, stop, store, grants);
-        let (proof, disproof) = numbers.by_goal(focus.mover);
+        let (proof, disproof) = numbers.proof_and_disproof(focus.mover);
         *self = Node {
             proof,
             disproof,
             growth: Growth::Expanded(focus, children),
         };
-        if let Some(side) = self.settled_for() {
-            walk.offering = self.offer(side, walk, store);
+        if let Some(side) = self.settled_side() {
+            walk.offering = self.offer_proof(side, walk, store);
         }
         step
     }
 
     /// A step at a fresh leaf, and what the node becomes: a kept proof closes it, or it is expanded where the budget and the
     /// room allow it. The expansion is still to be asked for.
-    fn leaf_step<S: Store>(&mut self, walk: &mut Descent, store: &mut S) -> Step
+    fn close_or_expand<S: Store>(&mut self, walk: &mut Descent, store: &mut S) -> Step
         requires fresh { self.old ≡ fresh }
         requires open { winner_of walk.old.line.frame walk.old.line.state ≡ None }
         ensures walk { walk.new ≡ walk.old }
@@ -203,7 +203,7 @@ impl Node {
         ensures unasked { result ≢ Stuck Total }
         ensures taken { Taken (stand_of walk.old) (stage fresh walk.old.left) result self.new }
     {
-        match usable(&mut walk.line, walk.room, store) {
+        match find_usable_proof(&mut walk.line, walk.room, store) {
             Err(_) => return Step::Stuck(Reason::Memory),
             Ok(Some(proof)) => {
                 *self = closed_leaf(proof);
@@ -242,17 +242,17 @@ impl Node {
         ensures taken { Taken (stand_of walk.old) (stage fresh walk.old.left) result self.new }
         ensures left { IsLeft result walk.old.left walk.new.left }
     {
-        let step = self.leaf_step(walk, store);
+        let step = self.close_or_expand(walk, store);
         if !ask_grant(step, grants) {
             *self = new_leaf(None);
             return Step::Stuck(Reason::Total);
         }
         if let Step::Expanded = step {
-            if let Some(side) = self.settled_for() {
-                walk.offering = self.offer(side, walk, store);
+            if let Some(side) = self.settled_side() {
+                walk.offering = self.offer_proof(side, walk, store);
             }
         }
-        walk.left = left_after(step, walk.left);
+        walk.left = budget_left_after(step, walk.left);
         step
     }
 }
@@ -267,7 +267,7 @@ impl ChildNodes {
         focus: &mut BestChild,
         was: PhiDelta,
         walk: &mut Descent,
-        stop: Stop,
+        stop: StopAfter,
         store: &mut S,
         grants: &mut G,
     ) -> (Step, PhiDelta)
@@ -294,7 +294,7 @@ impl ChildNodes {
         focus: &mut BestChild,
         was: PhiDelta,
         walk: &mut Descent,
-        stop: Stop,
+        stop: StopAfter,
         store: &mut S,
         grants: &mut G,
     ) -> (Step, PhiDelta)
@@ -312,7 +312,7 @@ impl ChildNodes {
         let child = self.child(index, rank);
         let own = child.number(focus.mover);
         let new = child.number(goal);
-        let other = self.sum_after(focus.mover, was.other, old, new);
+        let other = self.opponent_sum_after(focus.mover, was.other, old, new);
         if own <= was.own {
             return (step, PhiDelta { own, other });
         }
@@ -334,7 +334,7 @@ impl ChildNodes {
         index: usize,
         rank: usize,
         walk: &mut Descent,
-        stop: Stop,
+        stop: StopAfter,
         store: &mut S,
         grants: &mut G,
     ) -> Step
@@ -377,16 +377,16 @@ impl ChildNodes {
         ensures before { take index self.new.edges ≡ take index self.old.edges }
         ensures first_step { FirstStepAt walk.old index self.old result self.new walk.new }
     {
-        if make_room(&mut self.grown).is_err() {
+        if make_room_for_node(&mut self.grown).is_err() {
             return Step::Stuck(Reason::Memory);
         }
-        put_fresh(&mut self.grown, rank);
+        insert_fresh_node(&mut self.grown, rank);
         let step = self.grown[rank].first_step(walk, store, grants);
         if let Step::Stuck(reason) = step {
             let _fresh = self.grown.remove(rank);
             return Step::Stuck(reason);
         }
-        let edge = self.edges.at(index).grown();
+        let edge = self.edges.at(index).with_grown_child();
         self.edges.set(index, edge);
         step
     }

@@ -4,7 +4,7 @@ ghost use Rattle.std.specs.Prelude.{◌≡◌, ◌≤◌, None, [], length, IfOk
 ghost use Rattle.tt_game.specs.Game.{winner_of};
 ghost use Rattle.tt_search.specs.PartialTree.{expanded, closed};
 ghost use Rattle.tt_search.specs.inside.Children.{children_of};
-ghost use Rattle.tt_search.specs.declared.tree.edges.TheConstants.{TURNS};
+ghost use Rattle.tt_search.specs.declared.tree.edges.TheConstants.{TURN_NUMBER_BOUND};
 ghost use Rattle.tt_search.specs.inside.Edges.{edge_turn, edge_state_of, tree_of, edge_turns, edge_trees, counted, grown_in};
 ghost use Rattle.tt_search.specs.Growing.{leaf_with_winner, expansion};
 ghost use Rattle.tt_search.specs.inside.Expanding.{AreNewEdges};
@@ -18,7 +18,7 @@ use crate::tree::edge_row::Edges;
 use crate::tree::edges::{Edge, EdgeState};
 use crate::tree::node::{Growth, Node};
 use crate::tree::numbers::{PhiDelta, decided_number};
-use crate::tree::untried::Plays;
+use crate::tree::untried::UntriedPlays;
 use arrayvec::ArrayVec;
 use std::alloc::Global;
 use std::sync::Arc;
@@ -58,12 +58,12 @@ pub(crate) fn closed_leaf(proof: Arc<Proof>) -> Node
 
 /// An expanded node at which no child has grown.
 fn expanded_node(alloc: Global, mover: Side, edges: Edges) -> Node
-    requires few { length edges ≤ TURNS }
+    requires few { length edges ≤ TURN_NUMBER_BOUND }
     requires none { grown_in edges ≡ 0 }
     ensures { result ≡ expanded mover (edge_turns edges) (children_of (edge_trees edges [])) }
 {
     let (focus, children, numbers) = ChildNodes::new(alloc, mover, edges);
-    let (proof, disproof) = numbers.by_goal(focus.mover);
+    let (proof, disproof) = numbers.proof_and_disproof(focus.mover);
     Node {
         proof,
         disproof,
@@ -84,7 +84,7 @@ fn new_edge(turn: Turn, winner: Option<Side>) -> Edge
 }
 
 /// The edges of the legal turns, to new leaves. Each play is made once.
-fn edges_at(alloc: Global, plays: &mut LegalPlays) -> Result<Edges, NoMemory>
+fn edges_to_new_leaves(alloc: Global, plays: &mut LegalPlays) -> Result<Edges, NoMemory>
     requires { plays.old.from ≡ 0 }
     ensures { IfOk result (λ edges. AreNewEdges plays.old.frame plays.old.state edges) }
 {
@@ -97,7 +97,7 @@ fn edges_at(alloc: Global, plays: &mut LegalPlays) -> Result<Edges, NoMemory>
 }
 
 /// The legal plays, where these are many and nobody has won behind any turn.
-fn untried_plays(plays: &mut LegalPlays) -> Option<Plays>
+fn plays_if_none_wins(plays: &mut LegalPlays) -> Option<UntriedPlays>
     requires { plays.old.from ≡ 0 }
     ensures edges { IfSome result (λ found. AreNewEdges plays.old.frame plays.old.state (plays_and_pass found)) }
     ensures untried { IfSome result (λ found. AreUntried (plays_and_pass found)) }
@@ -106,7 +106,7 @@ fn untried_plays(plays: &mut LegalPlays) -> Option<Plays>
     if !plays.may_be_many() || plays.winner_by_pass().is_some() {
         return None;
     }
-    let mut found = Plays::new();
+    let mut found = UntriedPlays::new();
     while let Some((p, winner)) = plays.next() {
         if winner.is_some() {
             return None;
@@ -117,7 +117,7 @@ fn untried_plays(plays: &mut LegalPlays) -> Option<Plays>
 }
 
 /// An expanded node with these plays and a pass, of which no turn has been tried.
-fn untried_node(mover: Side, plays: Plays) -> Node
+fn untried_node(mover: Side, plays: UntriedPlays) -> Node
     requires { AreUntried (plays_and_pass plays) }
     ensures { result ≡ node_with (choices_with mover (plays_and_pass plays) []) }
 {
@@ -125,7 +125,7 @@ fn untried_node(mover: Side, plays: Plays) -> Node
         own: 1,
         other: u32::from(plays.len()) + 1,
     };
-    let (proof, disproof) = numbers.by_goal(mover);
+    let (proof, disproof) = numbers.proof_and_disproof(mover);
     Node {
         proof,
         disproof,
@@ -138,14 +138,14 @@ fn untried_node(mover: Side, plays: Plays) -> Node
 pub(crate) fn untried_children(
     alloc: Global,
     mover: Side,
-    plays: &Plays,
+    plays: &UntriedPlays,
 ) -> Result<(BestChild, ChildNodes), NoMemory>
     requires { AreUntried (plays_and_pass plays.now) }
     ensures mover { IfOk result (λ x. x.0.mover ≡ mover) }
     ensures children { IfOk result (λ x. choices_of x.0.mover x.1 ≡ choices_with mover (plays_and_pass plays.now) []) }
     ensures kept { IfOk result (λ x. IsKept x.0 x.1) }
 {
-    let edges = plays.row(alloc)?;
+    let edges = plays.edges_with_pass(alloc)?;
     let focus = BestChild {
         mover,
         index: 0,
@@ -161,10 +161,10 @@ pub(crate) fn expanded_at(alloc: Global, line: &Line) -> Result<Node, NoMemory>
     ensures { IfOk result (λ node. node ≡ expansion line.now.frame line.now.state) }
 {
     let mut plays = line.legal_plays();
-    if let Some(found) = untried_plays(&mut plays) {
+    if let Some(found) = plays_if_none_wins(&mut plays) {
         return Ok(untried_node(line.to_move(), found));
     }
     plays.restart();
-    let edges = edges_at(alloc, &mut plays)?;
+    let edges = edges_to_new_leaves(alloc, &mut plays)?;
     Ok(expanded_node(alloc, line.to_move(), edges))
 }

@@ -23,7 +23,7 @@ mod tree;
 pub use grants::{Free, Grants};
 pub use limits::{Limits, MOST_EXPANDED, Reason, Step};
 pub use search::{End, Search};
-pub use store::closing::usable;
 pub use store::key_index::{KeyIndex, ProofRow};
 pub use store::private::PrivateStore;
+pub use store::usable_proofs::find_usable_proof;
 pub use store::{Kept, NoStore, ProofPerSide, Store};

@@ -4,13 +4,13 @@ ghost use Rattle.std.specs.Prelude.{◌≡◌, ◌+◌, ◌^◌, ◌<◌, ◌≤
 ghost use Rattle.tt_search.specs.declared.limits.Step.TheVariants.{Closed};
 ghost use Rattle.tt_search.specs.Numbers.{proof_number, disproof_number, count, IsCappedOrInfinite, IsUndecided};
 ghost use Rattle.tt_search.specs.Growing.{new_leaf, IsGrown};
-ghost use Rattle.tt_search.specs.Searched.{IsSameProblem, StepOf};
-ghost use Rattle.tt_search.specs.RunEnds.{EndOf, HasSpent, SpentBy, IsProofOf};
-ghost use Rattle.tt_search.specs.Grants.{AskedBy};
+ghost use Rattle.tt_search.specs.SearchState.{IsSameProblem, IsStepOf};
+ghost use Rattle.tt_search.specs.RunEnds.{IsEndOf, HasSpent, IsSpentBy, IsProofOf};
+ghost use Rattle.tt_search.specs.Grants.{IsAskOfStep};
 ghost use Rattle.tt_search.specs.inside.Asking.{AreAsked};
 ghost use Rattle.tt_search.specs.inside.Advanced.{IsAdvanced};
 
-use crate::descent::{Descent, Stop};
+use crate::descent::{Descent, StopAfter};
 use crate::grants::Grants;
 use crate::leaves::new_leaf;
 use crate::limits::{Limits, Reason, Step};
@@ -41,14 +41,14 @@ pub struct Search {
 impl Model for Search {
     ghost use Rattle.tt_sgf.specs.contracts.sets.PointSet as points;
     ghost use Rattle.std.specs.Coded.{codes};
-    ghost use Rattle.tt_search.specs.laws.PartialTreeCode.{partial_code};
-    ghost use Rattle.tt_search.specs.Searched.{Searched};
+    ghost use Rattle.tt_search.specs.laws.PartialTreeCode.{partial_tree_code};
+    ghost use Rattle.tt_search.specs.SearchState.{SearchState};
     ghost use Rattle.tt_search.specs.inside.Searching.{IsSearch};
     ghost use Rattle.tt_search.specs.inside.Walking.{stage, stand_of};
 
-    ghost Value = { Searched };
+    ghost Value = { SearchState };
 
-    ghost coded = { Prim.hlevel (codes, partial_code, points.the_row.coded) };
+    ghost coded = { Prim.hlevel (codes, partial_tree_code, points.the_row.coded) };
 
     ghost view = { λ a. record { line = a.walk.line; limits = a.limits; tree = a.root } };
 
@@ -97,26 +97,26 @@ impl Search {
     pub fn step<S: Store, G: Grants>(&mut self, store: &mut S, grants: &mut G) -> Step
         requires grants { (G.asked grants.old).granted + self.old.limits.budget < 2 ^ 64 + count self.old.tree }
         ensures problem { IsSameProblem self.old self.new }
-        ensures taken { StepOf self.old result self.new }
+        ensures taken { IsStepOf self.old result self.new }
         ensures may { result ≡ Closed → S.may_answer }
-        ensures asked { AskedBy (G.asked grants.old) result (G.asked grants.new) }
+        ensures asked { IsAskOfStep (G.asked grants.old) result (G.asked grants.new) }
         ensures spent { HasSpent self.old (G.asked grants.old) self.new (G.asked grants.new) }
         ensures source { G.source grants.new ≡ G.source grants.old }
     {
-        self.advance(store, grants, Stop::OneStep)
+        self.advance(store, grants, StopAfter::OneStep)
     }
 
     /// Steps until the root is settled or a step is stuck. The grants have room for what the budget has left.
     pub fn run<S: Store, G: Grants>(self, store: &mut S, grants: &mut G) -> End
         requires grants { (G.asked grants.old).granted + self.limits.budget < 2 ^ 64 + count self.tree }
-        ensures end { EndOf self result }
-        ensures spent { SpentBy self (G.asked grants.old) result (G.asked grants.new) }
+        ensures end { IsEndOf self result }
+        ensures spent { IsSpentBy self (G.asked grants.old) result (G.asked grants.new) }
         ensures few { (G.asked grants.new).granted + count self.tree ≤ (G.asked grants.old).granted + self.limits.budget }
         ensures source { G.source grants.new ≡ G.source grants.old }
     {
         let mut search = self;
         loop {
-            match search.advance(store, grants, Stop::NumbersChange) {
+            match search.advance(store, grants, StopAfter::NumbersChange) {
                 Step::Expanded | Step::Closed => {}
                 Step::Settled => {
                     return match search.proof() {
@@ -130,7 +130,12 @@ impl Search {
     }
 
     /// Steps: one step, or up to one that changes the root's numbers or is stuck. The answer is that of the last step.
-    fn advance<S: Store, G: Grants>(&mut self, store: &mut S, grants: &mut G, stop: Stop) -> Step
+    fn advance<S: Store, G: Grants>(
+        &mut self,
+        store: &mut S,
+        grants: &mut G,
+        stop: StopAfter,
+    ) -> Step
         requires grants { (G.asked grants.old).granted + self.old.limits.budget < 2 ^ 64 + count self.old.tree }
         ensures problem { IsSameProblem self.old self.new }
         ensures advanced { IsAdvanced stop self.old result self.new }
@@ -153,7 +158,7 @@ impl Search {
         ensures exact { IfOk result (λ p. IsProofOf self.old p) }
         ensures same { self.new ≡ self.old }
     {
-        let Some(side) = self.root.settled_for() else {
+        let Some(side) = self.root.settled_side() else {
             unreachable!();
         };
         self.root.proof(self.walk.alloc, &mut self.walk.line, side)

@@ -3,12 +3,12 @@
 
 ghost use Rattle.std.specs.Prelude.{◌≡◌, ◌≤◌, ◌<◌, false, length, IfOk, MatchOption};
 ghost use Rattle.tt_proof.specs.Strategy.{reply};
-ghost use Rattle.tt_proof.specs.Proven.{StandsAt};
+ghost use Rattle.tt_proof.specs.ProofClaim.{StandsAt};
 ghost use Rattle.tt_proof.specs.declared.tree.TheConstants.{MOST_DEPTH};
 ghost use Rattle.tt_search.specs.Numbers.{number, numbers, least, IsUndecided};
 ghost use Rattle.tt_search.specs.Growing.{IsPartialTree};
 ghost use Rattle.tt_search.specs.inside.Within.{StaysWithin};
-ghost use Rattle.tt_search.specs.Settled.{strategy_for, first_settled, pick_at, replies};
+ghost use Rattle.tt_search.specs.Settled.{strategy_for, first_settled_index, pick_at, replies};
 ghost use Rattle.tt_search.specs.inside.Offered.{IsProofOfTree};
 ghost use Rattle.tt_search.specs.inside.Joining.{IsSettledAt, AreZero};
 ghost use Rattle.tt_search.specs.inside.Children.{children_of};
@@ -22,12 +22,12 @@ use crate::store::Store;
 use crate::tree::children::{Child, ChildNodes};
 use crate::tree::edges::Edge;
 use crate::tree::node::{Growth, Node};
-use crate::tree::numbers::is_same;
+use crate::tree::numbers::is_same_side;
 use std::alloc::Global;
 use std::mem;
 use std::sync::Arc;
 use tt_game::{Line, Side};
-use tt_proof::{MeasuredTree, Proof, Replies};
+use tt_proof::{MeasuredTree, Proof, ReplyBuilder};
 use tt_sgf::NoMemory;
 
 impl Node {
@@ -48,7 +48,7 @@ impl Node {
     }
 
     /// The side that the node is settled for.
-    pub(crate) fn settled_for(&self) -> Option<Side>
+    pub(crate) fn settled_side(&self) -> Option<Side>
         ensures { MatchOption result (IsUndecided self.now) (λ side. number side self.now ≡ 0) }
     {
         if self.number(Side::Attacker) == 0 {
@@ -76,11 +76,11 @@ impl Node {
     {
         let measured_tree = self.measured_tree(alloc, side)?;
         let footprint = self.footprint(alloc, line, side)?;
-        Proof::winning_with(line, side, measured_tree, footprint)
+        Proof::from_known_win(line, side, measured_tree, footprint)
     }
 
     /// Holds a proof that the node offers, where memory for a handle is left.
-    fn hold(&mut self, proof: &Arc<Proof>)
+    fn hold_offered_proof(&mut self, proof: &Arc<Proof>)
         requires { IsProofOfTree self.old proof.now.value }
         ensures { self.new ≡ self.old }
     {
@@ -96,7 +96,12 @@ impl Node {
     /// Offers the proof of a node that is settled for the side to the store, where the walk stands at the node, and
     /// answers whether the walk may offer on. None is made for a store that is full, nor where the proof of a node below it
     /// couldn't be made.
-    pub(crate) fn offer<S: Store>(&mut self, side: Side, walk: &mut Descent, store: &mut S) -> bool
+    pub(crate) fn offer_proof<S: Store>(
+        &mut self,
+        side: Side,
+        walk: &mut Descent,
+        store: &mut S,
+    ) -> bool
         requires settled { number side self.old ≡ 0 }
         requires partial { IsPartialTree walk.old.line.frame walk.old.line.state self.old }
         requires stays { StaysWithin walk.old.line.frame.size MOST_DEPTH self.old }
@@ -113,7 +118,7 @@ impl Node {
         let Ok(proof) = Arc::new(walk.alloc, proof) else {
             return false;
         };
-        self.hold(&proof);
+        self.hold_offered_proof(&proof);
         let _kept = store.keep(proof);
         true
     }
@@ -146,22 +151,22 @@ impl ChildNodes {
         requires settled { number side (node_with (choices_of mover self.now)) ≡ 0 }
         ensures { IfOk result (λ p. p ≡ strategy_for side (node_with (choices_of mover self.now))) }
     {
-        if is_same(side, mover) {
-            picked(alloc, side, self)
+        if is_same_side(side, mover) {
+            pick_tree(alloc, side, self)
         } else {
-            replied(alloc, side, self.edges.as_slice(), self.grown.as_slice())
+            reply_tree(alloc, side, self.edges.as_slice(), self.grown.as_slice())
         }
     }
 }
 
 /// The strategy that picks the first child that is settled for the side.
 #[cycle(measured_tree_of)]
-fn picked(alloc: Global, side: Side, children: &ChildNodes) -> Result<MeasuredTree, NoMemory>
+fn pick_tree(alloc: Global, side: Side, children: &ChildNodes) -> Result<MeasuredTree, NoMemory>
     requires whole { HasItsNodes children.now }
     requires settled { least (numbers side (children_in children.now)) ≡ 0 }
-    ensures { IfOk result (λ p. p ≡ pick_at side (first_settled side (children_in children.now)) (edge_turns children.now.edges) (children_in children.now)) }
+    ensures { IfOk result (λ p. p ≡ pick_at side (first_settled_index side (children_in children.now)) (edge_turns children.now.edges) (children_in children.now)) }
 {
-    let (index, rank) = children.first_settled(side);
+    let (index, rank) = children.first_settled_index(side);
     if index >= children.edges.len() {
         return Ok(MeasuredTree::done());
     }
@@ -171,7 +176,7 @@ fn picked(alloc: Global, side: Side, children: &ChildNodes) -> Result<MeasuredTr
 
 /// The strategy that replies to each turn.
 #[cycle(measured_tree_of)]
-fn replied(
+fn reply_tree(
     alloc: Global,
     side: Side,
     edges: &[Edge],
@@ -181,10 +186,10 @@ fn replied(
     requires settled { AreZero side (children_of (edge_trees edges.now grown.now)) }
     ensures { IfOk result (λ p. p ≡ reply (replies side (edge_turns edges.now) (children_of (edge_trees edges.now grown.now)))) }
 {
-    let mut answers = Replies::with_capacity(alloc, edges.len())?;
+    let mut answers = ReplyBuilder::with_capacity(alloc, edges.len())?;
     let mut rest = grown;
     for edge in edges {
-        let (child, behind) = Child::first(*edge, rest);
+        let (child, behind) = Child::first_and_rest(*edge, rest);
         let answer = child.measured_tree(alloc, side)?;
         answers.push(edge.turn(), answer)?;
         rest = behind;

@@ -1,8 +1,8 @@
 //! Where a search keeps the proofs of settled nodes, and looks for them again.
 
-pub(crate) mod closing;
 pub(crate) mod key_index;
 pub(crate) mod private;
+pub(crate) mod usable_proofs;
 
 ghost use Rattle.std.specs.Prelude.{◌≡◌, ◌≢◌, ℕ, ◌+◌, ◌↔◌, Ok, None, IfOk, IfSome};
 ghost use Rattle.tt_game.specs.declared.frame.Side.TheVariants.{Attacker, Defender};

@@ -15,7 +15,7 @@ use Rattle.tt_sgf.specs.declared.size.TheConstants.{MOST_POINTS}
 use Rattle.tt_sgf.specs.declared.bits.TheConstants.{BITS}
 use Rattle.tt_sgf.specs.Points.{passing}
 use Rattle.tt_sgf.specs.laws.PointLaws.{passing-zero, passing-in, passing-out, contains-passing}
-use Rattle.tt_sgf.specs.MachineWords.{bit_in, points_of, IsLow, AreSameBits, AreOfPoints, AreCovered}
+use Rattle.tt_sgf.specs.MachineWords.{bit_in, points_of, AreLowBitsOf, AreSameBits, AreBitsOfPoints, IsWithinUnion}
 
 -- ---- bits
 
@@ -283,7 +283,7 @@ module _ (made a b : List ℕ) where
 -- ---- the lowest bits, and the first one
 
 -- a mask of ones leaves the lowest bits
-pub low_mask : (word count : ℕ) → count < 64 → IsLow (bit_and word (1 * 2 ^ count % 2 ^ 64 - 1)) word count
+pub low_mask : (word count : ℕ) → count < 64 → AreLowBitsOf (bit_and word (1 * 2 ^ count % 2 ^ 64 - 1)) word count
 low_mask word count few = λ i small.
     let mask : bit_at (bit_and word (1 * 2 ^ count % 2 ^ 64 - 1)) i ≡ min (bit_at word i) (bit_at (2 ^ count - 1) i) =
     ap (λ m. bit_at (bit_and word (m - 1)) i) (one_shl count 64 few) ∙ bit_at_and word (2 ^ count - 1) i in (
@@ -291,7 +291,7 @@ low_mask word count few = λ i small.
       λ above. omega (arith, mask, bit_at_ones_above count i above),
     )
 
-module _ (made words : List ℕ) (count : ℕ) (low : (k : ℕ) → k < 6 → IsLow (get_or made k 0) (get_or words k 0) (count - 64 * k)) where
+module _ (made words : List ℕ) (count : ℕ) (low : (k : ℕ) → k < 6 → AreLowBitsOf (get_or made k 0) (get_or words k 0) (count - 64 * k)) where
   -- where each word keeps its lowest bits, those below the count stay and all others are 0
   pub low_kept : (q : ℕ) → q < BITS → q < count → bit_in made q ≡ bit_in words q
   unfolding bit_in
@@ -352,7 +352,7 @@ points_from-bits words others same = same_points _ _ (λ q. contains-points word
 ] ∙ sym (contains-points others q))
 
 -- the same sets have the same bits, where the bits of no point are 0
-pub bits_from-points : (words others : List ℕ) → AreOfPoints words → AreOfPoints others → points_of words ≡ points_of others → AreSameBits words others
+pub bits_from-points : (words others : List ℕ) → AreBitsOfPoints words → AreBitsOfPoints others → points_of words ≡ points_of others → AreSameBits words others
 bits_from-points words others alone others_alone same = λ q small. elim (cases_lt q MOST_POINTS) [
   | inl below ↦ sym (has_point words q below) ∙ ap (λ s. set.contains s q) same ∙ has_point others q below
   | inr above ↦ alone q above small ∙ sym (others_alone q above small)
@@ -405,7 +405,7 @@ module _ (ws xs ys : List ℕ) (k : ℕ) (fits_x : get_or xs k 0 < 2 ^ 64) (fits
 
   -- something is left of a word
   pub not_covered : k < 6 → get_or ws k 0 < 2 ^ 64 →
-      bit_and (bit_and (get_or ws k 0) (bit_not w64 (get_or xs k 0))) (bit_not w64 (get_or ys k 0)) ≢ 0 → AreCovered ws xs ys → ⊥
+      bit_and (bit_and (get_or ws k 0) (bit_not w64 (get_or xs k 0))) (bit_not w64 (get_or ys k 0)) ≢ 0 → IsWithinUnion ws xs ys → ⊥
   unfolding bit_in
   not_covered in_k fits_w some covered =
       let w = get_or ws k 0 in let x = get_or xs k 0 in let y = get_or ys k 0 in

@@ -9,13 +9,13 @@ use Rattle.std.specs.FinSet as set
 use Rattle.tt_sgf.specs.Bytes.{colon, lower_a}
 use Rattle.tt_sgf.specs.declared.size.TheConstants.{MOST_POINTS}
 use Rattle.tt_sgf.specs.declared.size.Size.{Size}
-use Rattle.tt_sgf.specs.declared.entries.Rectangle.{Rectangle}
+use Rattle.tt_sgf.specs.declared.point_lists.Rectangle.{Rectangle}
 use Rattle.std.specs.List.{list_any, list_all}
 use Rattle.std.specs.Option.{is_some}
 use Rattle.std.proofs.lemmas.Option.{same_Some}
 use Rattle.tt_sgf.specs.Grammar.{is_blank}
-use Rattle.tt_sgf.specs.Values.{StandsIn, trimmed}
-use Rattle.tt_sgf.specs.Entries.{IsEntry, IsPointOrRectangle, Covers, AnyCovers, AreEntries, corner_in, between, entry_of, in_rectangle, covers_by, covers, is_entry, set_of}
+use Rattle.tt_sgf.specs.Values.{StandsAloneIn, trimmed}
+use Rattle.tt_sgf.specs.PointLists.{IsEntryWithCorners, IsPointOrRectangle, Covers, SomeEntryCovers, AreEntries, are_letters_on_board, rectangle_between, rectangle_of_text, in_rectangle, rectangle_covers, covers, is_entry, set_of}
 use Rattle.tt_sgf.specs.Points.{passing}
 use Rattle.tt_sgf.specs.laws.PointLaws.{contains-passing}
 use Rattle.tt_sgf.proofs.NumberLemmas.{trimmed_is, trimmed_stands}
@@ -41,31 +41,31 @@ five (a ∷ b ∷ c ∷ d ∷ e ∷ f ∷ xs) h = absurd (omega arith)
 
 module _ (size : Size) where
   -- the letters of one point name it on the board, and no entry off it
-  pub two_in : (c r : ℕ) → corner_in size c r ≡ true → entry_of size (c ∷ r ∷ []) ≡ Some (between (c - lower_a) (r - lower_a) (c - lower_a) (r - lower_a))
-  unfolding entry_of
+  pub two_in : (c r : ℕ) → are_letters_on_board size c r ≡ true → rectangle_of_text size (c ∷ r ∷ []) ≡ Some (rectangle_between (c - lower_a) (r - lower_a) (c - lower_a) (r - lower_a))
+  unfolding rectangle_of_text
   two_in c r h = rw h refl
 
-  pub two_out : (c r : ℕ) → corner_in size c r ≡ false → entry_of size (c ∷ r ∷ []) ≡ None
-  unfolding entry_of
+  pub two_out : (c r : ℕ) → are_letters_on_board size c r ≡ false → rectangle_of_text size (c ∷ r ∷ []) ≡ None
+  unfolding rectangle_of_text
   two_out c r h = rw h refl
 
   -- the letters of two corners name their rectangle on the board, and no entry with one of them off it
-  pub five_in : (c r m d s : ℕ) → m ≡ colon → corner_in size c r ≡ true → corner_in size d s ≡ true
-      → entry_of size (c ∷ r ∷ m ∷ d ∷ s ∷ []) ≡ Some (between (c - lower_a) (r - lower_a) (d - lower_a) (s - lower_a))
-  unfolding entry_of
+  pub five_in : (c r m d s : ℕ) → m ≡ colon → are_letters_on_board size c r ≡ true → are_letters_on_board size d s ≡ true
+      → rectangle_of_text size (c ∷ r ∷ m ∷ d ∷ s ∷ []) ≡ Some (rectangle_between (c - lower_a) (r - lower_a) (d - lower_a) (s - lower_a))
+  unfolding rectangle_of_text
   five_in c r m d s e h k = rw (e, h, k) refl
 
-  pub five_first : (c r m d s : ℕ) → m ≡ colon → corner_in size c r ≡ false → entry_of size (c ∷ r ∷ m ∷ d ∷ s ∷ []) ≡ None
-  unfolding entry_of
+  pub five_first : (c r m d s : ℕ) → m ≡ colon → are_letters_on_board size c r ≡ false → rectangle_of_text size (c ∷ r ∷ m ∷ d ∷ s ∷ []) ≡ None
+  unfolding rectangle_of_text
   five_first c r m d s e h = rw (e, h) refl
 
-  pub five_second : (c r m d s : ℕ) → m ≡ colon → corner_in size c r ≡ true → corner_in size d s ≡ false → entry_of size (c ∷ r ∷ m ∷ d ∷ s ∷ []) ≡ None
-  unfolding entry_of
+  pub five_second : (c r m d s : ℕ) → m ≡ colon → are_letters_on_board size c r ≡ true → are_letters_on_board size d s ≡ false → rectangle_of_text size (c ∷ r ∷ m ∷ d ∷ s ∷ []) ≡ None
+  unfolding rectangle_of_text
   five_second c r m d s e h k = rw (e, h, k) refl
 
   -- a text of another length, or of five bytes with no colon amid them, is no entry
-  pub no_entry : (xs : List ℕ) → (length xs ≡ 2 → ⊥) → (length xs ≡ 5 → get_or xs 2 0 ≡ colon → ⊥) → entry_of size xs ≡ None
-  unfolding entry_of
+  pub no_entry : (xs : List ℕ) → (length xs ≡ 2 → ⊥) → (length xs ≡ 5 → get_or xs 2 0 ≡ colon → ⊥) → rectangle_of_text size xs ≡ None
+  unfolding rectangle_of_text
   no_entry [] h k = refl
   no_entry (a ∷ []) h k = refl
   no_entry (a ∷ b ∷ []) h k = absurd (h (omega arith))
@@ -108,13 +108,13 @@ module _ (t : set.FinSet nat_cmp) (f : ℕ → Bool) where
     ]
 
 -- the same corners have the same rectangle
-pub between_is : (c r d s c' r' d' s' : ℕ) → c ≡ c' → r ≡ r' → d ≡ d' → s ≡ s' → between c r d s ≡ between c' r' d' s'
+pub between_is : (c r d s c' r' d' s' : ℕ) → c ≡ c' → r ≡ r' → d ≡ d' → s ≡ s' → rectangle_between c r d s ≡ rectangle_between c' r' d' s'
 between_is c r d s c' r' d' s' h k l m = rw (h, k, l, m) refl
 
 -- ---- an entry
 
 -- the letters of a corner are `a` or later ones, and name a column and a row of the board
-corner_parts : (size : Size) (c r : ℕ) → corner_in size c r ≡ true → (lower_a ≤ c) × (c - lower_a < size.columns) × (lower_a ≤ r) × (r - lower_a < size.rows)
+corner_parts : (size : Size) (c r : ℕ) → are_letters_on_board size c r ≡ true → (lower_a ≤ c) × (c - lower_a < size.columns) × (lower_a ≤ r) × (r - lower_a < size.rows)
 corner_parts size c r h =
     let both = and_parts (leb lower_a c && ltb (c - lower_a) size.columns) (leb lower_a r && ltb (r - lower_a) size.rows) h in
     let first = and_parts (leb lower_a c) (ltb (c - lower_a) size.columns) both.0 in
@@ -122,7 +122,7 @@ corner_parts size c r h =
     (leb-true lower_a c first.0, ltb-true (c - lower_a) size.columns first.1, leb-true lower_a r second.0, ltb-true (r - lower_a) size.rows second.1)
 
 -- the letters of a column and a row of the board are a corner
-corner_made : (size : Size) (c r : ℕ) → c < size.columns → r < size.rows → corner_in size (lower_a + c) (lower_a + r) ≡ true
+corner_made : (size : Size) (c r : ℕ) → c < size.columns → r < size.rows → are_letters_on_board size (lower_a + c) (lower_a + r) ≡ true
 corner_made size c r h k =
     let c-is : lower_a + c - lower_a ≡ c = omega arith in
     let r-is : lower_a + r - lower_a ≡ r = omega arith in
@@ -134,7 +134,7 @@ unfolding is_blank
 letter_is_no_blank b h = grind arith
 
 -- an entry is read as the rectangle of its corners
-pub entry_again : (size : Size) (v : List ℕ) (c r d s : ℕ) → IsEntry size v c r d s → entry_of size (trimmed v) ≡ Some (between c r d s)
+pub entry_again : (size : Size) (v : List ℕ) (c r d s : ℕ) → IsEntryWithCorners size v c r d s → rectangle_of_text size (trimmed v) ≡ Some (rectangle_between c r d s)
 entry_again size v c r d s h =
     let c-is : lower_a + c - lower_a ≡ c = omega arith in
     let r-is : lower_a + r - lower_a ≡ r = omega arith in
@@ -147,30 +147,30 @@ entry_again size v c r d s h =
     let bm = letter_is_no_blank colon (omega arith) in
     elim h.stands [
       | inl x ↦
-          ap (entry_of size) (trimmed_is ((lower_a + c) ∷ (lower_a + r) ∷ []) v (bc, (br, tt)) x.2) ∙ two_in size (lower_a + c) (lower_a + r) (corner_made size c r h.c_in h.r_in)
+          ap (rectangle_of_text size) (trimmed_is ((lower_a + c) ∷ (lower_a + r) ∷ []) v (bc, (br, tt)) x.2) ∙ two_in size (lower_a + c) (lower_a + r) (corner_made size c r h.c_in h.r_in)
           ∙ ap (λ (e : Rectangle). Some e) (between_is _ _ _ _ c r d s c-is r-is (c-is ∙ sym x.0) (r-is ∙ sym x.1))
       | inr x ↦
-          ap (entry_of size) (trimmed_is ((lower_a + c) ∷ (lower_a + r) ∷ colon ∷ (lower_a + d) ∷ (lower_a + s) ∷ []) v (bc, (br, (bm, (bd, (bs, tt))))) x)
+          ap (rectangle_of_text size) (trimmed_is ((lower_a + c) ∷ (lower_a + r) ∷ colon ∷ (lower_a + d) ∷ (lower_a + s) ∷ []) v (bc, (br, (bm, (bd, (bs, tt))))) x)
           ∙ five_in size (lower_a + c) (lower_a + r) colon (lower_a + d) (lower_a + s) refl (corner_made size c r h.c_in h.r_in) (corner_made size d s h.d_in h.s_in)
           ∙ ap (λ (e : Rectangle). Some e) (between_is _ _ _ _ c r d s c-is r-is d-is s-is)
     ]
 
 -- the value is an entry with this rectangle
 abbrev EntryAt : Size → List ℕ → Rectangle → Type 0
-EntryAt size v e = (h : IsPointOrRectangle size v) × (e ≡ between h.0 h.1 h.2 h.3)
+EntryAt size v e = (h : IsPointOrRectangle size v) × (e ≡ rectangle_between h.0 h.1 h.2 h.3)
 
 -- letters from `a` on stand there as `a` and the numbers of columns and rows: five bytes
-five_stands : (v : List ℕ) (c r m d s : ℕ) → m ≡ colon → lower_a ≤ c → lower_a ≤ r → lower_a ≤ d → lower_a ≤ s → StandsIn (c ∷ r ∷ m ∷ d ∷ s ∷ []) v
-    → StandsIn ((lower_a + (c - lower_a)) ∷ (lower_a + (r - lower_a)) ∷ colon ∷ (lower_a + (d - lower_a)) ∷ (lower_a + (s - lower_a)) ∷ []) v
+five_stands : (v : List ℕ) (c r m d s : ℕ) → m ≡ colon → lower_a ≤ c → lower_a ≤ r → lower_a ≤ d → lower_a ≤ s → StandsAloneIn (c ∷ r ∷ m ∷ d ∷ s ∷ []) v
+    → StandsAloneIn ((lower_a + (c - lower_a)) ∷ (lower_a + (r - lower_a)) ∷ colon ∷ (lower_a + (d - lower_a)) ∷ (lower_a + (s - lower_a)) ∷ []) v
 five_stands v c r m d s e hc hr hd hs x =
     let c-is : lower_a + (c - lower_a) ≡ c = omega arith in
     let r-is : lower_a + (r - lower_a) ≡ r = omega arith in
     let d-is : lower_a + (d - lower_a) ≡ d = omega arith in
     let s-is : lower_a + (s - lower_a) ≡ s = omega arith in
-    rw (c-is, r-is, d-is, s-is) (subst (λ (y : ℕ). StandsIn (c ∷ r ∷ y ∷ d ∷ s ∷ []) v) e x)
+    rw (c-is, r-is, d-is, s-is) (subst (λ (y : ℕ). StandsAloneIn (c ∷ r ∷ y ∷ d ∷ s ∷ []) v) e x)
 
 -- and two
-two_stands : (v : List ℕ) (c r : ℕ) → lower_a ≤ c → lower_a ≤ r → StandsIn (c ∷ r ∷ []) v → StandsIn ((lower_a + (c - lower_a)) ∷ (lower_a + (r - lower_a)) ∷ []) v
+two_stands : (v : List ℕ) (c r : ℕ) → lower_a ≤ c → lower_a ≤ r → StandsAloneIn (c ∷ r ∷ []) v → StandsAloneIn ((lower_a + (c - lower_a)) ∷ (lower_a + (r - lower_a)) ∷ []) v
 two_stands v c r hc hr x =
     let c-is : lower_a + (c - lower_a) ≡ c = omega arith in
     let r-is : lower_a + (r - lower_a) ≡ r = omega arith in
@@ -182,30 +182,30 @@ some_if true o y e = (refl, e)
 some_if false o y e = absurd cc
 
 -- a text read as a rectangle is an entry with this rectangle
-taken : (size : Size) (text v : List ℕ) (e : Rectangle) → StandsIn text v → entry_of size text ≡ Some e → EntryAt size v e
-unfolding entry_of
+taken : (size : Size) (text v : List ℕ) (e : Rectangle) → StandsAloneIn text v → rectangle_of_text size text ≡ Some e → EntryAt size v e
+unfolding rectangle_of_text
 taken size [] v e x h = absurd cc
 taken size (c ∷ []) v e x h = absurd cc
 taken size (c ∷ r ∷ []) v e x h =
-    let k = some_if (corner_in size c r) _ e h in
+    let k = some_if (are_letters_on_board size c r) _ e h in
     let p = corner_parts size c r k.0 in
-    let is : between (c - lower_a) (r - lower_a) (c - lower_a) (r - lower_a) ≡ e = same_Some _ _ k.1 in
+    let is : rectangle_between (c - lower_a) (r - lower_a) (c - lower_a) (r - lower_a) ≡ e = same_Some _ _ k.1 in
     ((c - lower_a, r - lower_a, c - lower_a, r - lower_a, record { c_in = p.1; r_in = p.3; d_in = p.1; s_in = p.3; stands = inl (refl, refl, two_stands v c r p.0 p.2 x) }), sym is)
 taken size (c ∷ r ∷ m ∷ []) v e x h = absurd cc
 taken size (c ∷ r ∷ m ∷ d ∷ []) v e x h = absurd cc
 taken size (c ∷ r ∷ m ∷ d ∷ s ∷ []) v e x h =
     let a = some_if (eqb m colon) _ e h in
-    let k = some_if (corner_in size c r) _ e a.1 in
-    let l = some_if (corner_in size d s) _ e k.1 in
+    let k = some_if (are_letters_on_board size c r) _ e a.1 in
+    let l = some_if (are_letters_on_board size d s) _ e k.1 in
     let p = corner_parts size c r k.0 in
     let q = corner_parts size d s l.0 in
-    let is : between (c - lower_a) (r - lower_a) (d - lower_a) (s - lower_a) ≡ e = same_Some _ _ l.1 in
+    let is : rectangle_between (c - lower_a) (r - lower_a) (d - lower_a) (s - lower_a) ≡ e = same_Some _ _ l.1 in
     let stands = five_stands v c r m d s (eqb-true m colon a.0) p.0 p.2 q.0 q.2 x in
     ((c - lower_a, r - lower_a, d - lower_a, s - lower_a, record { c_in = p.1; r_in = p.3; d_in = q.1; s_in = q.3; stands = inr stands }), sym is)
 taken size (c ∷ r ∷ m ∷ d ∷ s ∷ y ∷ ys) v e x h = absurd cc
 
 -- a value read as a rectangle is an entry with this rectangle
-pub entry_takes : (size : Size) (v : List ℕ) (e : Rectangle) → entry_of size (trimmed v) ≡ Some e → EntryAt size v e
+pub entry_takes : (size : Size) (v : List ℕ) (e : Rectangle) → rectangle_of_text size (trimmed v) ≡ Some e → EntryAt size v e
 entry_takes size v e h = taken size (trimmed v) v e (trimmed_stands v) h
 
 -- ---- what an entry covers
@@ -227,7 +227,7 @@ inside_made columns e x y q a b h k l m = rw (a, b, le-leb e.left x h, le-leb x 
 -- a value covers each point of which the test says so
 covers_takes : (size : Size) (v : List ℕ) (p : ℕ) → covers size v p ≡ true → Covers size v p
 covers_takes size v p h =
-    elim (entry_of size (trimmed v)) as (λ o. entry_of size (trimmed v) ≡ o → covers_by size o p ≡ true → Covers size v p) [
+    elim (rectangle_of_text size (trimmed v)) as (λ o. rectangle_of_text size (trimmed v) ≡ o → rectangle_covers size o p ≡ true → Covers size v p) [
       | None ↦ λ e k. absurd (let f : false ≡ true = k in cc)
       | Some e ↦ λ is k.
           let both = and_parts (ltb p (size.columns * size.rows)) (in_rectangle size.columns e p) k in
@@ -262,15 +262,15 @@ covers_again size v p h =
     let below : p < size.columns * size.rows = rw h.number (mul-add-lt h.row size.columns h.column size.rows row_in column_in) in
     let x : p % size.columns ≡ h.column = ap (λ (n : ℕ). n % size.columns) h.number ∙ mod-mul-add h.row size.columns h.column column_in in
     let y : p / size.columns ≡ h.row = ap (λ (n : ℕ). n / size.columns) h.number ∙ div-mul-add h.row size.columns h.column column_in in
-    rw (e, lt-ltb p (size.columns * size.rows) below) (inside_made size.columns (between h.corners.0 h.corners.1 h.corners.2 h.corners.3) h.column h.row p x y cf ct rf rt)
+    rw (e, lt-ltb p (size.columns * size.rows) below) (inside_made size.columns (rectangle_between h.corners.0 h.corners.1 h.corners.2 h.corners.3) h.column h.row p x y cf ct rf rt)
 
 -- some value covers each point of which the test says that some does
-pub any_takes : (size : Size) (vs : List (List ℕ)) (p : ℕ) → list_any (λ v. covers size v p) vs ≡ true → AnyCovers size vs p
+pub any_takes : (size : Size) (vs : List (List ℕ)) (p : ℕ) → list_any (λ v. covers size v p) vs ≡ true → SomeEntryCovers size vs p
 any_takes size [] p h = absurd (let f : false ≡ true = h in cc)
 any_takes size (v ∷ vs) p h = elim (or_cases (covers size v p) (list_any (λ w. covers size w p) vs) h) [ inl x ↦ inl (covers_takes size v p x) | inr x ↦ inr (any_takes size vs p x) ]
 
 -- and the test says so of each point that one of them covers
-pub any_again : (size : Size) (vs : List (List ℕ)) (p : ℕ) → AnyCovers size vs p → list_any (λ v. covers size v p) vs ≡ true
+pub any_again : (size : Size) (vs : List (List ℕ)) (p : ℕ) → SomeEntryCovers size vs p → list_any (λ v. covers size v p) vs ≡ true
 any_again size [] p h = absurd h
 any_again size (v ∷ vs) p h = elim h [ inl x ↦ rw (covers_again size v p x) refl | inr x ↦ rw (any_again size vs p x) (or_with_true (covers size v p)) ]
 
@@ -279,7 +279,7 @@ pub entries_are : (size : Size) (vs : List (List ℕ)) → list_all (is_entry si
 entries_are size [] h = tt
 entries_are size (v ∷ vs) h =
     let both = and_parts (is_entry size v) (list_all (is_entry size) vs) h in (
-      elim (entry_of size (trimmed v)) as (λ o. entry_of size (trimmed v) ≡ o → is_some o ≡ true → IsPointOrRectangle size v) [
+      elim (rectangle_of_text size (trimmed v)) as (λ o. rectangle_of_text size (trimmed v) ≡ o → is_some o ≡ true → IsPointOrRectangle size v) [
         | None ↦ λ e k. absurd (let f : false ≡ true = k in cc)
         | Some e ↦ λ is k. (entry_takes size v e is).0
       ] refl both.0,
@@ -287,7 +287,7 @@ entries_are size (v ∷ vs) h =
     )
 
 -- values are not all entries where one is read as none
-pub not_entries : (size : Size) (vs : List (List ℕ)) (i : ℕ) (d : List ℕ) → i < length vs → entry_of size (trimmed (get_or vs i d)) ≡ None → AreEntries size vs → ⊥
+pub not_entries : (size : Size) (vs : List (List ℕ)) (i : ℕ) (d : List ℕ) → i < length vs → rectangle_of_text size (trimmed (get_or vs i d)) ≡ None → AreEntries size vs → ⊥
 not_entries size [] i d lt e h = absurd (omega arith)
 not_entries size (v ∷ vs) zero d lt e h = absurd (let k = entry_again size v h.0.0 h.0.1 h.0.2 h.0.3 h.0.4 in cc)
 not_entries size (v ∷ vs) (suc i) d lt e h = not_entries size vs i d (omega arith) e h.1
@@ -300,7 +300,7 @@ and_false false = refl
 
 -- what is covered is on the board, which has `MOST_POINTS` points at most
 pub covers_below : (size : Size) (v : List ℕ) (q : ℕ) → covers size v q ≡ true → q < MOST_POINTS
-covers_below size v q h = elim (entry_of size (trimmed v)) as (λ o. covers_by size o q ≡ true → q < MOST_POINTS) [
+covers_below size v q h = elim (rectangle_of_text size (trimmed v)) as (λ o. rectangle_covers size o q ≡ true → q < MOST_POINTS) [
   | None ↦ λ k. absurd (let f : false ≡ true = k in cc)
   | Some e ↦ λ k.
       let b = ltb-true q (size.columns * size.rows) (and_parts (ltb q (size.columns * size.rows)) (in_rectangle size.columns e q) k).0 in
@@ -325,7 +325,7 @@ set_some size vs s h all =
     rw (all) (ap (λ (x : set.FinSet nat_cmp). Some x) same)
 
 -- values of which one is no entry have no set
-pub set_none : (size : Size) (vs : List (List ℕ)) (i : ℕ) (d : List ℕ) → i < length vs → entry_of size (trimmed (get_or vs i d)) ≡ None → set_of size vs ≡ None
+pub set_none : (size : Size) (vs : List (List ℕ)) (i : ℕ) (d : List ℕ) → i < length vs → rectangle_of_text size (trimmed (get_or vs i d)) ≡ None → set_of size vs ≡ None
 unfolding set_of
 set_none size vs i d lt e = elim (cases_Bool (list_all (is_entry size) vs)) [
   | inl all ↦ absurd (not_entries size vs i d lt e (entries_are size vs all))

@@ -8,7 +8,7 @@ use Rattle.tt_sgf.specs.Bytes.{close_tree, open_tree, semicolon}
 use Rattle.tt_sgf.specs.declared.nodes.Node.{Node}
 use Rattle.tt_sgf.specs.declared.trees.Event.{Event}
 use Rattle.tt_sgf.specs.declared.trees.Event.TheVariants.{Open, Close, Item}
-use Rattle.tt_sgf.specs.Grammar.{is_blank, is_word, is_upper, is_digit, is_lower, AreBlanks, AreProperties}
+use Rattle.tt_sgf.specs.Grammar.{is_blank, is_letter_or_digit, is_upper, is_digit, is_lower, AreBlanks, AreProperties}
 use Rattle.tt_sgf.specs.inside.Reading.{◌>>=◌, properties_at, event_of, event_at}
 use Rattle.tt_sgf.specs.Values.{after_blanks}
 use Rattle.tt_sgf.proofs.TokenLemmas.{bind_some, after_blanks-other, after_blanks-again, blanks_take}
@@ -96,8 +96,8 @@ unfolding event_at properties_at
 event_item n text r h e = rw (after_blanks-other semicolon (text ++ r) no_blank_59, properties_again n.properties text r h e) refl
 
 -- no value and no property stands before an event
-no_word_40 : (is_word open_tree ≡ false) × (is_word close_tree ≡ false) × (is_word semicolon ≡ false)
-unfolding is_word is_upper is_digit is_lower
+no_word_40 : (is_letter_or_digit open_tree ≡ false) × (is_letter_or_digit close_tree ≡ false) × (is_letter_or_digit semicolon ≡ false)
+unfolding is_letter_or_digit is_upper is_digit is_lower
 no_word_40 = (refl, refl, refl)
 
 -- before a bracket or a semicolon no value and no property stands

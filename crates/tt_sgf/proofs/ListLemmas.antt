@@ -6,7 +6,7 @@ use Rattle.std.proofs.lemmas.Option.{some_pair_parts}
 use Rattle.std.proofs.lemmas.List.{length-append}
 use Rattle.tt_sgf.specs.Bytes.{close_value, open_value}
 use Rattle.tt_sgf.specs.declared.nodes.Property.{Property}
-use Rattle.tt_sgf.specs.Grammar.{is_blank, is_word, is_upper, is_kept, is_digit, is_lower, AreBlanks, IsRaw, IsWord, IsIdent, AreValues, AreProperties}
+use Rattle.tt_sgf.specs.Grammar.{is_blank, is_letter_or_digit, is_upper, is_kept_in_name, is_digit, is_lower, AreBlanks, IsRawValue, AreLettersOrDigits, IsIdent, AreValues, AreProperties}
 use Rattle.tt_sgf.specs.inside.Reading.{◌>>=◌, with_first, begins, behind, has_none, word_of, after_word, repeat, opens_value, value_at, values_at, property_at, opens_property}
 use Rattle.tt_sgf.specs.Values.{after_blanks}
 use Rattle.tt_sgf.proofs.TokenLemmas.{bind_some, after_blanks-other, after_blanks-again, blanks_take, raw_again, raw_takes, word_again, word_takes}
@@ -14,8 +14,8 @@ use Rattle.tt_sgf.proofs.RepeatLemmas.{repeat_stop, repeat_bad, repeat_item, rep
 
 -- ---- classes of bytes
 
-pub blank_is_no_word : (b : ℕ) → is_blank b ≡ true → is_word b ≡ false
-unfolding is_blank is_word is_upper is_digit is_lower
+pub blank_is_no_word : (b : ℕ) → is_blank b ≡ true → is_letter_or_digit b ≡ false
+unfolding is_blank is_letter_or_digit is_upper is_digit is_lower
 blank_is_no_word b e = grind arith
 
 -- ---- values
@@ -27,7 +27,7 @@ begins_with c (b ∷ bs) e = ap (λ (x : ℕ). x ∷ bs) (eqb-true b c e)
 
 -- what a value takes
 pub value_takes : (bytes : List ℕ) (x : List ℕ × List ℕ) → opens_value bytes ≡ true → value_at bytes ≡ Some x
-    → (w : List ℕ) × AreBlanks w × IsRaw false x.0 × (bytes ≡ w ++ (open_value ∷ (x.0 ++ (close_value ∷ x.1))))
+    → (w : List ℕ) × AreBlanks w × IsRawValue false x.0 × (bytes ≡ w ++ (open_value ∷ (x.0 ++ (close_value ∷ x.1))))
 value_takes bytes x e f =
     let w = blanks_take bytes in
     let r = raw_takes false (behind (after_blanks bytes)) x.0 x.1 f in
@@ -142,10 +142,10 @@ pub property_takes : (bytes : List ℕ) (p : Property) (r : List ℕ) → proper
 unfolding property_at values_at
 property_takes bytes p r e =
     let word = word_of bytes in
-    let made : List (List ℕ) × List ℕ → Option (Property × List ℕ) = λ x. cond (has_none x.0) None (Some (record { ident = filter is_kept word; values = x.0 }, x.1)) in
+    let made : List (List ℕ) × List ℕ → Option (Property × List ℕ) = λ x. cond (has_none x.0) None (Some (record { ident = filter is_kept_in_name word; values = x.0 }, x.1)) in
     let c = cond_some_at (list_any is_upper word) (values_at (after_word bytes) >>= made) (p, r) e in
     let x = bind_some (values_at (after_word bytes)) made (p, r) c.1 in
-    let one : Property = record { ident = filter is_kept word; values = x.0.0 } in
+    let one : Property = record { ident = filter is_kept_in_name word; values = x.0.0 } in
     let g = guard_some (has_none x.0.0) (Some (one, x.0.1)) (p, r) x.2 in
     let same = some_pair_parts one p x.0.1 r g.1 in
     let v = values_take _ (after_word bytes) x.0.0 x.0.1 x.1 in
@@ -160,15 +160,15 @@ property_takes bytes p r e =
       ends = v.ends;
     })
 
-no_word_91 : is_word open_value ≡ false
-unfolding is_word is_upper is_digit is_lower
+no_word_91 : is_letter_or_digit open_value ≡ false
+unfolding is_letter_or_digit is_upper is_digit is_lower
 no_word_91 = refl
 
 -- no letter or digit stands before values
-values_no_word : (vs : List (List ℕ)) (text r : List ℕ) → vs ≢ [] → AreValues text vs → begins is_word (text ++ r) ≡ false
+values_no_word : (vs : List (List ℕ)) (text r : List ℕ) → vs ≢ [] → AreValues text vs → begins is_letter_or_digit (text ++ r) ≡ false
 values_no_word [] text r ne h = absurd (ne refl)
 values_no_word (v ∷ vs) text r ne h =
-    rw (h.5) (elim (h.0) as (λ w. AreBlanks w → begins is_word ((w ++ (open_value ∷ (v ++ (close_value ∷ h.1)))) ++ r) ≡ false) [
+    rw (h.5) (elim (h.0) as (λ w. AreBlanks w → begins is_letter_or_digit ((w ++ (open_value ∷ (v ++ (close_value ∷ h.1)))) ++ r) ≡ false) [
       | [] ↦ λ b. no_word_91
       | b ∷ bs ↦ λ k. blank_is_no_word b k.0
     ] h.2)
@@ -238,16 +238,16 @@ properties_take (suc n) bytes ps r e =
       ] refl
     ] refl
 
-word_is_no_blank : (b : ℕ) → is_word b ≡ true → is_blank b ≡ false
-unfolding is_blank is_word is_upper is_digit is_lower
+word_is_no_blank : (b : ℕ) → is_letter_or_digit b ≡ true → is_blank b ≡ false
+unfolding is_blank is_letter_or_digit is_upper is_digit is_lower
 word_is_no_blank b e = grind arith
 
-word_is_not_91 : (b : ℕ) → is_word b ≡ true → eqb b open_value ≡ false
-unfolding is_word is_upper is_digit is_lower
+word_is_not_91 : (b : ℕ) → is_letter_or_digit b ≡ true → eqb b open_value ≡ false
+unfolding is_letter_or_digit is_upper is_digit is_lower
 word_is_not_91 b e = grind arith
 
 -- before an identifier behind white space a property follows, and no value
-pub property_ahead : (w i r : List ℕ) → AreBlanks w → IsWord i → list_any is_upper i ≡ true → (after_blanks (w ++ (i ++ r)) ≡ i ++ r) × (opens_property (w ++ (i ++ r)) ≡ true)
+pub property_ahead : (w i r : List ℕ) → AreBlanks w → AreLettersOrDigits i → list_any is_upper i ≡ true → (after_blanks (w ++ (i ++ r)) ≡ i ++ r) × (opens_property (w ++ (i ++ r)) ≡ true)
     × (opens_value (w ++ (i ++ r)) ≡ false)
 property_ahead w [] r h k e = absurd cc
 property_ahead w (b ∷ bs) r h k e =

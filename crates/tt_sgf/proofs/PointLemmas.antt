@@ -7,7 +7,7 @@ use Rattle.tt_sgf.specs.declared.size.Size.{Size}
 use Rattle.tt_sgf.specs.declared.size.PointOrPass.{PointOrPass}
 use Rattle.tt_sgf.specs.declared.size.PointOrPass.TheVariants.{On, Pass}
 use Rattle.tt_sgf.specs.Grammar.{is_blank}
-use Rattle.tt_sgf.specs.Values.{StandsIn, IsPoint, IsPointOrPass, trimmed, lettered_point, point_of}
+use Rattle.tt_sgf.specs.Values.{StandsAloneIn, IsPoint, IsPointOrPass, trimmed, lettered_point, point_of}
 use Rattle.tt_sgf.proofs.NumberLemmas.{trimmed_is, trimmed_stands}
 
 -- no letter is white space
@@ -79,7 +79,7 @@ point_again size bytes Pass h =
     ]
 
 -- two letters read as a point are that point
-place_takes : (size : Size) (bytes : List ℕ) (c r : ℕ) (q : PointOrPass) → StandsIn (c ∷ r ∷ []) bytes → lettered_point size c r ≡ Some q → IsPointOrPass size bytes q
+place_takes : (size : Size) (bytes : List ℕ) (c r : ℕ) (q : PointOrPass) → StandsAloneIn (c ∷ r ∷ []) bytes → lettered_point size c r ≡ Some q → IsPointOrPass size bytes q
 place_takes size bytes c r q s h =
     let k = cond_some ((leb lower_a c && ltb (c - lower_a) size.columns) && (leb lower_a r && ltb (r - lower_a) size.rows)) (On ((r - lower_a) * size.columns + (c - lower_a))) q h in
     let both = and_parts (leb lower_a c && ltb (c - lower_a) size.columns) (leb lower_a r && ltb (r - lower_a) size.rows) k.0 in
@@ -95,12 +95,12 @@ place_takes size bytes c r q s h =
       column_in = ltb-true (c - lower_a) size.columns first.1;
       row_in = ltb-true (r - lower_a) size.rows second.1;
       number = refl;
-      stands = subst (λ (x : ℕ). StandsIn (x ∷ (lower_a + (r - lower_a)) ∷ []) bytes) c-is (subst (λ (y : ℕ). StandsIn (c ∷ y ∷ []) bytes) r-is s);
+      stands = subst (λ (x : ℕ). StandsAloneIn (x ∷ (lower_a + (r - lower_a)) ∷ []) bytes) c-is (subst (λ (y : ℕ). StandsAloneIn (c ∷ y ∷ []) bytes) r-is s);
     } in
     subst (λ (x : PointOrPass). IsPointOrPass size bytes x) k.1 made
 
 -- a text read as a point or a pass is it
-takes : (size : Size) (text bytes : List ℕ) (q : PointOrPass) → StandsIn text bytes → point_of size text ≡ Some q → IsPointOrPass size bytes q
+takes : (size : Size) (text bytes : List ℕ) (q : PointOrPass) → StandsAloneIn text bytes → point_of size text ≡ Some q → IsPointOrPass size bytes q
 takes size [] bytes q s h = subst (λ (x : PointOrPass). IsPointOrPass size bytes x) (same_Some Pass q (sym (point_of-nil size) ∙ h)) (inl s)
 takes size (c ∷ []) bytes q s h = absurd (let e : point_of size (c ∷ []) ≡ None = point_of-one size c in cc)
 takes size (c ∷ r ∷ []) bytes q s h =
@@ -110,7 +110,7 @@ takes size (c ∷ r ∷ []) bytes q s h =
             let c-is = eqb-true c lower_t e in
             let r-is = eqb-true r lower_t f in
             subst (λ (x : PointOrPass). IsPointOrPass size bytes x) (same_Some Pass q (sym (point_of-pass size c r c-is r-is) ∙ h))
-            (inr (subst (λ (x : ℕ). StandsIn (x ∷ lower_t ∷ []) bytes) c-is (subst (λ (y : ℕ). StandsIn (c ∷ y ∷ []) bytes) r-is s)))
+            (inr (subst (λ (x : ℕ). StandsAloneIn (x ∷ lower_t ∷ []) bytes) c-is (subst (λ (y : ℕ). StandsAloneIn (c ∷ y ∷ []) bytes) r-is s)))
         | inr f ↦ place_takes size bytes c r q s (sym (point_of-second size c r (eqb-true c lower_t e) (λ k. absurd (let g = eq-eqb r lower_t k in let u : true ≡ false = sym g ∙ f in cc))) ∙ h)
       ]
       | inr e ↦ place_takes size bytes c r q s (sym (point_of-first size c r (λ k. absurd (let g = eq-eqb c lower_t k in let u : true ≡ false = sym g ∙ e in cc))) ∙ h)

@@ -7,8 +7,8 @@ use Rattle.std.specs.List.{list_any}
 use Rattle.tt_sgf.specs.Bytes.{colon}
 use Rattle.tt_sgf.specs.declared.size.Size.{Size}
 use Rattle.tt_sgf.specs.Grammar.{is_blank, is_digit}
-use Rattle.tt_sgf.specs.laws.SizeLaws.{sized_is, sized_dimensions}
-use Rattle.tt_sgf.specs.Values.{AreDigits, IsNumeral, AreSides, IsBoardSize, trimmed, numeral_of, before_colon, behind_colon, both_sides, sides_of, size_of}
+use Rattle.tt_sgf.specs.laws.SizeLaws.{sized_returns_size, sized_has_dimensions}
+use Rattle.tt_sgf.specs.Values.{AreDigits, IsNumeral, AreSideLengths, IsBoardSize, trimmed, numeral_of, before_colon, behind_colon, size_of_sides, size_around_colon, size_of}
 use Rattle.tt_sgf.proofs.NumberLemmas.{NoBlank, trimmed_is, trimmed_stands, numeral_takes, numeral_again, numeral_no_blank}
 
 -- ---- the first colon
@@ -98,7 +98,7 @@ NoBlank-append [] r h k = (no_blank_58, k)
 NoBlank-append (b ∷ bs) r h k = (h.0, NoBlank-append bs r h.1 k)
 
 -- the sides of a board have no white space
-sides_no_blank : (text : List ℕ) (size : Size) → AreSides text size → NoBlank text
+sides_no_blank : (text : List ℕ) (size : Size) → AreSideLengths text size → NoBlank text
 sides_no_blank text size h = elim h [
   | inl x ↦ numeral_no_blank text size.columns x.0
   | inr x ↦ subst NoBlank (sym x.4) (NoBlank-append x.0 x.1 (numeral_no_blank x.0 size.columns x.2) (numeral_no_blank x.1 size.rows x.3))
@@ -107,37 +107,37 @@ sides_no_blank text size h = elim h [
 -- ---- the size
 
 -- the columns and rows of a size make it
-made_of : (c r : Option ℕ) (size : Size) → c ≡ Some size.columns → r ≡ Some size.rows → both_sides c r ≡ Some size
-made_of c r size h k = rw (h, k) (sized_is size)
+made_of : (c r : Option ℕ) (size : Size) → c ≡ Some size.columns → r ≡ Some size.rows → size_of_sides c r ≡ Some size
+made_of c r size h k = rw (h, k) (sized_returns_size size)
 
 -- the text of a size's sides is read as that size
-sides_again : (text : List ℕ) (size : Size) → AreSides text size → sides_of text (behind_colon text) ≡ Some size
+sides_again : (text : List ℕ) (size : Size) → AreSideLengths text size → size_around_colon text (behind_colon text) ≡ Some size
 sides_again text size h = elim h [
   | inl x ↦
       let one = numeral_again text size.columns x.0 in
-      ap (sides_of text) (colon_none text (numeral_no_colon text size.columns x.0)) ∙ made_of _ _ size one (one ∙ ap (λ (n : ℕ). Some n) (sym x.1))
+      ap (size_around_colon text) (colon_none text (numeral_no_colon text size.columns x.0)) ∙ made_of _ _ size one (one ∙ ap (λ (n : ℕ). Some n) (sym x.1))
   | inr x ↦
       let no = numeral_no_colon x.0 size.columns x.2 in
       let behind = ap behind_colon x.4 ∙ colon_behind x.0 x.1 no in
       let before = ap before_colon x.4 ∙ colon_before x.0 x.1 no in
-      ap (sides_of text) behind ∙ made_of _ _ size (ap numeral_of before ∙ numeral_again x.0 size.columns x.2) (numeral_again x.1 size.rows x.3)
+      ap (size_around_colon text) behind ∙ made_of _ _ size (ap numeral_of before ∙ numeral_again x.0 size.columns x.2) (numeral_again x.1 size.rows x.3)
 ]
 
 -- a value that is a size is read as that size
 pub size_again : (bytes : List ℕ) (size : Size) → IsBoardSize bytes size → size_of bytes ≡ Some size
 unfolding size_of
 size_again bytes size h =
-    ap (λ (t : List ℕ). sides_of t (behind_colon t)) (trimmed_is h.0 bytes (sides_no_blank h.0 size h.1) h.2) ∙ sides_again h.0 size h.1
+    ap (λ (t : List ℕ). size_around_colon t (behind_colon t)) (trimmed_is h.0 bytes (sides_no_blank h.0 size h.1) h.2) ∙ sides_again h.0 size h.1
 
 -- two numbers that make a size are its columns and rows
-two_sides : (c r : Option ℕ) (size : Size) → both_sides c r ≡ Some size → (c ≡ Some size.columns) × (r ≡ Some size.rows)
+two_sides : (c r : Option ℕ) (size : Size) → size_of_sides c r ≡ Some size → (c ≡ Some size.columns) × (r ≡ Some size.rows)
 two_sides None r size h = absurd cc
 two_sides (Some c) None size h = absurd cc
-two_sides (Some c) (Some r) size h = let s = sized_dimensions c r size h in (ap (λ (n : ℕ). Some n) (sym s.0), ap (λ (n : ℕ). Some n) (sym s.1))
+two_sides (Some c) (Some r) size h = let s = sized_has_dimensions c r size h in (ap (λ (n : ℕ). Some n) (sym s.0), ap (λ (n : ℕ). Some n) (sym s.1))
 
 -- a text read as a size is that of its sides
-sides_take : (text : List ℕ) (size : Size) → sides_of text (behind_colon text) ≡ Some size → AreSides text size
-sides_take text size h = elim (behind_colon text) as (λ o. behind_colon text ≡ o → sides_of text o ≡ Some size → AreSides text size) [
+sides_take : (text : List ℕ) (size : Size) → size_around_colon text (behind_colon text) ≡ Some size → AreSideLengths text size
+sides_take text size h = elim (behind_colon text) as (λ o. behind_colon text ≡ o → size_around_colon text o ≡ Some size → AreSideLengths text size) [
   | None ↦ λ e k.
       let s = two_sides (numeral_of text) (numeral_of text) size k in
       let same : size.rows ≡ size.columns = (let f = sym s.1 ∙ s.0 in cc) in

@@ -5,7 +5,7 @@ use Rattle.std.proofs.lemmas.Bool.{eqb-true}
 use Rattle.std.proofs.lemmas.Option.{some_pair_parts}
 use Rattle.std.proofs.lemmas.List.{append-nil, drop_more, take_more, drop_all, take_all}
 use Rattle.tt_sgf.specs.Bytes.{backslash, close_value}
-use Rattle.tt_sgf.specs.Grammar.{is_blank, is_word, is_kept, AreBlanks, IsRaw, IsWord}
+use Rattle.tt_sgf.specs.Grammar.{is_blank, is_letter_or_digit, is_kept_in_name, AreBlanks, IsRawValue, AreLettersOrDigits}
 use Rattle.tt_sgf.specs.inside.Reading.{◌>>=◌, with_first, raw_at, word_of, after_word, begins}
 use Rattle.tt_sgf.specs.Values.{after_blanks}
 
@@ -101,18 +101,18 @@ pub raw_stops : (bytes : List ℕ) (i : ℕ) (e : Bool) → length bytes ≤ i �
 raw_stops bytes i e le = rw (drop_all i bytes le, raw_at-nil e) refl
 
 -- what is in the grammar is read
-pub raw_again : (escaped : Bool) (v r : List ℕ) → IsRaw escaped v → raw_at escaped (v ++ (close_value ∷ r)) ≡ Some (v, r)
+pub raw_again : (escaped : Bool) (v r : List ℕ) → IsRawValue escaped v → raw_at escaped (v ++ (close_value ∷ r)) ≡ Some (v, r)
 raw_again escaped [] r h = rw h (raw_at-end close_value r refl)
 raw_again true (b ∷ bs) r h = rw (raw_at-escaped b (bs ++ (close_value ∷ r)), raw_again false bs r h) refl
 raw_again false (b ∷ bs) r h = rw (raw_at-plain b (bs ++ (close_value ∷ r)) h.0, raw_again (eqb b backslash) bs r h.1) refl
 
 -- what is read is in the grammar
 pub record IsRawAt (escaped : Bool) (bytes v r : List ℕ) : Type 0 where
-  pub raw : IsRaw escaped v
+  pub raw : IsRawValue escaped v
   pub parts : bytes ≡ v ++ (close_value ∷ r)
 
 -- a byte more before a value
-IsRawAt-first : (escaped e : Bool) (b : ℕ) (bs v r : List ℕ) → (x : List ℕ × List ℕ) → IsRawAt e bs x.0 x.1 → with_first b x ≡ Some (v, r) → (IsRaw e x.0 → IsRaw escaped (b ∷ x.0))
+IsRawAt-first : (escaped e : Bool) (b : ℕ) (bs v r : List ℕ) → (x : List ℕ × List ℕ) → IsRawAt e bs x.0 x.1 → with_first b x ≡ Some (v, r) → (IsRawValue e x.0 → IsRawValue escaped (b ∷ x.0))
     → IsRawAt escaped (b ∷ bs) v r
 IsRawAt-first escaped e b bs v r x h eq up =
     let same = some_pair_parts (b ∷ x.0) v x.1 r eq in
@@ -136,38 +136,38 @@ raw_takes false (b ∷ bs) v r e =
 -- ---- words
 
 -- a first byte belongs to the word or ends it
-pub word_of-word : (b : ℕ) (bs : List ℕ) → is_word b ≡ true → word_of (b ∷ bs) ≡ b ∷ word_of bs
+pub word_of-word : (b : ℕ) (bs : List ℕ) → is_letter_or_digit b ≡ true → word_of (b ∷ bs) ≡ b ∷ word_of bs
 unfolding word_of
 word_of-word b bs e = rw e refl
 
 -- before another byte, or none, the word is empty
-pub word_of-other : (bytes : List ℕ) → begins is_word bytes ≡ false → word_of bytes ≡ []
+pub word_of-other : (bytes : List ℕ) → begins is_letter_or_digit bytes ≡ false → word_of bytes ≡ []
 unfolding word_of
 word_of-other [] e = refl
 word_of-other (b ∷ bs) e = rw e refl
 
-pub after_word-word : (b : ℕ) (bs : List ℕ) → is_word b ≡ true → after_word (b ∷ bs) ≡ after_word bs
+pub after_word-word : (b : ℕ) (bs : List ℕ) → is_letter_or_digit b ≡ true → after_word (b ∷ bs) ≡ after_word bs
 unfolding after_word
 after_word-word b bs e = rw e refl
 
 -- and all is left behind it
-pub after_word-other : (bytes : List ℕ) → begins is_word bytes ≡ false → after_word bytes ≡ bytes
+pub after_word-other : (bytes : List ℕ) → begins is_letter_or_digit bytes ≡ false → after_word bytes ≡ bytes
 unfolding after_word
 after_word-other [] e = refl
 after_word-other (b ∷ bs) e = rw e refl
 
 -- the word read is all of a text of letters and digits, where none follows it
-pub word_again : (w r : List ℕ) → IsWord w → begins is_word r ≡ false → (word_of (w ++ r) ≡ w) × (after_word (w ++ r) ≡ r)
+pub word_again : (w r : List ℕ) → AreLettersOrDigits w → begins is_letter_or_digit r ≡ false → (word_of (w ++ r) ≡ w) × (after_word (w ++ r) ≡ r)
 word_again [] r h e = (word_of-other r e, after_word-other r e)
 word_again (b ∷ bs) r h e =
     let s = word_again bs r h.1 e in
     (word_of-word b (bs ++ r) h.0 ∙ ap (λ (x : List ℕ). b ∷ x) s.0, after_word-word b (bs ++ r) h.0 ∙ s.1)
 
 -- what is read is letters and digits, none follows, and together they are the bytes
-pub word_takes : (bytes : List ℕ) → IsWord (word_of bytes) × (bytes ≡ word_of bytes ++ after_word bytes) × (begins is_word (after_word bytes) ≡ false)
+pub word_takes : (bytes : List ℕ) → AreLettersOrDigits (word_of bytes) × (bytes ≡ word_of bytes ++ after_word bytes) × (begins is_letter_or_digit (after_word bytes) ≡ false)
 word_takes [] = rw (word_of-other [] refl, after_word-other [] refl) (tt, refl, refl)
 word_takes (b ∷ bs) =
-    elim (is_word b) as (λ t. is_word b ≡ t → IsWord (word_of (b ∷ bs)) × (b ∷ bs ≡ word_of (b ∷ bs) ++ after_word (b ∷ bs)) × (begins is_word (after_word (b ∷ bs)) ≡ false)) [
+    elim (is_letter_or_digit b) as (λ t. is_letter_or_digit b ≡ t → AreLettersOrDigits (word_of (b ∷ bs)) × (b ∷ bs ≡ word_of (b ∷ bs) ++ after_word (b ∷ bs)) × (begins is_letter_or_digit (after_word (b ∷ bs)) ≡ false)) [
       | true ↦ λ e. let r = word_takes bs in rw (word_of-word b bs e, after_word-word b bs e) ((e, r.0), ap (λ (x : List ℕ). b ∷ x) r.1, r.2)
       | false ↦ λ e. rw (word_of-other (b ∷ bs) e, after_word-other (b ∷ bs) e) (tt, refl, e)
     ] refl
@@ -177,7 +177,7 @@ abbrev pub word_so_far : List ℕ → ℕ → Type 0
 word_so_far bytes i = (take i bytes ++ word_of (drop i bytes) ≡ word_of bytes) × (after_word (drop i bytes) ≡ after_word bytes)
 
 -- one byte more of the word leaves the total as it was
-pub word_more : (bytes : List ℕ) (i : ℕ) → i < length bytes → is_word (get_or bytes i 0) ≡ true → word_so_far bytes i → word_so_far bytes (i + 1)
+pub word_more : (bytes : List ℕ) (i : ℕ) → i < length bytes → is_letter_or_digit (get_or bytes i 0) ≡ true → word_so_far bytes i → word_so_far bytes (i + 1)
 word_more bytes i lt e h =
     let d = drop_more bytes i 0 lt in (
       rw (take_more bytes i 0 lt, append_assoc) (ap (λ (x : List ℕ). take i bytes ++ x) (sym (word_of-word _ _ e) ∙ ap word_of (sym d)) ∙ h.0),
@@ -185,15 +185,15 @@ word_more bytes i lt e h =
     )
 
 -- where no letter or digit follows, what was read is the word
-pub word_ends : (bytes : List ℕ) (i : ℕ) → begins is_word (drop i bytes) ≡ false → word_so_far bytes i → (take i bytes ≡ word_of bytes) × (drop i bytes ≡ after_word bytes)
+pub word_ends : (bytes : List ℕ) (i : ℕ) → begins is_letter_or_digit (drop i bytes) ≡ false → word_so_far bytes i → (take i bytes ≡ word_of bytes) × (drop i bytes ≡ after_word bytes)
 word_ends bytes i e h =
     (sym (append-nil (take i bytes)) ∙ ap (λ (x : List ℕ). take i bytes ++ x) (sym (word_of-other _ e)) ∙ h.0, sym (after_word-other _ e) ∙ h.1)
 
 -- no letter or digit follows before another byte, nor at the end
-pub no_word_at : (bytes : List ℕ) (i : ℕ) → i < length bytes → is_word (get_or bytes i 0) ≡ false → begins is_word (drop i bytes) ≡ false
+pub no_word_at : (bytes : List ℕ) (i : ℕ) → i < length bytes → is_letter_or_digit (get_or bytes i 0) ≡ false → begins is_letter_or_digit (drop i bytes) ≡ false
 no_word_at bytes i lt e = rw (drop_more bytes i 0 lt) e
 
-pub no_word_past : (bytes : List ℕ) (i : ℕ) → length bytes ≤ i → begins is_word (drop i bytes) ≡ false
+pub no_word_past : (bytes : List ℕ) (i : ℕ) → length bytes ≤ i → begins is_letter_or_digit (drop i bytes) ≡ false
 no_word_past bytes i le = rw (drop_all i bytes le) refl
 
 -- at the end of the bytes all of them are the word
@@ -203,9 +203,9 @@ word_all bytes i le h =
     (take_all (length bytes) bytes (omega arith) ∙ sym (take_all i bytes le) ∙ s.0, drop_all (length bytes) bytes (omega arith) ∙ sym (drop_all i bytes le) ∙ s.1)
 
 -- where no letter is left out, the name is the word
-pub kept_whole : (word : List ℕ) → list_any (λ b. not (is_kept b)) word ≡ false → filter is_kept word ≡ word
+pub kept_whole : (word : List ℕ) → list_any (λ b. not (is_kept_in_name b)) word ≡ false → filter is_kept_in_name word ≡ word
 kept_whole [] e = refl
-kept_whole (b ∷ bs) e = elim (is_kept b) as (λ t. is_kept b ≡ t → filter is_kept (b ∷ bs) ≡ b ∷ bs) [
+kept_whole (b ∷ bs) e = elim (is_kept_in_name b) as (λ t. is_kept_in_name b ≡ t → filter is_kept_in_name (b ∷ bs) ≡ b ∷ bs) [
   | true ↦ λ k. rw k (ap (λ l. b ∷ l) (kept_whole bs (rw k at e)))
   | false ↦ λ k. absurd (let h = rw k at e in cc)
 ] refl

@@ -25,12 +25,12 @@ unfoldable pub is_lower : ℕ → Bool
 is_lower b = nat_le lower_a b && nat_le b lower_z
 
 -- what the name of an identifier keeps
-unfoldable pub is_kept : ℕ → Bool
-is_kept b = is_upper b || is_digit b
+unfoldable pub is_kept_in_name : ℕ → Bool
+is_kept_in_name b = is_upper b || is_digit b
 
 -- a letter or a digit
-unfoldable pub is_word : ℕ → Bool
-is_word b = (is_upper b || is_digit b) || is_lower b
+unfoldable pub is_letter_or_digit : ℕ → Bool
+is_letter_or_digit b = (is_upper b || is_digit b) || is_lower b
 
 -- ---- tokens
 
@@ -41,26 +41,26 @@ AreBlanks (b ∷ bs) = (is_blank b ≡ true) × AreBlanks bs
 
 -- what stands between brackets: the byte behind a backslash is escaped, and a `]` has to be; at `true` the first byte
 -- is escaped
-abbrev pub IsRaw : Bool → List ℕ → Type 0
-IsRaw escaped [] = escaped ≡ false
-IsRaw true (b ∷ bs) = IsRaw false bs
-IsRaw false (b ∷ bs) = ((b == close_value) ≡ false) × IsRaw (b == backslash) bs
+abbrev pub IsRawValue : Bool → List ℕ → Type 0
+IsRawValue escaped [] = escaped ≡ false
+IsRawValue true (b ∷ bs) = IsRawValue false bs
+IsRawValue false (b ∷ bs) = ((b == close_value) ≡ false) × IsRawValue (b == backslash) bs
 
 -- letters and digits
-abbrev pub IsWord : List ℕ → Type 0
-IsWord [] = Unit {0}
-IsWord (b ∷ bs) = (is_word b ≡ true) × IsWord bs
+abbrev pub AreLettersOrDigits : List ℕ → Type 0
+AreLettersOrDigits [] = Unit {0}
+AreLettersOrDigits (b ∷ bs) = (is_letter_or_digit b ≡ true) × AreLettersOrDigits bs
 
 -- an identifier, and its name: the upper-case letters and digits in it
 abbrev pub IsIdent : List ℕ → List ℕ → Type 0
-IsIdent text name = IsWord text × (list_any is_upper text ≡ true) × (name ≡ filter is_kept text)
+IsIdent text name = AreLettersOrDigits text × (list_any is_upper text ≡ true) × (name ≡ filter is_kept_in_name text)
 
 -- ---- lists of values, properties and nodes; white space may stand before each token
 
 -- values in brackets
 abbrev pub AreValues : List ℕ → List (List ℕ) → Type 0
 AreValues text [] = text ≡ []
-AreValues text (v ∷ vs) = (blank : List ℕ) × (more : List ℕ) × AreBlanks blank × IsRaw false v × AreValues more vs
+AreValues text (v ∷ vs) = (blank : List ℕ) × (more : List ℕ) × AreBlanks blank × IsRawValue false v × AreValues more vs
     × (text ≡ blank ++ (open_value ∷ (v ++ (close_value ∷ more))))
 
 -- properties: an identifier and one or more values each
@@ -118,12 +118,12 @@ pub record FirstTreeEndsAt (bytes : List ℕ) (count : ℕ) (t : GameTree) : Typ
   pub count_is : count ≡ length skipped + length text
 
 -- a `(` stands in the bytes, so that a tree may begin there
-abbrev pub HasOpen : List ℕ → Type 0
-HasOpen bytes = Contains bytes open_tree
+abbrev pub HasOpeningParenthesis : List ℕ → Type 0
+HasOpeningParenthesis bytes = Contains bytes open_tree
 
 -- from the first `(` on, bytes spell one tree at most, and it has one end
-abbrev pub IsUnambiguous : Type 0
-IsUnambiguous = (bytes : List ℕ) (n m : ℕ) (s t : GameTree) → FirstTreeEndsAt bytes n s → FirstTreeEndsAt bytes m t → (n ≡ m) × (s ≡ t)
+abbrev pub GrammarIsUnambiguous : Type 0
+GrammarIsUnambiguous = (bytes : List ℕ) (n m : ℕ) (s t : GameTree) → FirstTreeEndsAt bytes n s → FirstTreeEndsAt bytes m t → (n ≡ m) × (s ≡ t)
 
 -- no tree begins at the first `(`, or there is none
 abbrev pub HasNoTree : List ℕ → Type 0

@@ -4,7 +4,7 @@ pub mod Grammar
 pub mod Values
 pub mod Sizes
 pub mod Points
-pub mod Entries
+pub mod PointLists
 pub mod MachineWords
 pub mod Faults
 -- What crates above cite: laws of the definitions, with their proofs. Nobody has to believe these.

@@ -17,12 +17,12 @@ abbrev pub AreSameBits : List ℕ → List ℕ → Type 0
 AreSameBits a b = (n : ℕ) → n < BITS → bit_in a n ≡ bit_in b n
 
 -- each bit that is 1 in the first words is 1 in one of the others too
-abbrev pub AreCovered : List ℕ → List ℕ → List ℕ → Type 0
-AreCovered wanted one other = (q : ℕ) → q < BITS → bit_in wanted q ≡ true → (bit_in one q || bit_in other q) ≡ true
+abbrev pub IsWithinUnion : List ℕ → List ℕ → List ℕ → Type 0
+IsWithinUnion wanted one other = (q : ℕ) → q < BITS → bit_in wanted q ≡ true → (bit_in one q || bit_in other q) ≡ true
 
 -- the bits of no point, those of the numbers from `MOST_POINTS` on, are 0
-abbrev pub AreOfPoints : List ℕ → Type 0
-AreOfPoints words = (p : ℕ) → MOST_POINTS ≤ p → p < BITS → bit_in words p ≡ false
+abbrev pub AreBitsOfPoints : List ℕ → Type 0
+AreBitsOfPoints words = (p : ℕ) → MOST_POINTS ≤ p → p < BITS → bit_in words p ≡ false
 
 -- the numbers of points whose bits are 1
 unfoldable pub points_of : List ℕ → set.FinSet nat_cmp
@@ -34,8 +34,8 @@ pub record AreBitsOf (words : List ℕ) (count : ℕ) (test : ℕ → Bool) : Ty
   pub behind : (p : ℕ) → count ≤ p → p < BITS → bit_in words p ≡ false
 
 -- the lowest bits of a word, with 0 for all others; a private contract alone cites it
-abbrev pub IsLow : ℕ → ℕ → ℕ → Type 0
-IsLow low word count = (i : ℕ) → i < 64 → (i < count → bit_at low i ≡ bit_at word i) × (count ≤ i → bit_at low i ≡ 0)
+abbrev pub AreLowBitsOf : ℕ → ℕ → ℕ → Type 0
+AreLowBitsOf low word count = (i : ℕ) → i < 64 → (i < count → bit_at low i ≡ bit_at word i) × (count ≤ i → bit_at low i ≡ 0)
 
 -- a word moved up by k bits, or down, with the bits of its neighbour in the room that this makes; private contracts alone cite these
 abbrev pub IsShiftedLeft : ℕ → ℕ → ℕ → ℕ → Type 0

@@ -11,7 +11,7 @@ use Rattle.tt_sgf.specs.Sizes.{sized}
 -- ---- what values mean
 
 -- the text stands in the bytes, with nothing but white space at both ends
-pub record StandsIn (text bytes : List ℕ) : Type 0 where
+pub record StandsAloneIn (text bytes : List ℕ) : Type 0 where
   pub before : List ℕ
   pub behind : List ℕ
   pub blank_before : AreBlanks before
@@ -24,31 +24,31 @@ AreDigits [] = Unit {0}
 AreDigits (b ∷ bs) = (is_digit b ≡ true) × AreDigits bs
 
 -- what digits are worth behind a number
-abbrev pub number_of_digits : ℕ → List ℕ → ℕ
-number_of_digits n [] = n
-number_of_digits n (b ∷ bs) = number_of_digits (n * 10 + (b - digit_0)) bs
+abbrev pub value_of_digits : ℕ → List ℕ → ℕ
+value_of_digits n [] = n
+value_of_digits n (b ∷ bs) = value_of_digits (n * 10 + (b - digit_0)) bs
 
 -- the text is an optional `+` and digits, which are worth n
 pub record IsNumeral (text : List ℕ) (n : ℕ) : Type 0 where
   pub digits : List ℕ
   pub some : digits ≢ []
   pub are : AreDigits digits
-  pub value : n ≡ number_of_digits 0 digits
+  pub value : n ≡ value_of_digits 0 digits
   pub fits : n ≤ 65535
   pub stands : (text ≡ digits) ⊎ (text ≡ plus ∷ digits)
 
 -- a number
-abbrev pub IsNumber : List ℕ → ℕ → Type 0
-IsNumber bytes n = (text : List ℕ) × IsNumeral text n × StandsIn text bytes
+abbrev pub IsUnsignedNumber : List ℕ → ℕ → Type 0
+IsUnsignedNumber bytes n = (text : List ℕ) × IsNumeral text n × StandsAloneIn text bytes
 
 -- one number for both sides, or columns and rows with a colon and no white space between them
-abbrev pub AreSides : List ℕ → Size → Type 0
-AreSides text size = (IsNumeral text size.columns × (size.rows ≡ size.columns))
+abbrev pub AreSideLengths : List ℕ → Size → Type 0
+AreSideLengths text size = (IsNumeral text size.columns × (size.rows ≡ size.columns))
     ⊎ ((columns : List ℕ) × (rows : List ℕ) × IsNumeral columns size.columns × IsNumeral rows size.rows × (text ≡ columns ++ (colon ∷ rows)))
 
 -- the size of a board
 abbrev pub IsBoardSize : List ℕ → Size → Type 0
-IsBoardSize bytes size = (text : List ℕ) × AreSides text size × StandsIn text bytes
+IsBoardSize bytes size = (text : List ℕ) × AreSideLengths text size × StandsAloneIn text bytes
 
 -- two letters, column then row, `a` being the first, both on the board
 pub record IsPoint (size : Size) (bytes : List ℕ) (p : ℕ) : Type 0 where
@@ -57,11 +57,11 @@ pub record IsPoint (size : Size) (bytes : List ℕ) (p : ℕ) : Type 0 where
   pub column_in : column < size.columns
   pub row_in : row < size.rows
   pub number : p ≡ row * size.columns + column
-  pub stands : StandsIn ((lower_a + column) ∷ (lower_a + row) ∷ []) bytes
+  pub stands : StandsAloneIn ((lower_a + column) ∷ (lower_a + row) ∷ []) bytes
 
 -- nothing, or `tt`
 abbrev pub IsPass : List ℕ → Type 0
-IsPass bytes = StandsIn [] bytes ⊎ StandsIn (lower_t ∷ lower_t ∷ []) bytes
+IsPass bytes = StandsAloneIn [] bytes ⊎ StandsAloneIn (lower_t ∷ lower_t ∷ []) bytes
 
 -- the value of a move
 abbrev pub IsPointOrPass : Size → List ℕ → PointOrPass → Type 0
@@ -77,28 +77,28 @@ after_blanks [] = []
 after_blanks (b ∷ bs) = cond (is_blank b) (after_blanks bs) (b ∷ bs)
 
 -- a byte before a text; white space before nothing is left out
-abbrev pub first_or_none : ℕ → List ℕ → List ℕ
-first_or_none b [] = cond (is_blank b) [] (b ∷ [])
-first_or_none b (c ∷ cs) = b ∷ (c ∷ cs)
+abbrev pub prepend_unless_last_blank : ℕ → List ℕ → List ℕ
+prepend_unless_last_blank b [] = cond (is_blank b) [] (b ∷ [])
+prepend_unless_last_blank b (c ∷ cs) = b ∷ (c ∷ cs)
 
 -- without the white space at the end
 unfoldable pub without_end : List ℕ → List ℕ
 without_end [] = []
-without_end (b ∷ bs) = first_or_none b (without_end bs)
+without_end (b ∷ bs) = prepend_unless_last_blank b (without_end bs)
 
 -- without the white space at both ends
 abbrev pub trimmed : List ℕ → List ℕ
 trimmed bytes = without_end (after_blanks bytes)
 
 -- what digits are worth behind a number, where it is at most 65,535
-unfoldable pub digits_of : ℕ → List ℕ → Option ℕ
-digits_of n [] = Some n
-digits_of n (b ∷ bs) = cond (is_digit b) (cond (nat_le (n * 10 + (b - digit_0)) 65535) (digits_of (n * 10 + (b - digit_0)) bs) None) None
+unfoldable pub bounded_value_of_digits : ℕ → List ℕ → Option ℕ
+bounded_value_of_digits n [] = Some n
+bounded_value_of_digits n (b ∷ bs) = cond (is_digit b) (cond (nat_le (n * 10 + (b - digit_0)) 65535) (bounded_value_of_digits (n * 10 + (b - digit_0)) bs) None) None
 
 -- what one or more digits are worth
-abbrev pub some_digits : List ℕ → Option ℕ
-some_digits [] = None
-some_digits (b ∷ bs) = digits_of 0 (b ∷ bs)
+abbrev pub value_of_some_digits : List ℕ → Option ℕ
+value_of_some_digits [] = None
+value_of_some_digits (b ∷ bs) = bounded_value_of_digits 0 (b ∷ bs)
 
 -- without a `+` at the front
 abbrev pub behind_plus : List ℕ → List ℕ
@@ -107,7 +107,7 @@ behind_plus (b ∷ bs) = cond (b == plus) bs (b ∷ bs)
 
 -- the number that a text is
 abbrev pub numeral_of : List ℕ → Option ℕ
-numeral_of text = some_digits (behind_plus text)
+numeral_of text = value_of_some_digits (behind_plus text)
 
 -- the number that a value is
 unfoldable pub number_of : List ℕ → Option ℕ
@@ -124,19 +124,19 @@ behind_colon [] = None
 behind_colon (b ∷ bs) = cond (b == colon) (Some bs) (behind_colon bs)
 
 -- the size of two numbers, where both are there
-abbrev pub both_sides : Option ℕ → Option ℕ → Option Size
-both_sides None r = None
-both_sides (Some c) None = None
-both_sides (Some c) (Some r) = sized c r
+abbrev pub size_of_sides : Option ℕ → Option ℕ → Option Size
+size_of_sides None r = None
+size_of_sides (Some c) None = None
+size_of_sides (Some c) (Some r) = sized c r
 
 -- the sides that a text names, given what stands behind its first colon
-abbrev pub sides_of : List ℕ → Option (List ℕ) → Option Size
-sides_of text None = both_sides (numeral_of text) (numeral_of text)
-sides_of text (Some rows) = both_sides (numeral_of (before_colon text)) (numeral_of rows)
+abbrev pub size_around_colon : List ℕ → Option (List ℕ) → Option Size
+size_around_colon text None = size_of_sides (numeral_of text) (numeral_of text)
+size_around_colon text (Some rows) = size_of_sides (numeral_of (before_colon text)) (numeral_of rows)
 
 -- the size that a value is
 unfoldable pub size_of : List ℕ → Option Size
-size_of bytes = sides_of (trimmed bytes) (behind_colon (trimmed bytes))
+size_of bytes = size_around_colon (trimmed bytes) (behind_colon (trimmed bytes))
 
 -- the point of two letters, where the board has it
 abbrev pub lettered_point : Size → ℕ → ℕ → Option PointOrPass

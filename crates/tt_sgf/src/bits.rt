@@ -2,7 +2,7 @@
 
 ghost use Rattle.std.specs.Prelude.{◌≡◌, ℕ, ◌+◌, ◌<◌, ◌≤◌, ◌↔◌, IsTrue, true, false, not, ◌&&◌, ◌||◌};
 ghost use Rattle.std.specs.FinSet as set;
-ghost use Rattle.tt_sgf.specs.MachineWords.{bit_in, points_of, IsLow, IsShiftedLeft, IsShiftedRight, AreSameBits, AreCovered};
+ghost use Rattle.tt_sgf.specs.MachineWords.{bit_in, points_of, AreLowBitsOf, IsShiftedLeft, IsShiftedRight, AreSameBits, IsWithinUnion};
 
 use crate::size::MOST_POINTS;
 
@@ -17,7 +17,7 @@ pub struct Bits {
 
 /// The bits of the numbers below `count`, with 0 for all others.
 fn low_bits(word: u64, count: usize) -> u64
-    ensures { IsLow result word count }
+    ensures { AreLowBitsOf result word count }
 {
     if count >= 64 {
         return word;
@@ -189,7 +189,7 @@ impl Bits {
 
     /// The bits moved up: that of each number is the old one of the number `k` before it, and 0 where there is none.
     #[inline]
-    pub fn up(&self, k: usize) -> Bits
+    pub fn shift_to_higher(&self, k: usize) -> Bits
         requires some { 0 < k }
         requires few { k < 64 }
         ensures moved { (q : ℕ) → q + k < BITS → bit_in result.words (q + k) ≡ bit_in self.now.words q }
@@ -205,7 +205,7 @@ impl Bits {
 
     /// The bits moved down: that of each number is the old one of the number `k` behind it, and 0 where there is none.
     #[inline]
-    pub fn down(&self, k: usize) -> Bits
+    pub fn shift_to_lower(&self, k: usize) -> Bits
         requires some { 0 < k }
         requires few { k < 64 }
         ensures moved { (q : ℕ) → q + k < BITS → bit_in result.words q ≡ bit_in self.now.words (q + k) }
@@ -221,8 +221,8 @@ impl Bits {
 
     /// Whether each bit that is 1 here is 1 in one of the others too. It passes over words without a bit, since few words
     /// of a set of targets have some.
-    pub fn are_covered(&self, one: &Bits, other: &Bits) -> bool
-        ensures { IsTrue result ↔ AreCovered self.now.words one.now.words other.now.words }
+    pub fn is_within_union(&self, one: &Bits, other: &Bits) -> bool
+        ensures { IsTrue result ↔ IsWithinUnion self.now.words one.now.words other.now.words }
     {
         for k in 0..6 {
             if self.words[k] == 0 {

@@ -1,7 +1,7 @@
 //! Laws of the grammar. Each is a function that does nothing, whose contract is the law.
 
 ghost use Rattle.std.specs.Prelude.{◌≡◌, ℕ, List, ◌++◌};
-ghost use Rattle.tt_sgf.specs.Grammar.{GameTree, Spells, IsUnambiguous};
+ghost use Rattle.tt_sgf.specs.Grammar.{GameTree, Spells, GrammarIsUnambiguous};
 
 /// A text spells one tree, and no tree's text is a proper beginning of another's.
 pub fn one_tree()
@@ -11,5 +11,5 @@ pub fn one_tree()
 /// The bytes spell one tree at most from their first `(` on, and it has one end: what `read_tree` answers is a
 /// function of the bytes.
 pub fn one_reading()
-    ensures { IsUnambiguous }
+    ensures { GrammarIsUnambiguous }
 {}

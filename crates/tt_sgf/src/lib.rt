@@ -7,7 +7,7 @@
 //! | `nodes`, `items` | `MainLine`, `Node`, `Property`, and the list that they are made of |
 //! | `small_bytes`, `values` | `SmallBytes` and `Values`: names and values, of which a few take no memory |
 //! | `value_kinds` | `number`, `point` and `board_size`: what one value says |
-//! | `entries` | `point_set`: what the values of a point list say together |
+//! | `point_lists` | `point_set`: what the values of a point list say together |
 //! | `size`, `sets`, `bits` | `Size`, `Point`, `PointOrPass`, `PointSet`, and the `Bits` that it is made of |
 //! | `faults` | `SgfFault`, `BadPoint`, `NoMemory` |
 //! | `laws` | one tree a text, and one reading of the bytes |
@@ -16,10 +16,10 @@
 #![tactic(auto)]
 
 mod bits;
-mod entries;
 mod faults;
 pub mod laws;
 mod nodes;
+mod point_lists;
 mod properties;
 mod sets;
 mod size;
@@ -28,12 +28,12 @@ mod trees;
 mod value_kinds;
 
 pub use bits::{BITS, Bits};
-pub use entries::point_set;
 pub use faults::{BadPoint, NoMemory, SgfFault};
 pub use nodes::items::Items;
 pub use nodes::small_bytes::SmallBytes;
 pub use nodes::values::Values;
 pub use nodes::{MainLine, Node, Property};
+pub use point_lists::point_set;
 pub use sets::PointSet;
 pub use size::{MOST_POINTS, Point, PointOrPass, Size};
 pub use tokens::skip_blanks;

@@ -7,7 +7,10 @@ use crate::faults::SgfFault;
 use crate::nodes::Property;
 use crate::nodes::items::add;
 use crate::nodes::values::Values;
-use crate::tokens::{after_byte, has_upper, is_word, name_of, skip_blanks, value, word};
+use crate::tokens::{
+    has_upper, is_letter_or_digit, name_of, skip_blanks, skip_blanks_and_byte, split_identifier,
+    value,
+};
 use std::alloc::Global;
 
 /// The values at the front, as long as a `[` follows.
@@ -16,7 +19,7 @@ fn values(alloc: Global, bytes: &[u8]) -> Result<(Values, &[u8]), SgfFault>
 {
     let mut values = Values::none();
     let mut rest = bytes;
-    while let Some(opened) = after_byte(rest, b'[') {
+    while let Some(opened) = skip_blanks_and_byte(rest, b'[') {
         let (raw, after) = value(alloc, opened)?;
         values = values.with(alloc, raw)?;
         rest = after;
@@ -29,7 +32,7 @@ fn values(alloc: Global, bytes: &[u8]) -> Result<(Values, &[u8]), SgfFault>
 fn read_property(alloc: Global, bytes: &[u8]) -> Result<(Property, &[u8]), SgfFault>
     ensures { Gives (λ x. (x.0, x.1.now)) result (property_at bytes.now) }
 {
-    let (letters, rest) = word(bytes);
+    let (letters, rest) = split_identifier(bytes);
     if !has_upper(letters) {
         return Err(SgfFault::Syntax);
     }
@@ -46,7 +49,7 @@ fn opens_property(bytes: &[u8]) -> bool
     ensures { result ≡ opens_property bytes.now }
 {
     match skip_blanks(bytes).first() {
-        Some(b) => is_word(*b),
+        Some(b) => is_letter_or_digit(*b),
         None => false,
     }
 }

@@ -7,7 +7,7 @@ ghost use Rattle.tt_sgf.specs.MachineWords.{AreBitsOf};
 ghost use Rattle.tt_sgf.specs.Sizes.{point_count};
 
 use crate::bits::{BITS, Bits};
-use crate::size::{MOST_POINTS, Point, Size, point_numbered};
+use crate::size::{MOST_POINTS, Point, Size, point_from_number};
 use std::marker::Model;
 
 /// A set of points. Contracts see the finite set of their numbers, all below `MOST_POINTS`. No call takes memory.
@@ -20,7 +20,7 @@ impl Model for PointSet {
     ghost use Rattle.std.specs.Ordering.{nat_cmp};
     ghost use Rattle.std.specs.FinSet as set;
     ghost use Rattle.std.specs.Coded.{coded_ℕ};
-    ghost use Rattle.tt_sgf.specs.MachineWords.{points_of, AreOfPoints};
+    ghost use Rattle.tt_sgf.specs.MachineWords.{points_of, AreBitsOfPoints};
 
     ghost Value = { set.FinSet nat_cmp };
 
@@ -28,7 +28,7 @@ impl Model for PointSet {
 
     ghost view = { λ s. points_of s.bits.words };
 
-    ghost invariant = { λ s. AreOfPoints s.bits.words };
+    ghost invariant = { λ s. AreBitsOfPoints s.bits.words };
 }
 
 impl PointSet {
@@ -45,7 +45,7 @@ impl PointSet {
     {
         let mut made = PointSet::empty();
         for number in 0..size.columns() * size.rows() {
-            made = made.with(point_numbered(number));
+            made = made.with(point_from_number(number));
         }
         made
     }
@@ -97,7 +97,7 @@ impl PointSet {
         if n > 360 {
             return None;
         }
-        Some(point_numbered(n as u16))
+        Some(point_from_number(n as u16))
     }
 
     /// The points of the set that a board of this size has, as bits: that of the point `p` is bit `p % 64` of word

@@ -123,7 +123,7 @@ impl Point {
 }
 
 /// The point of a number that is known to be small enough.
-pub(crate) fn point_numbered(number: u16) -> Point
+pub(crate) fn point_from_number(number: u16) -> Point
     requires { number < MOST_POINTS }
     ensures { result ≡ number }
 {

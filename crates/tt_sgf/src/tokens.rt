@@ -2,7 +2,7 @@
 
 ghost use Rattle.std.specs.Prelude.{◌≡◌, ◌+◌, ◌<◌, length, false, not, IfOk, take, drop, Some, None, MatchOption, ◌∷◌, ◌==◌};
 ghost use Rattle.std.specs.List.{filter, list_any};
-ghost use Rattle.tt_sgf.specs.Grammar.{is_blank, is_word, is_kept, is_upper, is_digit};
+ghost use Rattle.tt_sgf.specs.Grammar.{is_blank, is_letter_or_digit, is_kept_in_name, is_upper, is_digit};
 ghost use Rattle.tt_sgf.specs.inside.Reading.{raw_at, word_of, after_word, begins, Gives};
 ghost use Rattle.tt_sgf.specs.Values.{after_blanks};
 
@@ -32,18 +32,18 @@ pub(crate) fn is_digit(b: u8) -> bool
     b >= b'0' && b <= b'9'
 }
 
-#[tactic(auto, unfolding(crate::specs::Grammar::is_kept))]
-fn is_kept(b: u8) -> bool
-    ensures { result ≡ is_kept b }
+#[tactic(auto, unfolding(crate::specs::Grammar::is_kept_in_name))]
+fn is_kept_in_name(b: u8) -> bool
+    ensures { result ≡ is_kept_in_name b }
 {
     is_upper(b) || is_digit(b)
 }
 
-#[tactic(auto, unfolding(crate::specs::Grammar::is_lower, crate::specs::Grammar::is_kept, crate::specs::Grammar::is_word))]
-pub(crate) fn is_word(b: u8) -> bool
-    ensures { result ≡ is_word b }
+#[tactic(auto, unfolding(crate::specs::Grammar::is_lower, crate::specs::Grammar::is_kept_in_name, crate::specs::Grammar::is_letter_or_digit))]
+pub(crate) fn is_letter_or_digit(b: u8) -> bool
+    ensures { result ≡ is_letter_or_digit b }
 {
-    is_kept(b) || (b >= b'a' && b <= b'z')
+    is_kept_in_name(b) || (b >= b'a' && b <= b'z')
 }
 
 /// What is left behind the white space at the front. Takes no memory.
@@ -90,12 +90,12 @@ pub(crate) fn value(alloc: Global, bytes: &[u8]) -> Result<(SmallBytes, &[u8]), 
 }
 
 /// The letters and digits at the front, and what is left.
-pub(crate) fn word(bytes: &[u8]) -> (&[u8], &[u8])
+pub(crate) fn split_identifier(bytes: &[u8]) -> (&[u8], &[u8])
     ensures word { result.0.now ≡ word_of bytes.now }
     ensures rest { result.1.now ≡ after_word bytes.now }
 {
     for (i, b) in bytes.iter().enumerate() {
-        if !is_word(*b) {
+        if !is_letter_or_digit(*b) {
             return bytes.split_at(i);
         }
     }
@@ -103,21 +103,25 @@ pub(crate) fn word(bytes: &[u8]) -> (&[u8], &[u8])
 }
 
 /// Whether a letter of the word is left out of its name.
-fn is_shortened(word: &[u8]) -> bool
-    ensures { result ≡ list_any (λ b. not (is_kept b)) word.now }
+fn drops_letters(word: &[u8]) -> bool
+    ensures { result ≡ list_any (λ b. not (is_kept_in_name b)) word.now }
 {
-    word.iter().any(|b| !is_kept(*b))
+    word.iter().any(|b| !is_kept_in_name(*b))
 }
 
 /// The name of an identifier: its upper-case letters and digits.
 #[tactic(auto, using(crate::proofs::TokenLemmas::kept_whole))]
 pub(crate) fn name_of(alloc: Global, word: &[u8]) -> Result<SmallBytes, AllocError>
-    ensures { IfOk result (λ v. v ≡ filter is_kept word.now) }
+    ensures { IfOk result (λ v. v ≡ filter is_kept_in_name word.now) }
 {
-    if !is_shortened(word) {
+    if !drops_letters(word) {
         return SmallBytes::copy_of(alloc, word);
     }
-    let name: Vec<u8> = word.iter().copied().filter(|b| is_kept(*b)).collect(alloc)?;
+    let name: Vec<u8> = word
+        .iter()
+        .copied()
+        .filter(|b| is_kept_in_name(*b))
+        .collect(alloc)?;
     SmallBytes::copy_of(alloc, name.as_slice())
 }
 
@@ -129,7 +133,7 @@ pub(crate) fn has_upper(word: &[u8]) -> bool
 }
 
 /// What is left behind white space and this byte, where it stands there.
-pub(crate) fn after_byte(bytes: &[u8], byte: u8) -> Option<&[u8]>
+pub(crate) fn skip_blanks_and_byte(bytes: &[u8], byte: u8) -> Option<&[u8]>
     ensures { MatchOption result (begins (λ b. b == byte) (after_blanks bytes.now) ≡ false) (λ r. after_blanks bytes.now ≡ byte ∷ r.now) }
 {
     match skip_blanks(bytes).split_first() {

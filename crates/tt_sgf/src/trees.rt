@@ -4,7 +4,7 @@
 ghost use Rattle.std.specs.Prelude.{◌≡◌, ℕ, ◌<◌, ◌≤◌, ◌⊎◌, List, length, false, IsTrue, IfOk, ◌↔◌, take, MatchOption, ◌∷◌, ◌==◌, Err, slice_index};
 ghost use Rattle.std.specs.List.{list_any};
 ghost use Rattle.tt_sgf.specs.Bytes.{open_tree};
-ghost use Rattle.tt_sgf.specs.Grammar.{GameTree, main_line, FirstTreeEndsAt, HasNoTree, HasOpen, IsMainLine};
+ghost use Rattle.tt_sgf.specs.Grammar.{GameTree, main_line, FirstTreeEndsAt, HasNoTree, HasOpeningParenthesis, IsMainLine};
 ghost use Rattle.tt_sgf.specs.inside.Reading.{event_at, Begins, Gives};
 
 use crate::faults::SgfFault;
@@ -45,7 +45,7 @@ fn next_event(alloc: Global, bytes: &[u8]) -> Result<(Event, &[u8]), SgfFault>
 
 /// Where a reader stands in the innermost open tree: right behind its bracket, among its nodes, or behind a sub-tree.
 #[derive(Clone, Copy)]
-enum InTree {
+enum TreeProgress {
     Opened,
     Nodes,
     Trees,
@@ -59,7 +59,7 @@ fn tree(alloc: Global, bytes: &[u8]) -> Result<(Vec<Node>, &[u8]), SgfFault>
 {
     let mut nodes = Vec::new(alloc);
     let mut rest = bytes;
-    let mut in_tree = InTree::Opened;
+    let mut in_tree = TreeProgress::Opened;
     let mut enclosing = 0usize;
     let mut on_main = true;
     loop {
@@ -67,31 +67,31 @@ fn tree(alloc: Global, bytes: &[u8]) -> Result<(Vec<Node>, &[u8]), SgfFault>
         rest = after;
         match event {
             Event::Open => {
-                if let InTree::Opened = in_tree {
+                if let TreeProgress::Opened = in_tree {
                     return Err(SgfFault::Syntax);
                 }
                 enclosing += 1;
-                in_tree = InTree::Opened;
+                in_tree = TreeProgress::Opened;
             }
             Event::Close => {
-                if let InTree::Opened = in_tree {
+                if let TreeProgress::Opened = in_tree {
                     return Err(SgfFault::Syntax);
                 }
                 if enclosing == 0 {
                     return Ok((nodes, rest));
                 }
                 enclosing -= 1;
-                in_tree = InTree::Trees;
+                in_tree = TreeProgress::Trees;
                 on_main = false;
             }
             Event::Item(node) => {
-                if let InTree::Trees = in_tree {
+                if let TreeProgress::Trees = in_tree {
                     return Err(SgfFault::Syntax);
                 }
                 if on_main {
                     nodes.push(node)?;
                 }
-                in_tree = InTree::Nodes;
+                in_tree = TreeProgress::Nodes;
             }
         }
     }
@@ -115,7 +115,7 @@ fn first_open(bytes: &[u8]) -> Option<usize>
 
 /// Whether a `(` occurs, so that a game tree may begin there. Takes no memory.
 pub fn has_tree(bytes: &[u8]) -> bool
-    ensures { IsTrue result ↔ HasOpen bytes.now }
+    ensures { IsTrue result ↔ HasOpeningParenthesis bytes.now }
 {
     bytes.contains(&b'(')
 }

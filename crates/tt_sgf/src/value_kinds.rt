@@ -3,9 +3,9 @@
 ghost use Rattle.std.specs.Prelude.{◌≡◌, ℕ, ◌↔◌, [], ◌∷◌, Some, None, MatchOption};
 ghost use Rattle.tt_sgf.specs.declared.size.PointOrPass.{PointOrPass};
 ghost use Rattle.tt_sgf.specs.declared.size.Size.{Size};
-ghost use Rattle.tt_sgf.specs.Values.{IsNumber, IsPointOrPass, trimmed, some_digits, number_of, numeral_of, before_colon, behind_colon, size_of, IsBoardSize, without_end, lettered_point, point_of};
+ghost use Rattle.tt_sgf.specs.Values.{IsUnsignedNumber, IsPointOrPass, trimmed, value_of_some_digits, number_of, numeral_of, before_colon, behind_colon, size_of, IsBoardSize, without_end, lettered_point, point_of};
 
-use crate::size::{PointOrPass, Size, point_numbered};
+use crate::size::{PointOrPass, Size, point_from_number};
 use crate::tokens::{is_blank, is_digit, skip_blanks};
 
 /// Without the white space at the end.
@@ -31,7 +31,7 @@ pub fn trim(bytes: &[u8]) -> &[u8]
 
 /// What digits are worth: none where there is no digit, another byte, or more than 65,535.
 fn read_digits(bytes: &[u8]) -> Option<u16>
-    ensures { result ≡ some_digits bytes.now }
+    ensures { result ≡ value_of_some_digits bytes.now }
 {
     if bytes.is_empty() {
         return None;
@@ -71,13 +71,13 @@ fn read_number(bytes: &[u8]) -> Option<u16>
 /// are accepted. None for every other value, one above 65,535 among them.
 pub fn number(bytes: &[u8]) -> Option<u16>
     ensures reads { result ≡ number_of bytes.now }
-    ensures value { (n : ℕ) → (result ≡ Some n) ↔ IsNumber bytes.now n }
+    ensures value { (n : ℕ) → (result ≡ Some n) ↔ IsUnsignedNumber bytes.now n }
 {
     read_number(bytes)
 }
 
 /// The point of this column and row, where the board has it.
-fn on_board(column: u8, row: u8, size: Size) -> Option<PointOrPass>
+fn point_on_board(column: u8, row: u8, size: Size) -> Option<PointOrPass>
     ensures { result ≡ lettered_point size column row }
 {
     if column < b'a' || row < b'a' {
@@ -88,18 +88,18 @@ fn on_board(column: u8, row: u8, size: Size) -> Option<PointOrPass>
     if across >= size.columns() || down >= size.rows() {
         return None;
     }
-    Some(PointOrPass::On(point_numbered(down * size.columns() + across)))
+    Some(PointOrPass::On(point_from_number(down * size.columns() + across)))
 }
 
 /// The point or the pass that two letters are.
 #[tactic(auto, unfolding(crate::specs::Values::point_of))]
-fn letters(column: u8, row: u8, size: Size) -> Option<PointOrPass>
+fn point_of_letters(column: u8, row: u8, size: Size) -> Option<PointOrPass>
     ensures { result ≡ point_of size (column ∷ row ∷ []) }
 {
     if column == b't' && row == b't' {
         return Some(PointOrPass::Pass);
     }
-    on_board(column, row, size)
+    point_on_board(column, row, size)
 }
 
 /// The point or the pass that a text is, with no white space around it.
@@ -109,7 +109,7 @@ fn read_point(text: &[u8], size: Size) -> Option<PointOrPass>
     match text {
         [] => Some(PointOrPass::Pass),
         [_] => None,
-        [column, row] => letters(*column, *row, size),
+        [column, row] => point_of_letters(*column, *row, size),
         [_, _, _, ..] => None,
     }
 }

@@ -1,7 +1,7 @@
 -- What is asked for while results are put.
 use Rattle.std.proofs.Common.{◌≡◌, inl, inr, Bool, true, false, Option, Some, None, slice_get, refl, sym, ap, subst, ◌∙◌, arith, List}
 use Rattle.std.proofs.lemmas.Option.{same_Some}
-use Rattle.tt_search.specs.Grants.{Asked}
+use Rattle.tt_search.specs.Grants.{GrantTally}
 use Rattle.tt_share.specs.declared.jobs.JobResult.{JobResult}
 use Rattle.tt_share.specs.declared.jobs.JobResult.TheVariants as result
 use Rattle.tt_share.specs.declared.jobs.SearchedJob.{SearchedJob}
@@ -18,7 +18,8 @@ total_kept true result.Dropped h = h
 total_kept true result.NoMemory h = h
 
 -- a result of a job that had none, with what was asked for it
-pub asked_put : (old new : ResultsSoFar) (f : SearchedJob) (before after : Asked) → slice_get old.ends f.job ≡ Some None → Puts old.ends new.ends f → Notes old new f → AsksFor before f.spent (end_of f.end) after
+pub asked_put : (old new : ResultsSoFar) (f : SearchedJob) (before after : GrantTally) → slice_get old.ends f.job ≡ Some None → Puts old.ends new.ends f → Notes old new f
+    → AsksFor before f.spent (end_of f.end) after
     → AskedFor old before new after
 asked_put old new f before after free puts notes asks = record {
   spent = let s = notes.put free in let g = asks.granted in omega (arith, s, g);
@@ -33,11 +34,11 @@ asked_put old new f before after free puts notes asks = record {
 }
 
 -- where nothing is put nothing is asked for
-pub asked_nothing : (p : ResultsSoFar) (asked : Asked) → AskedFor p asked p asked
+pub asked_nothing : (p : ResultsSoFar) (asked : GrantTally) → AskedFor p asked p asked
 asked_nothing p asked = record { spent = refl; refused = λ h. inl h; still = λ e. e }
 
 -- what is asked for in two parts
-pub asked_twice : (a b c : ResultsSoFar) (x y z : Asked) → AskedFor a x b y → AskedFor b y c z → AskedFor a x c z
+pub asked_twice : (a b c : ResultsSoFar) (x y z : GrantTally) → AskedFor a x b y → AskedFor b y c z → AskedFor a x c z
 asked_twice a b c x y z first second = record {
   spent = let s = first.spent in let t = second.spent in omega (arith, s, t);
   refused = λ h. elim (second.refused h) [

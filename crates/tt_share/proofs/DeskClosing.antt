@@ -11,8 +11,8 @@ use native.Mathlib.Decide.{dec_lt}
 use lib.ListN.{get_elem?}
 use Rattle.tt_share.specs.declared.desk.rule.SeatKnowledge.{SeatKnowledge}
 use Rattle.tt_share.specs.declared.desk.rule.DeskSize.{DeskSize}
-use Rattle.tt_share.specs.Desk.{knowledge_of, no_knowledge, joined, sum_below, overdraw_count, EachSeat, IsDesk}
-use Rattle.tt_share.specs.Seats.{DeskView, SeatView, EachOnce, AllJobsDrawn, EndsOverdraw, Spends}
+use Rattle.tt_share.specs.Desk.{knowledge_of, no_knowledge, joined_knowledge, sum_below, overdraw_count, EachSeat, IsDesk}
+use Rattle.tt_share.specs.Seats.{DeskView, SeatView, EachOnce, OverdrawMeansAllDrawn, EndsInOverdraw, AreGrantsOfTotal}
 use Rattle.tt_share.specs.inside.Gathering.{Gathers}
 use Rattle.tt_share.proofs.DeskLists.{at_within, at_read, sum_set, sum_at, sum_le}
 use Rattle.tt_share.proofs.DeskMoves.{counts_room, each_set, right_true}
@@ -55,7 +55,7 @@ gathers_first s = record {
 }
 
 -- joined with what one more seat knows, it gathers that seat too
-pub gathers_more : (s : SeatView) (taken : List SeatView) (v : SeatKnowledge) → Gathers taken v → Gathers (s ∷ taken) (joined v (sat_as s))
+pub gathers_more : (s : SeatView) (taken : List SeatView) (v : SeatKnowledge) → Gathers taken v → Gathers (s ∷ taken) (joined_knowledge v (sat_as s))
 gathers_more s taken v h = record {
   seat_count = let p = h.seat_count in omega arith;
   numbers = λ weight.
@@ -104,7 +104,7 @@ spares_exact jobs zero = omega arith
 spares_exact jobs (suc n) = let e = spares_exact jobs n in grind (arith, nat_tests)
 
 -- a list that ends with a overdraw number has one at least
-ends_overdraw : (jobs : ℕ) (xs : List ℕ) → 0 < jobs → EndsOverdraw jobs xs → 1 ≤ overdraw_count jobs xs
+ends_overdraw : (jobs : ℕ) (xs : List ℕ) → 0 < jobs → EndsInOverdraw jobs xs → 1 ≤ overdraw_count jobs xs
 ends_overdraw jobs [] job h = absurd (omega arith)
 ends_overdraw jobs (x ∷ xs) job h =
     let b = get_or-le-sum_by (λ k. cond (leb jobs k) 1 0) (x ∷ xs) (length (x ∷ xs) - 1) 0 (omega arith) in grind (arith, nat_tests)
@@ -134,7 +134,7 @@ module _ (list : SeatView → List ℕ) (count : ℕ) (seats : List SeatView) (w
   spares limit = weights (λ k. cond (leb limit k) 1 0) ∙ spares_exact limit count
 
   -- where some list ends with a number that is not below the limit, the count is above it
-  beyond : (limit : ℕ) → 0 < limit → (s : SeatView) → Contains seats s → EndsOverdraw limit (list s) → limit < count
+  beyond : (limit : ℕ) → 0 < limit → (s : SeatView) → Contains seats s → EndsInOverdraw limit (list s) → limit < count
   beyond limit positive s has ends =
       let overdraw : SeatView → ℕ = λ t. overdraw_count limit (list t) in
       let one : overdraw s ≤ sum_by overdraw seats = All-contains (λ t. overdraw t ≤ sum_by overdraw seats) seats s (λ k d within. get_or-le-sum_by overdraw seats k d within) has in
@@ -143,21 +143,21 @@ module _ (list : SeatView → List ℕ) (count : ℕ) (seats : List SeatView) (w
       omega arith
 
   -- and each number below the limit was drawn, once
-  uses : (limit : ℕ) → 0 < limit → AllJobsDrawn list limit seats
+  uses : (limit : ℕ) → 0 < limit → OverdrawMeansAllDrawn list limit seats
   uses limit positive s has ends number lt = each_once.below number (let b = beyond limit positive s has ends in omega arith)
 
   -- where each list ends with a overdraw number, the count is at least the limit and the number of seats, added up
-  all_overdraw : (limit : ℕ) → 0 < limit → 0 < length seats → All (λ (s : SeatView). EndsOverdraw limit (list s)) seats → limit + length seats ≤ count
+  all_overdraw : (limit : ℕ) → 0 < limit → 0 < length seats → All (λ (s : SeatView). EndsInOverdraw limit (list s)) seats → limit + length seats ≤ count
   all_overdraw limit positive some_seat all =
       let least = sum_le (λ _. 1) (λ s. overdraw_count limit (list s)) seats
-      (λ i s e. ends_overdraw limit (list s) positive (subst (λ (t : SeatView). EndsOverdraw limit (list t)) (at_read seats i s s e) (all i s (at_within seats i s e)))) in
+      (λ i s e. ends_overdraw limit (list s) positive (subst (λ (t : SeatView). EndsInOverdraw limit (list t)) (at_read seats i s s e) (all i s (at_within seats i s e)))) in
       let number = ones seats in
       let exact = spares limit in
       omega arith
 
 -- what the seats show of the grants of a total
 spends : (total word : ℕ) (seats : List SeatView) → 0 < total → ((weight : ℕ → ℕ) → sum_by (λ (s : SeatView). sum_by weight s.grants) seats ≡ sum_below weight word)
-    → Spends total (min word total) seats
+    → AreGrantsOfTotal total (min word total) seats
 spends total word seats positive weights = record {
   asked = (word, each_once (λ s. s.grants) word seats weights, refl);
   granted_is = sym (weights (λ k. cond (ltb k total) 1 0) ∙ least_below total word);
@@ -167,11 +167,11 @@ spends total word seats positive weights = record {
 -- what seats of a closed desk show, where its words are known
 pub record End (desk : DeskView) (seats : List SeatView) (drawn asked : ℕ) : Type 0 where
   pub draws : EachOnce (λ s. s.numbers) drawn seats
-  pub jobs_drawn : AllJobsDrawn (λ s. s.numbers) desk.jobs seats
+  pub jobs_drawn : OverdrawMeansAllDrawn (λ s. s.numbers) desk.jobs seats
   pub draws_most : drawn ≤ desk.jobs + desk.seats
-  pub draws_are : All (λ s. EndsOverdraw desk.jobs s.numbers) seats → drawn ≡ desk.jobs + desk.seats
+  pub draws_are : All (λ s. EndsInOverdraw desk.jobs s.numbers) seats → drawn ≡ desk.jobs + desk.seats
   pub sighted : IsTrue (list_any (λ s. s.saw_flag) seats) → IsTrue (list_any (λ s. s.flag) seats)
-  pub grants : (total : ℕ) → 0 < total → Spends total (min asked total) seats
+  pub grants : (total : ℕ) → 0 < total → AreGrantsOfTotal total (min asked total) seats
 
 -- where one gathers all seats and stands for all, they show what seats of a closed desk show
 pub closes : (desk : DeskView) (plan : DeskSize) (drawn flag asked : ℕ) (knowledge : List SeatKnowledge) (id : ℕ) (v : SeatKnowledge) (seats : List SeatView) → plan.jobs ≡ desk.jobs → plan.seats ≡ desk.seats
@@ -202,6 +202,6 @@ closes desk plan drawn flag asked knowledge id v seats same_jobs same_seats len 
 
 -- what is known of the grants, where there is a total and where there is none
 pub grants_by : (total : Option ℕ) (key granted asked : ℕ) (seats : List SeatView) → MatchOption total (granted ≡ 0) (λ n. granted ≡ min asked n) → IfSome total (λ n. (key ≡ n) × (0 < n))
-    → ((n : ℕ) → 0 < n → Spends n (min asked n) seats) → MatchOption total (granted ≡ 0) (λ n. Spends n granted seats)
+    → ((n : ℕ) → 0 < n → AreGrantsOfTotal n (min asked n) seats) → MatchOption total (granted ≡ 0) (λ n. AreGrantsOfTotal n granted seats)
 grants_by None key granted asked seats is positive all = is
-grants_by (Some n) key granted asked seats is positive all = subst (λ (g : ℕ). Spends n g seats) (sym is) (all n positive.1)
+grants_by (Some n) key granted asked seats is positive all = subst (λ (g : ℕ). AreGrantsOfTotal n g seats) (sym is) (all n positive.1)

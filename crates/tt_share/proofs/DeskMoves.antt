@@ -12,8 +12,9 @@ use Rattle.atomic_table.proofs.Lists.{at_set, at_snoc, set_here, set_else, at_lo
 use Rattle.atomic_table.specs.Table.{keeps, Allows, Splits, Joins}
 use Rattle.tt_share.specs.declared.desk.rule.SeatKnowledge.{SeatKnowledge}
 use Rattle.tt_share.specs.declared.desk.rule.DeskSize.{DeskSize}
-use Rattle.tt_share.specs.Desk.{fresh_knowledge, handed_out_knowledge, no_knowledge, fewer, joined, with_draw, with_grant, with_flag_raised, with_look, overdraw_count, EachSeat, SomeSeat, EachNumberOnce, IsFlag, IsDesk}
-use Rattle.tt_share.specs.Desk.{DeskHolds, SeatState, CanFollow, Draws, AsksForGrant, Raises, Looks}
+use Rattle.tt_share.specs.Desk.{fresh_knowledge, new_seat_knowledge, no_knowledge, knowledge_less_one_seat, joined_knowledge, knowledge_with_draw, knowledge_with_grant}
+use Rattle.tt_share.specs.Desk.{with_flag_raised, with_look, overdraw_count, EachSeat, SomeSeat, AreDealtNumbers, IsFlagOfSeats, IsDesk}
+use Rattle.tt_share.specs.Desk.{IsDeskInvariant, SeatState, CanFollow, DrawsNumber, AsksGrant, RaisesFlag, LooksAtFlag}
 use Rattle.tt_share.specs.Seats.{last_number}
 use Rattle.tt_share.proofs.DeskLists.{at_within, sum_set, sum_at, sum_le, overdraw_below, none_below, below_by_weight, rising_push, rising_short, no_spares}
 
@@ -41,14 +42,14 @@ no_rise k h = absurd (omega arith)
 -- the lists of one kind of number, and how each step changes what they count
 module _ (numbers : SeatKnowledge → List ℕ) (limit : ℕ) where
   -- the count is at most the limit and the seats that they stand for
-  pub counts_room : (count : ℕ) (knowledge : List SeatKnowledge) → EachNumberOnce numbers limit count knowledge → count ≤ limit + sum_by (λ v. v.seat_count) knowledge
+  pub counts_room : (count : ℕ) (knowledge : List SeatKnowledge) → AreDealtNumbers numbers limit count knowledge → count ≤ limit + sum_by (λ v. v.seat_count) knowledge
   counts_room count knowledge h =
       let spares = sum_le (λ v. overdraw_count limit (numbers v)) (λ v. v.seat_count) knowledge h.spares in
       let all = h.each_once (λ n. cond (leb limit n) 1 0) in
       omega (arith, overdraw_below limit count)
 
   -- each number in a seat is below the count
-  pub counts_below : (count : ℕ) (knowledge : List SeatKnowledge) (id : ℕ) (v : SeatKnowledge) → EachNumberOnce numbers limit count knowledge → get_elem? knowledge id ≡ some v → (k : ℕ) → k < length (numbers v)
+  pub counts_below : (count : ℕ) (knowledge : List SeatKnowledge) (id : ℕ) (v : SeatKnowledge) → AreDealtNumbers numbers limit count knowledge → get_elem? knowledge id ≡ some v → (k : ℕ) → k < length (numbers v)
       → get_or (numbers v) k 0 < count
   counts_below count knowledge id v h at k lt =
       let weight : ℕ → ℕ = λ n. cond (leb count n) 1 0 in
@@ -58,8 +59,8 @@ module _ (numbers : SeatKnowledge → List ℕ) (limit : ℕ) where
       below_by_weight (numbers v) count k (omega arith) lt
 
   -- where a seat changes and keeps its numbers and its count of seats, the count stays
-  counts_same : (count : ℕ) (knowledge : List SeatKnowledge) (id : ℕ) (v w : SeatKnowledge) → EachNumberOnce numbers limit count knowledge → get_elem? knowledge id ≡ some v → numbers w ≡ numbers v → w.seat_count ≡ v.seat_count
-      → EachNumberOnce numbers limit count (set knowledge id w)
+  counts_same : (count : ℕ) (knowledge : List SeatKnowledge) (id : ℕ) (v w : SeatKnowledge) → AreDealtNumbers numbers limit count knowledge → get_elem? knowledge id ≡ some v → numbers w ≡ numbers v → w.seat_count ≡ v.seat_count
+      → AreDealtNumbers numbers limit count (set knowledge id w)
   counts_same count knowledge id v w h at same seat_count = record {
     each_once = λ weight.
         let s = sum_set (λ u. sum_by weight (numbers u)) knowledge id v w at in
@@ -72,8 +73,8 @@ module _ (numbers : SeatKnowledge → List ℕ) (limit : ℕ) where
   }
 
   -- where a seat that stands for itself and ends below the limit gets the count as a number, there is one more
-  counts_add : (count : ℕ) (knowledge : List SeatKnowledge) (id : ℕ) (v w : SeatKnowledge) → EachNumberOnce numbers limit count knowledge → get_elem? knowledge id ≡ some v → v.seat_count ≡ 1 → last_number (numbers v) < limit
-      → numbers w ≡ numbers v ++ count ∷ [] → w.seat_count ≡ 1 → EachNumberOnce numbers limit (count + 1) (set knowledge id w)
+  counts_add : (count : ℕ) (knowledge : List SeatKnowledge) (id : ℕ) (v w : SeatKnowledge) → AreDealtNumbers numbers limit count knowledge → get_elem? knowledge id ≡ some v → v.seat_count ≡ 1 → last_number (numbers v) < limit
+      → numbers w ≡ numbers v ++ count ∷ [] → w.seat_count ≡ 1 → AreDealtNumbers numbers limit (count + 1) (set knowledge id w)
   counts_add count knowledge id v w h at one within is one' =
       let up = h.rising id v at one in record {
         each_once = λ weight.
@@ -90,8 +91,8 @@ module _ (numbers : SeatKnowledge → List ℕ) (limit : ℕ) where
       }
 
   -- where a seat without numbers becomes two without numbers, the count stays
-  counts_cut : (count : ℕ) (knowledge : List SeatKnowledge) (id : ℕ) (v w new : SeatKnowledge) → EachNumberOnce numbers limit count knowledge → get_elem? knowledge id ≡ some v → numbers v ≡ [] → numbers w ≡ [] → numbers new ≡ []
-      → EachNumberOnce numbers limit count (set knowledge id w ++ new ∷ [])
+  counts_cut : (count : ℕ) (knowledge : List SeatKnowledge) (id : ℕ) (v w new : SeatKnowledge) → AreDealtNumbers numbers limit count knowledge → get_elem? knowledge id ≡ some v → numbers v ≡ [] → numbers w ≡ [] → numbers new ≡ []
+      → AreDealtNumbers numbers limit count (set knowledge id w ++ new ∷ [])
   counts_cut count knowledge id v w new h at v_none w_none new_none = record {
     each_once = λ weight.
         let s = sum_set (λ u. sum_by weight (numbers u)) knowledge id v w at in
@@ -108,10 +109,10 @@ module _ (numbers : SeatKnowledge → List ℕ) (limit : ℕ) where
   }
 
   -- where one seat takes over the numbers and seats of another one, the count stays
-  counts_join : (count : ℕ) (knowledge : List SeatKnowledge) (id : ℕ) (v : SeatKnowledge) (other : ℕ) (w both left : SeatKnowledge) → EachNumberOnce numbers limit count knowledge → get_elem? knowledge id ≡ some v
+  counts_join : (count : ℕ) (knowledge : List SeatKnowledge) (id : ℕ) (v : SeatKnowledge) (other : ℕ) (w both left : SeatKnowledge) → AreDealtNumbers numbers limit count knowledge → get_elem? knowledge id ≡ some v
       → get_elem? knowledge other ≡ some w
       → get_elem? (set knowledge id both) other ≡ some w → numbers both ≡ numbers v ++ numbers w → both.seat_count ≡ v.seat_count + w.seat_count → numbers left ≡ [] → 0 < v.seat_count → 0 < w.seat_count
-      → EachNumberOnce numbers limit count (set (set knowledge id both) other left)
+      → AreDealtNumbers numbers limit count (set (set knowledge id both) other left)
   counts_join count knowledge id v other w both left h at was at' is seat_count none_left some_v some_w = record {
     each_once = λ weight.
         let s = sum_set (λ u. sum_by weight (numbers u)) knowledge id v both at in
@@ -141,7 +142,8 @@ spent_same : (knowledge : List SeatKnowledge) (id : ℕ) (w : SeatKnowledge) →
 spent_same knowledge id w one spent = each_set (λ u. u.seat_count ≡ 0 → u ≡ no_knowledge) knowledge id w (λ e. absurd (omega arith)) spent
 
 -- where a seat changes and keeps its flag and whether it saw it, what the flag says stays so
-flag_kept : (flag : ℕ) (knowledge : List SeatKnowledge) (id : ℕ) (v w : SeatKnowledge) → get_elem? knowledge id ≡ some v → w.flag ≡ v.flag → w.saw_flag ≡ v.saw_flag → IsFlag flag knowledge → IsFlag flag (set knowledge id w)
+flag_kept : (flag : ℕ) (knowledge : List SeatKnowledge) (id : ℕ) (v w : SeatKnowledge) → get_elem? knowledge id ≡ some v → w.flag ≡ v.flag → w.saw_flag ≡ v.saw_flag
+    → IsFlagOfSeats flag knowledge → IsFlagOfSeats flag (set knowledge id w)
 flag_kept flag knowledge id v w at same_flag same_saw_flag h = record {
   bit = h.bit;
   raised = λ is. some_set (λ u. u.flag ≡ true) knowledge id v w at (λ p. same_flag ∙ p) (h.raised is);
@@ -153,7 +155,7 @@ no_wrap : (n m : ℕ) → n ≤ m → m + 1 < 2 ^ 64 → (n + 1) % 2 ^ 64 ≡ n 
 no_wrap n m le small = omega arith
 
 -- the number that a step finds is the seat's next one
-next_one : (numbers : SeatKnowledge → List ℕ) (limit count : ℕ) (knowledge : List SeatKnowledge) (id : ℕ) (v : SeatKnowledge) → EachNumberOnce numbers limit count knowledge → get_elem? knowledge id ≡ some v
+next_one : (numbers : SeatKnowledge → List ℕ) (limit count : ℕ) (knowledge : List SeatKnowledge) (id : ℕ) (v : SeatKnowledge) → AreDealtNumbers numbers limit count knowledge → get_elem? knowledge id ≡ some v
     → v.seat_count ≡ 1 → CanFollow (numbers v) count
 next_one numbers limit count knowledge id v h at one =
     let up = h.rising id v at one in
@@ -161,13 +163,13 @@ next_one numbers limit count knowledge id v h at one =
 
 -- a draw keeps the rule, and finds the seat's next number
 pub draws : (plan : DeskSize) (slots id : ℕ) (me : SeatState) → plan.jobs + plan.seats + 1 < 2 ^ 64 → me.1 ≡ [] → me.0.seat_count ≡ 1 → last_number me.0.numbers < plan.jobs
-    → Allows (DeskHolds plan) slots id me 0 (λ n. (n + 1) % 2 ^ 64) (λ n after. Draws me n after)
+    → Allows (IsDeskInvariant plan) slots id me 0 (λ n. (n + 1) % 2 ^ 64) (λ n after. DrawsNumber me n after)
 draws plan slots id me small empty one job s h homes at fits =
     let v : SeatKnowledge = me.0 in
     let here : slice_index s.words 0 ≡ h.0 = ap (λ (l : List ℕ). slice_index l 0) h.3 in
     let room = counts_room (λ u. u.numbers) plan.jobs h.0 s.views h.4.draws in
     let next : (slice_index s.words 0 + 1) % 2 ^ 64 ≡ h.0 + 1 = ap (λ (n : ℕ). (n + 1) % 2 ^ 64) here ∙ no_wrap h.0 (plan.jobs + plan.seats) (let p = h.4.seat_count in omega arith) small in
-    let w : SeatKnowledge = with_draw v h.0 in
+    let w : SeatKnowledge = knowledge_with_draw v h.0 in
     let desk : IsDesk plan (h.0 + 1) h.1 h.2 (set s.views id w) = record {
       seat_count = parts_same s.views id v w at refl ∙ h.4.seat_count;
       spent = spent_same s.views id w one h.4.spent;
@@ -175,22 +177,22 @@ draws plan slots id me small empty one job s h homes at fits =
       marked = flag_kept h.1 s.views id v w at refl refl h.4.marked;
       grants = counts_same (λ u. u.grants) plan.total h.2 s.views id v w h.4.grants at refl refl;
     } in (
-      with_draw v (slice_index s.words 0),
+      knowledge_with_draw v (slice_index s.words 0),
       keeps,
       tt,
-      (h.0 + 1, h.1, h.2, (λ k. set (h.3 k) 0 (next k)), subst (λ (n : ℕ). IsDesk plan (h.0 + 1) h.1 h.2 (set s.views id (with_draw v n))) (sym here) desk),
+      (h.0 + 1, h.1, h.2, (λ k. set (h.3 k) 0 (next k)), subst (λ (n : ℕ). IsDesk plan (h.0 + 1) h.1 h.2 (set s.views id (knowledge_with_draw v n))) (sym here) desk),
       (refl, subst (λ (n : ℕ). CanFollow v.numbers n) (sym here) (next_one (λ u. u.numbers) plan.jobs h.0 s.views id v h.4.draws at one)),
     )
 
 -- an ask for a grant keeps the rule, and finds the seat's next number
 pub grants : (plan : DeskSize) (slots id : ℕ) (me : SeatState) → plan.total + plan.seats + 1 < 2 ^ 64 → me.1 ≡ [] → me.0.seat_count ≡ 1 → last_number me.0.grants < plan.total
-    → Allows (DeskHolds plan) slots id me 2 (λ n. (n + 1) % 2 ^ 64) (λ n after. AsksForGrant me n after)
+    → Allows (IsDeskInvariant plan) slots id me 2 (λ n. (n + 1) % 2 ^ 64) (λ n after. AsksGrant me n after)
 grants plan slots id me small empty one left s h homes at fits =
     let v : SeatKnowledge = me.0 in
     let here : slice_index s.words 2 ≡ h.2 = ap (λ (l : List ℕ). slice_index l 2) h.3 in
     let room = counts_room (λ u. u.grants) plan.total h.2 s.views h.4.grants in
     let next : (slice_index s.words 2 + 1) % 2 ^ 64 ≡ h.2 + 1 = ap (λ (n : ℕ). (n + 1) % 2 ^ 64) here ∙ no_wrap h.2 (plan.total + plan.seats) (let p = h.4.seat_count in omega arith) small in
-    let w : SeatKnowledge = with_grant v h.2 in
+    let w : SeatKnowledge = knowledge_with_grant v h.2 in
     let desk : IsDesk plan h.0 h.1 (h.2 + 1) (set s.views id w) = record {
       seat_count = parts_same s.views id v w at refl ∙ h.4.seat_count;
       spent = spent_same s.views id w one h.4.spent;
@@ -198,15 +200,15 @@ grants plan slots id me small empty one left s h homes at fits =
       marked = flag_kept h.1 s.views id v w at refl refl h.4.marked;
       grants = counts_add (λ u. u.grants) plan.total h.2 s.views id v w h.4.grants at one left refl one;
     } in (
-      with_grant v (slice_index s.words 2),
+      knowledge_with_grant v (slice_index s.words 2),
       keeps,
       tt,
-      (h.0, h.1, h.2 + 1, (λ k. set (h.3 k) 2 (next k)), subst (λ (n : ℕ). IsDesk plan h.0 h.1 (h.2 + 1) (set s.views id (with_grant v n))) (sym here) desk),
+      (h.0, h.1, h.2 + 1, (λ k. set (h.3 k) 2 (next k)), subst (λ (n : ℕ). IsDesk plan h.0 h.1 (h.2 + 1) (set s.views id (knowledge_with_grant v n))) (sym here) desk),
       (refl, subst (λ (n : ℕ). CanFollow v.grants n) (sym here) (next_one (λ u. u.grants) plan.total h.2 s.views id v h.4.grants at one)),
     )
 
 -- raising the flag keeps the rule
-pub raises : (plan : DeskSize) (slots id : ℕ) (me : SeatState) → me.1 ≡ [] → me.0.seat_count ≡ 1 → Allows (DeskHolds plan) slots id me 1 (λ n. max n 1) (λ _ after. Raises me after)
+pub raises : (plan : DeskSize) (slots id : ℕ) (me : SeatState) → me.1 ≡ [] → me.0.seat_count ≡ 1 → Allows (IsDeskInvariant plan) slots id me 1 (λ n. max n 1) (λ _ after. RaisesFlag me after)
 raises plan slots id me empty one s h homes at fits =
     let v : SeatKnowledge = me.0 in
     let w : SeatKnowledge = with_flag_raised v in
@@ -258,7 +260,7 @@ desk_looks plan drawn flag asked knowledge id v h at one = let w : SeatKnowledge
 }
 
 -- looking at the flag keeps the rule
-pub looks : (plan : DeskSize) (slots id : ℕ) (me : SeatState) → me.1 ≡ [] → me.0.seat_count ≡ 1 → Allows (DeskHolds plan) slots id me 1 (λ n. n) (λ n after. Looks me n after)
+pub looks : (plan : DeskSize) (slots id : ℕ) (me : SeatState) → me.1 ≡ [] → me.0.seat_count ≡ 1 → Allows (IsDeskInvariant plan) slots id me 1 (λ n. n) (λ n after. LooksAtFlag me n after)
 looks plan slots id me empty one s h homes at fits =
     let v : SeatKnowledge = me.0 in
     let here : slice_index s.words 1 ≡ h.1 = ap (λ (l : List ℕ). slice_index l 1) h.3 in (
@@ -277,29 +279,29 @@ looks plan slots id me empty one s h homes at fits =
 
 -- of the seats for which a seat stands, one that has made no step becomes a seat of its own
 desk_cuts : (plan : DeskSize) (drawn flag asked : ℕ) (knowledge : List SeatKnowledge) (id seat_count more : ℕ) → more ≡ seat_count + 1 → IsDesk plan drawn flag asked knowledge → get_elem? knowledge id ≡ some (fresh_knowledge more)
-    → IsDesk plan drawn flag asked (set knowledge id (fresh_knowledge seat_count) ++ handed_out_knowledge ∷ [])
+    → IsDesk plan drawn flag asked (set knowledge id (fresh_knowledge seat_count) ++ new_seat_knowledge ∷ [])
 desk_cuts plan drawn flag asked knowledge id seat_count more is_more h at =
     let v : SeatKnowledge = fresh_knowledge more in
     let w : SeatKnowledge = fresh_knowledge seat_count in record {
       seat_count =
           let s = sum_set (λ u. u.seat_count) knowledge id v w at in
-          let p = sum_by_push (λ (u : SeatKnowledge). u.seat_count) (set knowledge id w) handed_out_knowledge in
+          let p = sum_by_push (λ (u : SeatKnowledge). u.seat_count) (set knowledge id w) new_seat_knowledge in
           omega (arith, h.seat_count);
-      spent = each_cut (λ u. u.seat_count ≡ 0 → u ≡ no_knowledge) knowledge id w handed_out_knowledge (λ e. ap fresh_knowledge e) (λ e. ap fresh_knowledge e) h.spent;
-      draws = counts_cut (λ u. u.numbers) plan.jobs drawn knowledge id v w handed_out_knowledge h.draws at refl refl refl;
+      spent = each_cut (λ u. u.seat_count ≡ 0 → u ≡ no_knowledge) knowledge id w new_seat_knowledge (λ e. ap fresh_knowledge e) (λ e. ap fresh_knowledge e) h.spent;
+      draws = counts_cut (λ u. u.numbers) plan.jobs drawn knowledge id v w new_seat_knowledge h.draws at refl refl refl;
       marked = record {
         bit = h.marked.bit;
         raised = λ is. let has = some_set (λ u. u.flag ≡ true) knowledge id v w at (λ p. p) (h.marked.raised is) in
-            (has.0, has.1, at_longer (set knowledge id w) (handed_out_knowledge ∷ []) has.0 has.1 has.2, has.3);
-        known = each_cut (λ u. (u.flag || u.saw_flag) ≡ true → flag ≡ 1) knowledge id w handed_out_knowledge (λ p. absurd (true≢false (sym p))) (λ p. absurd (true≢false (sym p))) h.marked.known;
+            (has.0, has.1, at_longer (set knowledge id w) (new_seat_knowledge ∷ []) has.0 has.1 has.2, has.3);
+        known = each_cut (λ u. (u.flag || u.saw_flag) ≡ true → flag ≡ 1) knowledge id w new_seat_knowledge (λ p. absurd (true≢false (sym p))) (λ p. absurd (true≢false (sym p))) h.marked.known;
       };
-      grants = counts_cut (λ u. u.grants) plan.total asked knowledge id v w handed_out_knowledge h.grants at refl refl refl;
+      grants = counts_cut (λ u. u.grants) plan.total asked knowledge id v w new_seat_knowledge h.grants at refl refl refl;
     }
 
 -- handing out a seat keeps the rule
-pub cuts : (plan : DeskSize) (id : ℕ) (v : SeatKnowledge) → v ≡ fresh_knowledge v.seat_count → 0 < v.seat_count → Splits (DeskHolds plan) id v (fewer v) handed_out_knowledge
+pub cuts : (plan : DeskSize) (id : ℕ) (v : SeatKnowledge) → v ≡ fresh_knowledge v.seat_count → 0 < v.seat_count → Splits (IsDeskInvariant plan) id v (knowledge_less_one_seat v) new_seat_knowledge
 cuts plan id v is_blank some_part =
-    subst (λ (u : SeatKnowledge). Splits (DeskHolds plan) id u (fewer u) handed_out_knowledge) (sym is_blank)
+    subst (λ (u : SeatKnowledge). Splits (IsDeskInvariant plan) id u (knowledge_less_one_seat u) new_seat_knowledge) (sym is_blank)
     (λ s h at. (h.0, h.1, h.2, h.3, desk_cuts plan h.0 h.1 h.2 s.views id (v.seat_count - 1) v.seat_count (omega arith) h.4 at))
 
 -- what follows from each of two follows where one of them is true
@@ -317,9 +319,10 @@ right_true false b e = e
 
 -- two seats that are joined leave a desk a desk
 desk_joins : (plan : DeskSize) (drawn flag asked : ℕ) (knowledge : List SeatKnowledge) (id : ℕ) (v : SeatKnowledge) (other : ℕ) (w : SeatKnowledge) → IsDesk plan drawn flag asked knowledge → get_elem? knowledge id ≡ some v
-    → ¬ (other ≡ id) → get_elem? (set knowledge id (joined v w)) other ≡ some w → 0 < v.seat_count → 0 < w.seat_count → IsDesk plan drawn flag asked (set (set knowledge id (joined v w)) other no_knowledge)
+    → ¬ (other ≡ id) → get_elem? (set knowledge id (joined_knowledge v w)) other ≡ some w → 0 < v.seat_count → 0 < w.seat_count
+    → IsDesk plan drawn flag asked (set (set knowledge id (joined_knowledge v w)) other no_knowledge)
 desk_joins plan drawn flag asked knowledge id v other w h at two at' some_v some_w =
-    let both : SeatKnowledge = joined v w in
+    let both : SeatKnowledge = joined_knowledge v w in
     let mid : List SeatKnowledge = set knowledge id both in
     let was : get_elem? knowledge other ≡ some w = sym (set_else knowledge id other both two) ∙ at' in
     let apart : id ≢ other = λ e. two (sym e) in
@@ -350,5 +353,6 @@ desk_joins plan drawn flag asked knowledge id v other w h at two at' some_v some
     }
 
 -- joining two seats keeps the rule
-pub joins : (plan : DeskSize) (id : ℕ) (v : SeatKnowledge) (other : ℕ) (w : SeatKnowledge) → 0 < v.seat_count → 0 < w.seat_count → Joins (DeskHolds plan) id v other w (joined v w) no_knowledge
+pub joins : (plan : DeskSize) (id : ℕ) (v : SeatKnowledge) (other : ℕ) (w : SeatKnowledge) → 0 < v.seat_count → 0 < w.seat_count
+    → Joins (IsDeskInvariant plan) id v other w (joined_knowledge v w) no_knowledge
 joins plan id v other w some_v some_w s h at two at' = (h.0, h.1, h.2, h.3, desk_joins plan h.0 h.1 h.2 s.views id v other w h.4 at two at' some_v some_w)

@@ -12,9 +12,9 @@ use Rattle.tt_game.specs.Turns.{legal_turns, turn_number, IsRising}
 use Rattle.tt_game.specs.laws.TurnLaws.{contains-legal_turns, rising-legal_turns}
 use Rattle.tt_proof.proofs.ForcesLemmas.{win_forces}
 use Rattle.tt_proof.specs.Strategy.{depth, depth_of_entries, entries_of}
-use Rattle.tt_proof.specs.Proven.{Proven, AreChildren, trees_by_turn, turns_of}
+use Rattle.tt_proof.specs.ProofClaim.{ProofClaim, AreChildren, trees_by_turn, turns_of}
 use Rattle.tt_search.specs.declared.limits.Limits.{Limits}
-use Rattle.tt_share.specs.Answers.{LesserLose}
+use Rattle.tt_share.specs.Answers.{LesserTurnsLose}
 use Rattle.tt_share.specs.inside.Jobs.{IsJob}
 use Rattle.tt_share.specs.inside.Results.{IsLost, HaveLost}
 
@@ -26,14 +26,14 @@ pub rest_of_all : {X : Type 0} (P : X → Type 0) (x : X) (xs : List X) → All 
 rest_of_all P x xs all k d short = all (suc k) d (omega arith)
 
 -- they are children of a reply
-pub are_children : (line : LineWithUndo) (limits : Limits) (cs : List (Turn × Proven)) → limits.depth ≤ 512 → All (IsLost line limits) cs → AreChildren line.frame line.state cs
+pub are_children : (line : LineWithUndo) (limits : Limits) (cs : List (Turn × ProofClaim)) → limits.depth ≤ 512 → All (IsLost line limits) cs → AreChildren line.frame line.state cs
 are_children line limits [] most all = tt
 are_children line limits (c ∷ cs) most all =
     let lost = first_of_all (IsLost line limits) c cs all in
     (record { stands = lost.stands; same_side = lost.side; shallow = omega (arith, lost.shallow) }, are_children line limits cs most (rest_of_all (IsLost line limits) c cs all))
 
 -- and the reply is within the limit on depth
-pub reply_is_low : (line : LineWithUndo) (limits : Limits) (cs : List (Turn × Proven)) → All (IsLost line limits) cs → depth_of_entries (entries_of (trees_by_turn cs)) ≤ limits.depth
+pub reply_is_low : (line : LineWithUndo) (limits : Limits) (cs : List (Turn × ProofClaim)) → All (IsLost line limits) cs → depth_of_entries (entries_of (trees_by_turn cs)) ≤ limits.depth
 reply_is_low line limits [] all = omega arith
 reply_is_low line limits (c ∷ cs) all =
     let lost = first_of_all (IsLost line limits) c cs all in
@@ -41,24 +41,24 @@ reply_is_low line limits (c ∷ cs) all =
     omega (arith, lost.shallow, rest)
 
 -- one more turn that has lost
-pub one_more : (line : LineWithUndo) (limits : Limits) (cs : List (Turn × Proven)) (c : Turn × Proven) → HaveLost line limits cs → IsJob line (length cs) c.0 → IsLost line limits c
+pub one_more : (line : LineWithUndo) (limits : Limits) (cs : List (Turn × ProofClaim)) (c : Turn × ProofClaim) → HaveLost line limits cs → IsJob line (length cs) c.0 → IsLost line limits c
     → HaveLost line limits (cs ++ c ∷ [])
 one_more line limits cs c lost job this =
     let all = legal_turns line.frame line.state in
     let there : get_or all (length cs) c.0 ≡ c.0 = get_or_from_slice_get all (length cs) c.0 c.0 job in
     let more : take (length cs + 1) all ≡ take (length cs) all ++ get_or all (length cs) c.0 ∷ [] = take_more all (length cs) c.0 (slice_get_within all (length cs) c.0 job) in
     let len : length (cs ++ c ∷ []) ≡ length cs + 1 = omega (arith, length-append cs (c ∷ [])) in
-    let turns : turns_of (cs ++ c ∷ []) ≡ turns_of cs ++ c.0 ∷ [] = map-append (λ (e : Turn × Proven). e.0) cs (c ∷ []) in
+    let turns : turns_of (cs ++ c ∷ []) ≡ turns_of cs ++ c.0 ∷ [] = map-append (λ (e : Turn × ProofClaim). e.0) cs (c ∷ []) in
     record {
       turns = rw (len, more, there, ← lost.turns) turns;
       each = All-push (IsLost line limits) cs c lost.each this;
     }
 
 -- what holds of the turn of each pair holds of each of the turns
-of_turns : (P : Turn → Type 0) (cs : List (Turn × Proven)) → All (λ (c : Turn × Proven). P c.0) cs → (t : Turn) → Contains (turns_of cs) t → P t
+of_turns : (P : Turn → Type 0) (cs : List (Turn × ProofClaim)) → All (λ (c : Turn × ProofClaim). P c.0) cs → (t : Turn) → Contains (turns_of cs) t → P t
 of_turns P [] all t h = absurd (omega (arith, h.1))
 of_turns P (c ∷ cs) all t h =
-    let first : Turn × Proven → Turn = λ (e : Turn × Proven). e.0 in
+    let first : Turn × ProofClaim → Turn = λ (e : Turn × ProofClaim). e.0 in
     let short : h.0 < length (c ∷ cs) = simp length-map at h.1 in
     let same : t ≡ first (get_or (c ∷ cs) h.0 c) = sym h.2 ∙ get_or-map first (c ∷ cs) h.0 c t short in
     subst P (sym same) (all h.0 c short)
@@ -94,7 +94,7 @@ among_first line i t u job legal low =
     (h.0, grind (arith, l, within), get_or-take _ _ _ _ k ∙ h.2)
 
 -- after a turn that has lost the other side forces
-forces : (line : LineWithUndo) (limits : Limits) (c : Turn × Proven) → IsLost line limits c → (n : ℕ) × Forces line.frame (opponent line.state.to_move) n (after line.frame line.state c.0)
+forces : (line : LineWithUndo) (limits : Limits) (c : Turn × ProofClaim) → IsLost line limits c → (n : ℕ) × Forces line.frame (opponent line.state.to_move) n (after line.frame line.state c.0)
 forces line limits c lost =
     let w = win_forces c.1.side c.1.frame c.1.tree c.1.state lost.wins.wins in
     let a = subst (λ x. Forces c.1.frame x (depth c.1.tree) c.1.state) lost.side w in
@@ -102,7 +102,7 @@ forces line limits c lost =
     (depth c.1.tree, subst (λ x. Forces line.frame (opponent line.state.to_move) (depth c.1.tree) x) lost.stands.1 b)
 
 -- the legal turns below the one behind them have lost
-pub lesser_lose : (line : LineWithUndo) (limits : Limits) (cs : List (Turn × Proven)) (t : Turn) → IsJob line (length cs) t → HaveLost line limits cs → LesserLose line.frame line.state t
+pub lesser_lose : (line : LineWithUndo) (limits : Limits) (cs : List (Turn × ProofClaim)) (t : Turn) → IsJob line (length cs) t → HaveLost line limits cs → LesserTurnsLose line.frame line.state t
 lesser_lose line limits cs t job lost u legal low =
     let first = among_first line (length cs) t u job legal low in
     let first' : Contains (turns_of cs) u = subst (λ (ts : List Turn). Contains ts u) (sym lost.turns) first in

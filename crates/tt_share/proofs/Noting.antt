@@ -11,13 +11,13 @@ use Rattle.tt_game.specs.declared.turns.Turn.{Turn}
 use Rattle.tt_game.specs.Line.{LineWithUndo}
 use Rattle.tt_game.specs.Turns.{legal_turns}
 use Rattle.tt_search.specs.Numbers.{count}
-use Rattle.tt_search.specs.Searched.{Searched}
+use Rattle.tt_search.specs.SearchState.{SearchState}
 use Rattle.tt_search.specs.declared.limits.Limits.{Limits}
 use Rattle.tt_search.specs.declared.limits.Reason.TheVariants.{Total}
 use Rattle.tt_share.specs.declared.jobs.JobResult.{JobResult}
 use Rattle.tt_search.specs.declared.search.End.TheVariants.{Stuck}
 use Rattle.tt_share.specs.declared.jobs.JobResult.TheVariants as result
-use Rattle.tt_share.specs.Answers.{IsSpent, spent_in_all}
+use Rattle.tt_share.specs.Answers.{IsTotalSpent, spent_in_all}
 use Rattle.tt_share.specs.inside.Jobs.{IsCounted, IsForTotal, IsJobCount, IsJob, end_of, kept_of}
 use Rattle.tt_share.specs.inside.Results.{ResultsSoFar, AreNoted, HasEnd, FilledBelow, IsAllSpent}
 use Rattle.tt_share.proofs.ResultLemmas.{get_set_same, get_set_other}
@@ -108,8 +108,8 @@ blank_sum (e ∷ spent) none =
     omega (arith, one, more, sum_by-cons (λ (x : Turn × ℕ). x.1) e spent)
 
 -- where every job has a result and all of the total is spent, the counts tell how
-pub spent_told : (p : ResultsSoFar) (total : Option ℕ) (job : ℕ) (t : Turn) (held : Searched) (end : JobResult) → AreNoted p.line p.limits p.ends p.spent → FilledBelow (length p.ends) p.ends
-    → HasEnd p.ends job end → end_of end ≡ Stuck Total (Some held) → IsJob p.line job t → IsAllSpent total p → (n : ℕ) × (total ≡ Some n) × IsSpent p.line p.limits n t held p.spent
+pub spent_told : (p : ResultsSoFar) (total : Option ℕ) (job : ℕ) (t : Turn) (held : SearchState) (end : JobResult) → AreNoted p.line p.limits p.ends p.spent → FilledBelow (length p.ends) p.ends
+    → HasEnd p.ends job end → end_of end ≡ Stuck Total (Some held) → IsJob p.line job t → IsAllSpent total p → (n : ℕ) × (total ≡ Some n) × IsTotalSpent p.line p.limits n t held p.spent
 spent_told p total job t held end noted filled here is at all =
     let h = all (job, end, here, subst IsForTotal (sym is) tt) in
     let within = slice_get_within p.ends job (Some end) here in

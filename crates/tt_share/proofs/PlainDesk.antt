@@ -6,7 +6,7 @@ use mathlib.Core.Logic.{dite}
 use native.Mathlib.Decide.{dec_lt}
 use Rattle.tt_share.specs.declared.desk.rule.SeatKnowledge.{SeatKnowledge}
 use Rattle.tt_share.specs.declared.desk.rule.DeskSize.{DeskSize}
-use Rattle.tt_share.specs.Desk.{overdraw_count, EachNumberOnce, IsFlag, IsDesk}
+use Rattle.tt_share.specs.Desk.{overdraw_count, AreDealtNumbers, IsFlagOfSeats, IsDesk}
 use Rattle.tt_share.specs.DeskLaw.{EachNumberBelowOnce, IsStopFlag, IsDeskState, DeskLaw}
 use Rattle.tt_share.proofs.DeskMoves.{left_true, right_true}
 use Rattle.tt_share.proofs.DeskClosing.{ones, ones_below, never_below, once_below, sum_same}
@@ -23,7 +23,7 @@ two_spares limit (x ∷ xs) (suc k) h one two =
     let more = two_spares limit xs k (omega arith) one (subst (λ (j : ℕ). limit ≤ get_or (x ∷ xs) j 0) next two) in omega arith
 
 -- what numbers that are counted say in plain words
-count_law : (list : SeatKnowledge → List ℕ) (limit word : ℕ) (knowledge : List SeatKnowledge) → EachNumberOnce list limit word knowledge → EachNumberBelowOnce list limit word knowledge
+count_law : (list : SeatKnowledge → List ℕ) (limit word : ℕ) (knowledge : List SeatKnowledge) → AreDealtNumbers list limit word knowledge → EachNumberBelowOnce list limit word knowledge
 count_law list limit word knowledge h = record {
   count = sum_same (λ v. length (list v)) (λ v. sum_by (λ _. 1) (list v)) knowledge (λ v. sym (ones (list v))) ∙ (h.each_once (λ _. 1) ∙ ones_below word);
   below = λ n lt. h.each_once (λ k. cond (nat_eq k n) 1 0) ∙ once_below n word lt;
@@ -38,7 +38,7 @@ count_law list limit word knowledge h = record {
 }
 
 -- what the flag says in plain words
-stop_law : (word : ℕ) (knowledge : List SeatKnowledge) → IsFlag word knowledge → IsStopFlag word knowledge
+stop_law : (word : ℕ) (knowledge : List SeatKnowledge) → IsFlagOfSeats word knowledge → IsStopFlag word knowledge
 stop_law word knowledge h = record {
   bit = dite (dec_lt word 1) (λ lt. inl (omega arith)) (λ ge. let b = h.bit in inr (omega arith));
   raised = h.raised;

@@ -12,8 +12,8 @@ use Rattle.std.specs.declared.alloc.Global.{Global}
 use Rattle.tt_game.specs.declared.keys.Key.{Key}
 use Rattle.tt_game.specs.Keys.{key_of}
 use Rattle.tt_game.specs.SameKey.{same_key}
-use Rattle.tt_game.specs.laws.KeyLaws.{same_key_equiv, same_key_same}
-use Rattle.tt_proof.specs.Proven.{Proven}
+use Rattle.tt_game.specs.laws.KeyLaws.{same_key_is_equivalence, same_key_is_equality}
+use Rattle.tt_proof.specs.ProofClaim.{ProofClaim}
 use Rattle.tt_proof.specs.Nodes.{nodes}
 use Rattle.tt_share.specs.inside.Slots.{slots_at, IsIndexOf}
 use Rattle.tt_share.specs.Table.{slots_from, slots_of, nodes_of}
@@ -27,13 +27,13 @@ snoc_at : (b : Bool) (slots : List ℕ) (m n : ℕ) → m ≡ n → cond b (slot
 snoc_at b slots m n e = ap (λ i. cond b (slots ++ i ∷ []) slots) e
 
 -- with one more slot at the key of one more proof, an index stays one
-pub index-snoc : {S : Type 0} (old new : HashMap Key (Vec ℕ Global) S) (ps : List Proven) (p : Proven) (key : Key) (slot : ℕ) → slot ≡ length ps → key ≡ key_of p.frame p.state → IsIndexOf old ps
+pub index-snoc : {S : Type 0} (old new : HashMap Key (Vec ℕ Global) S) (ps : List ProofClaim) (p : ProofClaim) (key : Key) (slot : ℕ) → slot ≡ length ps → key ≡ key_of p.frame p.state → IsIndexOf old ps
     → ((q : Key) → slots_at same_key new q ≡ cond (same_key key q) (slots_at same_key old q ++ slot ∷ []) (slots_at same_key old q))
     → IsIndexOf new (ps ++ p ∷ [])
 index-snoc old new ps p key slot at same was step q =
-    let test = λ (d : Proven). same_key q (key_of d.frame d.state) in
+    let test = λ (d : ProofClaim). same_key q (key_of d.frame d.state) in
     let e = slots-snoc test 0 ps p in
-    let s : same_key key q ≡ test p = same_key_equiv.symm key q ∙ ap (λ k. same_key q k) same in
+    let s : same_key key q ≡ test p = same_key_is_equivalence.symm key q ∙ ap (λ k. same_key q k) same in
     step q
     ∙ ap (λ slots. cond (same_key key q) (slots ++ slot ∷ []) slots) (was q)
     ∙ ap (λ b. cond b (slots_from test 0 ps ++ slot ∷ []) (slots_from test 0 ps)) s
@@ -41,8 +41,8 @@ index-snoc old new ps p key slot at same was step q =
     ∙ sym e
 
 -- with one more tree, its nodes are added, up to the greatest number of 64 bits
-pub nodes-snoc : (ps : List Proven) (p : Proven) (total n : ℕ) → total ≡ nodes_of ps → n ≡ min (total + min (nodes p.tree) (2 ^ 64 - 1)) (2 ^ 64 - 1) → n ≡ nodes_of (ps ++ p ∷ [])
-nodes-snoc ps p total n was is = let e = sum_by-append (λ (d : Proven). nodes d.tree) ps (p ∷ []) in grind (arith, e)
+pub nodes-snoc : (ps : List ProofClaim) (p : ProofClaim) (total n : ℕ) → total ≡ nodes_of ps → n ≡ min (total + min (nodes p.tree) (2 ^ 64 - 1)) (2 ^ 64 - 1) → n ≡ nodes_of (ps ++ p ∷ [])
+nodes-snoc ps p total n was is = let e = sum_by-append (λ (d : ProofClaim). nodes d.tree) ps (p ∷ []) in grind (arith, e)
 
 -- one more element maps to one more
 pub map-snoc : {A B : Type 0} (f : A → B) (xs ys zs : List A) (x : A) → ys ≡ xs → zs ≡ ys ++ x ∷ [] → map f zs ≡ map f xs ++ f x ∷ []
@@ -79,13 +79,13 @@ slot_passes t n (y ∷ ys) x j i h at is =
     (λ k l inside at_k is_l. slot_passes t (n + 1) ys x k l inside at_k is_l) h at is
 
 -- a proof at a slot of the key has the key
-has_key : (k : Key) (ps : List Proven) (p : Proven) (j : ℕ) → j < length (slots_of k ps) → slice_get ps (get_or (slots_of k ps) j 0) ≡ Some p → key_of p.frame p.state ≡ k
+has_key : (k : Key) (ps : List ProofClaim) (p : ProofClaim) (j : ℕ) → j < length (slots_of k ps) → slice_get ps (get_or (slots_of k ps) j 0) ≡ Some p → key_of p.frame p.state ≡ k
 has_key k ps p j h is =
     let at = sym (zero-add (get_or (slots_of k ps) j 0)) in
-    sym (same_key_same k (key_of p.frame p.state) (slot_passes (λ (d : Proven). same_key k (key_of d.frame d.state)) 0 ps p j (get_or (slots_of k ps) j 0) h at is))
+    sym (same_key_is_equality k (key_of p.frame p.state) (slot_passes (λ (d : ProofClaim). same_key k (key_of d.frame d.state)) 0 ps p j (get_or (slots_of k ps) j 0) h at is))
 
 -- what stands at a slot of the key has the key
-pub has_key_at : {A : Type 0} (value : A → Proven) (k : Key) (xs : List A) (ps : List Proven) (x : A) (slots : List ℕ) (j : ℕ) → map value xs ≡ ps → slots ≡ slots_of k ps → j < length slots
+pub has_key_at : {A : Type 0} (value : A → ProofClaim) (k : Key) (xs : List A) (ps : List ProofClaim) (x : A) (slots : List ℕ) (j : ℕ) → map value xs ≡ ps → slots ≡ slots_of k ps → j < length slots
     → get_or slots j 0 < length xs → x ≡ get_or xs (get_or slots j 0) x → key_of (value x).frame (value x).state ≡ k
 has_key_at value k xs ps x slots j all are h inside is =
     let at : slice_get xs (get_or slots j 0) ≡ Some x = slice_get_read xs (length xs) (get_or slots j 0) x refl inside is in

@@ -10,7 +10,7 @@ use Rattle.std.proofs.lemmas.Option.{none-some, same_Some}
 use mathlib.Core.Logic.{dite}
 use native.Mathlib.Decide.{ℕ_discrete}
 use Rattle.tt_game.specs.Line.{LineWithUndo}
-use Rattle.tt_search.specs.Grants.{Asked}
+use Rattle.tt_search.specs.Grants.{GrantTally}
 use Rattle.tt_search.specs.declared.limits.Limits.{Limits}
 use Rattle.tt_share.specs.declared.jobs.JobResult.{JobResult}
 use Rattle.tt_share.specs.declared.desk.Closed.{Closed}
@@ -19,7 +19,7 @@ use Rattle.tt_share.specs.declared.workers.HandedBack.{HandedBack}
 use Rattle.tt_share.specs.Answers.{spent_in_all}
 use Rattle.tt_share.specs.inside.Jobs.{IsForTotal, end_of}
 use Rattle.tt_share.specs.inside.Results.{ResultsSoFar, HasTotal, IsAllSpent, SpendsTotal, AskedFor}
-use Rattle.tt_share.specs.Seats.{DeskView, SeatView, EndsOverdraw, EachOnce, Spends, Closes, granted_of, last_number, occurrences}
+use Rattle.tt_share.specs.Seats.{DeskView, SeatView, EndsInOverdraw, EachOnce, AreGrantsOfTotal, IsClosedWith, granted_among, last_number, occurrences_in_seats}
 use Rattle.tt_share.specs.inside.Tallies.{IsGranted, Tallies}
 use Rattle.tt_share.specs.inside.Workers.{times, spent_on, spent_by_all, held, held_in, AllApart, OnlyHandedBack, SomeTotal, IsWork}
 use Rattle.tt_share.proofs.Apart.{none_times, held_most}
@@ -70,14 +70,14 @@ nothing {A} (x ∷ xs) = let e = nothing xs in omega (arith, e, sum_by-cons (λ 
 abbrev refusal : ℕ → SeatView → ℕ
 refusal total s = cond (leb total (last_number s.grants)) 1 0
 
-refused_weighs : (total : ℕ) (s : SeatView) → EndsOverdraw total s.grants → refusal total s ≡ 1
+refused_weighs : (total : ℕ) (s : SeatView) → EndsInOverdraw total s.grants → refusal total s ≡ 1
 refused_weighs total s e = grind (arith, nat_tests, e)
 
-weighs_refused : (total : ℕ) (s : SeatView) → 0 < refusal total s → EndsOverdraw total s.grants
+weighs_refused : (total : ℕ) (s : SeatView) → 0 < refusal total s → EndsInOverdraw total s.grants
 weighs_refused total s e = grind (arith, nat_tests, e)
 
 -- a count that says that one was refused says so of a total
-pub refused_total : (total : Option ℕ) (grants : List ℕ) (count : ℕ) (refused : Bool) → Tallies total grants count refused → refused ≡ true → (n : ℕ) × (total ≡ Some n) × EndsOverdraw n grants
+pub refused_total : (total : Option ℕ) (grants : List ℕ) (count : ℕ) (refused : Bool) → Tallies total grants count refused → refused ≡ true → (n : ℕ) × (total ≡ Some n) × EndsInOverdraw n grants
 refused_total None grants count refused h up = absurd (true≢false (sym up ∙ h.0 refl))
 refused_total (Some n) grants count refused h up = (n, refl, (h.1 n refl).1 up)
 
@@ -89,14 +89,14 @@ refused_more found more f before after is this still was (i, g, at, stuck) = eli
   | inr h ↦ this (subst (λ (x : SearchedJob). IsForTotal (end_of x.end)) (sym h.1) stuck)
 ]
 
-most_one : (list : SeatView → List ℕ) (drawn : ℕ) (seats : List SeatView) → EachOnce list drawn seats → (job : ℕ) → occurrences list job seats ≤ 1
+most_one : (list : SeatView → List ℕ) (drawn : ℕ) (seats : List SeatView) → EachOnce list drawn seats → (job : ℕ) → occurrences_in_seats list job seats ≤ 1
 most_one list drawn seats once job = elim (cases_lt job drawn) [
   | inl h ↦ let e = once.below job h in omega (arith, e)
   | inr h ↦ let e = once.above job (omega arith) in omega (arith, e)
 ]
 
 -- of what one caller was granted, all is spent where some job is stuck for the total
-pub own_spent : (n : ℕ) (first last : ResultsSoFar) (before after : Asked) (total : Option ℕ) → first.ends ≡ replicate n None → spent_in_all first.spent ≡ 0
+pub own_spent : (n : ℕ) (first last : ResultsSoFar) (before after : GrantTally) (total : Option ℕ) → first.ends ≡ replicate n None → spent_in_all first.spent ≡ 0
     → before.granted ≡ 0 → IsGranted total after.granted after.refused → AskedFor first before last after → IsAllSpent total last
 own_spent n first last before after total blank unspent unasked granted h asked = elim (h.refused asked) [
   | inl was ↦ absurd (blank_none n was.0 was.1 (ap (λ (l : List (Option JobResult)). slice_get l was.0) (sym blank) ∙ was.2))
@@ -113,7 +113,7 @@ own_spent n first last before after total blank unspent unasked granted h asked 
 module _ (line : LineWithUndo) (limits : Limits) (desk : DeskView) (closed : Closed) (work : List HandedBack) (seats : List SeatView) (own : SeatView)
     (works : All (IsWork line limits desk) work)
     (backs : (weight : SeatView → ℕ) → sum_by weight seats ≡ sum_by (λ (b : HandedBack). weight b.seat) work)
-    (closes : Closes desk (seats ++ own ∷ []) closed) where
+    (closes : IsClosedWith desk (seats ++ own ∷ []) closed) where
   -- no job comes twice, as the desk gave out no number twice
   pub all_apart : (ends : List (Option JobResult)) → ends ≡ replicate desk.jobs None → AllApart ends work
   all_apart ends blank job = elim (cases_lt job desk.jobs) [
@@ -131,9 +131,9 @@ module _ (line : LineWithUndo) (limits : Limits) (desk : DeskView) (closed : Clo
   ]
 
   -- what all searches expanded is what all seats were granted
-  spent_granted : (total : ℕ) → desk.total ≡ Some total → spent_by_all work ≡ sum_by (λ (s : SeatView). granted_of total s.grants) seats
+  spent_granted : (total : ℕ) → desk.total ≡ Some total → spent_by_all work ≡ sum_by (λ (s : SeatView). granted_among total s.grants) seats
   spent_granted total is =
-      let weight = λ (s : SeatView). granted_of total s.grants in
+      let weight = λ (s : SeatView). granted_among total s.grants in
       let less = sum_most (IsWork line limits desk) (λ (b : HandedBack). spent_on b.searched.items) (λ (b : HandedBack). weight b.seat) work
       (λ b w. let e = w.spent total is in omega (arith, e)) works in
       let more = sum_most (IsWork line limits desk) (λ (b : HandedBack). weight b.seat) (λ (b : HandedBack). spent_on b.searched.items) work
@@ -141,19 +141,20 @@ module _ (line : LineWithUndo) (limits : Limits) (desk : DeskView) (closed : Clo
       omega (arith, less, more, backs weight)
 
   -- a worker's seat that was refused is among the seats
-  refused_there : (i : ℕ) (b : HandedBack) (total : ℕ) → slice_get work i ≡ Some b → EndsOverdraw total b.seat.grants → (s : SeatView) × Contains (seats ++ own ∷ []) s × EndsOverdraw total s.grants
+  refused_there : (i : ℕ) (b : HandedBack) (total : ℕ) → slice_get work i ≡ Some b → EndsInOverdraw total b.seat.grants
+      → (s : SeatView) × Contains (seats ++ own ∷ []) s × EndsInOverdraw total s.grants
   refused_there i b total at overdraw =
       let one = weighs (λ (c : HandedBack). refusal total c.seat) work i b at in
       let some_seat = some_weighs (refusal total) (seats ++ own ∷ [])
       (omega (arith, one, refused_weighs total b.seat overdraw, backs (refusal total), sum_by_push (refusal total) seats own)) in
       (some_seat.0, some_seat.1, weighs_refused total some_seat.0 some_seat.2)
 
-  module _ (first mid last : ResultsSoFar) (before : Asked) (count : ℕ) (refused : Bool) (none : before.granted ≡ 0) (blank : first.ends ≡ replicate desk.jobs None)
+  module _ (first mid last : ResultsSoFar) (before : GrantTally) (count : ℕ) (refused : Bool) (none : before.granted ≡ 0) (blank : first.ends ≡ replicate desk.jobs None)
       (unspent : spent_in_all first.spent ≡ 0)
       (gathered : AllApart first.ends work → spent_in_all mid.spent ≡ spent_in_all first.spent + spent_by_all work) (given : OnlyHandedBack first.ends mid.ends work)
       (asked : AskedFor mid before last (record { granted = count; refused = refused })) (tally : Tallies desk.total own.grants count refused) where
     -- some seat was refused where a job is stuck for the total
-    some_refused : HasTotal last.ends → (total : ℕ) × (desk.total ≡ Some total) × ((s : SeatView) × Contains (seats ++ own ∷ []) s × EndsOverdraw total s.grants)
+    some_refused : HasTotal last.ends → (total : ℕ) × (desk.total ≡ Some total) × ((s : SeatView) × Contains (seats ++ own ∷ []) s × EndsInOverdraw total s.grants)
     some_refused h = elim (asked.refused h) [
       | inr up ↦ let t = refused_total desk.total own.grants count refused tally up in (t.0, t.1, (own, Contains-push seats own, t.2))
       | inl was ↦ elim (given was.0 was.1 was.2) [
@@ -167,15 +168,15 @@ module _ (line : LineWithUndo) (limits : Limits) (desk : DeskView) (closed : Clo
       ]
     ]
 
-    spends : (total : ℕ) → desk.total ≡ Some total → Spends total closed.granted (seats ++ own ∷ [])
-    spends total is = subst (λ (o : Option ℕ). MatchOption o (closed.granted ≡ 0) (λ n. Spends n closed.granted (seats ++ own ∷ []))) is closes.granted
+    spends : (total : ℕ) → desk.total ≡ Some total → AreGrantsOfTotal total closed.granted (seats ++ own ∷ [])
+    spends total is = subst (λ (o : Option ℕ). MatchOption o (closed.granted ≡ 0) (λ n. AreGrantsOfTotal n closed.granted (seats ++ own ∷ []))) is closes.granted
 
     -- what is spent is what was granted
     spent_is : (total : ℕ) → desk.total ≡ Some total → spent_in_all last.spent ≡ closed.granted
     spent_is total is =
         let granted = (spends total is).granted_is in
         let caller = (tally.1 total is).0 in
-        let seats_and_own = sum_by_push (λ (s : SeatView). granted_of total s.grants) seats own in
+        let seats_and_own = sum_by_push (λ (s : SeatView). granted_among total s.grants) seats own in
         omega (arith, none, granted, caller, seats_and_own, spent_granted total is, gathered (all_apart first.ends blank), unspent, asked.spent)
 
     -- no more than the total is spent, and all of it where some job is stuck for it

@@ -4,17 +4,17 @@ use Rattle.std.proofs.lemmas.Bool.{false≢true}
 use Rattle.std.specs.Option.{option_map}
 use Rattle.tt_game.specs.declared.frame.Side.{Side}
 use Rattle.tt_game.specs.Line.{LineWithUndo}
-use Rattle.tt_proof.specs.Proven.{Proven}
+use Rattle.tt_proof.specs.ProofClaim.{ProofClaim}
 use Rattle.tt_search.specs.Stores.{IsNewest}
-use Rattle.tt_share.specs.Log.{Ticket, newest_first, HasNewest}
+use Rattle.tt_share.specs.Log.{TokenState, newest_first, HasNewest}
 
-newest_of : {A : Type 0} (value : A → Proven) (line : LineWithUndo) (side : Side) (tokens : List Ticket) (o : Option A) → IsNewest line side (newest_first tokens) (option_map value o)
+newest_of : {A : Type 0} (value : A → ProofClaim) (line : LineWithUndo) (side : Side) (tokens : List TokenState) (o : Option A) → IsNewest line side (newest_first tokens) (option_map value o)
     → IsSome o → HasNewest line side tokens
 newest_of value line side tokens (Some x) newest some = (value x, newest)
 newest_of value line side tokens None newest some = absurd (false≢true some)
 
 -- where the newest proof of a view's tokens was found, there is one
-pub has_newest : {A : Type 0} (value : A → Proven) (line : LineWithUndo) (side : Side) (seen tokens : List Ticket) (o : Option A) → seen ≡ tokens
+pub has_newest : {A : Type 0} (value : A → ProofClaim) (line : LineWithUndo) (side : Side) (seen tokens : List TokenState) (o : Option A) → seen ≡ tokens
     → IsNewest line side (newest_first seen) (option_map value o) → IsSome o → HasNewest line side tokens
 has_newest value line side seen tokens o same newest some = subst (HasNewest line side) same (newest_of value line side seen o newest some)
 

@@ -5,14 +5,14 @@ use Rattle.std.proofs.lemmas.Option.{same_Some, none-some, slice_get_within, sli
 use Rattle.tt_game.specs.declared.frame.Side.{Side}
 use Rattle.tt_game.specs.declared.frame.Side.TheVariants.{Attacker, Defender}
 use Rattle.tt_game.specs.Game.{opponent}
-use Rattle.tt_proof.specs.Proven.{Proven}
+use Rattle.tt_proof.specs.ProofClaim.{ProofClaim}
 use Rattle.tt_search.specs.declared.limits.Limits.{Limits}
 use Rattle.tt_share.specs.declared.jobs.JobResult.{JobResult}
 use Rattle.tt_share.specs.declared.jobs.JobResult.TheVariants as result
 use Rattle.tt_search.specs.declared.search.End.{End}
 use Rattle.tt_search.specs.declared.search.End.TheVariants.{Settled, Stuck}
 use Rattle.tt_search.specs.declared.limits.Reason.{Reason}
-use Rattle.tt_search.specs.Searched.{Searched}
+use Rattle.tt_search.specs.SearchState.{SearchState}
 use Rattle.tt_game.specs.declared.turns.Turn.{Turn}
 use Rattle.tt_game.specs.Line.{LineWithUndo}
 use Rattle.tt_game.specs.Turns.{legal_turns}
@@ -100,21 +100,21 @@ all_filled side ends none ready = elim ready [
 ]
 
 -- a result that ends so is stuck
-pub stuck_of : (end : JobResult) (reason : Reason) (search : Option Searched) → end_of end ≡ Stuck reason search → IsStuck end
+pub stuck_of : (end : JobResult) (reason : Reason) (search : Option SearchState) → end_of end ≡ Stuck reason search → IsStuck end
 stuck_of (result.Settled p) reason search is = cc
 stuck_of (result.Stuck r s) reason search is = tt
 stuck_of result.Dropped reason search is = tt
 stuck_of result.NoMemory reason search is = tt
 
 -- a result that ends with a proof is that proof
-pub settled_of : (end : JobResult) (p : Proven) → end_of end ≡ Settled p → end ≡ result.Settled p
-settled_of (result.Settled q) p is = let same : q ≡ p = cc in ap (λ (x : Proven). result.Settled x) same
+pub settled_of : (end : JobResult) (p : ProofClaim) → end_of end ≡ Settled p → end ≡ result.Settled p
+settled_of (result.Settled q) p is = let same : q ≡ p = cc in ap (λ (x : ProofClaim). result.Settled x) same
 settled_of (result.Stuck r s) p is = absurd cc
 settled_of result.Dropped p is = absurd cc
 settled_of result.NoMemory p is = absurd cc
 
 -- a least stuck job is stuck
-pub stuck_there : (ends : List (Option JobResult)) (job : ℕ) (reason : Reason) (search : Option Searched) → IsLeastStuck ends job reason search → IsStuckAt ends job
+pub stuck_there : (ends : List (Option JobResult)) (job : ℕ) (reason : Reason) (search : Option SearchState) → IsLeastStuck ends job reason search → IsStuckAt ends job
 stuck_there ends job reason search least = (least.stuck.0, least.stuck.1, stuck_of least.stuck.0 reason search least.stuck.2)
 
 -- there is one least win
@@ -135,7 +135,7 @@ same_turn side ends turns i t least at job turn win is =
     at ∙ get_or_from_slice_get turns i turn t (subst (λ n. slice_get turns n ≡ Some turn) same is)
 
 -- there is one least stuck job
-pub stuck_same : (ends : List (Option JobResult)) (i job : ℕ) (reason : Reason) (search : Option Searched) → IsStuckAt ends i → ((k : ℕ) → k < i → ¬ IsStuckAt ends k)
+pub stuck_same : (ends : List (Option JobResult)) (i job : ℕ) (reason : Reason) (search : Option SearchState) → IsStuckAt ends i → ((k : ℕ) → k < i → ¬ IsStuckAt ends k)
     → IsLeastStuck ends job reason search → i ≡ job
 stuck_same ends i job reason search here lesser least = elim (cases_lt i job) [
   | inl h ↦ absurd (least.least (i, h, here))
@@ -146,7 +146,7 @@ stuck_same ends i job reason search here lesser least = elim (cases_lt i job) [
 ]
 
 -- and it says one thing
-pub same_stuck : (line : LineWithUndo) (ends : List (Option JobResult)) (i job : ℕ) (t turn : Turn) (r reason : Reason) (o search : Option Searched) (end : JobResult) → i ≡ job → HasEnd ends i end
+pub same_stuck : (line : LineWithUndo) (ends : List (Option JobResult)) (i job : ℕ) (t turn : Turn) (r reason : Reason) (o search : Option SearchState) (end : JobResult) → i ≡ job → HasEnd ends i end
     → end_of end ≡ Stuck r o → IsLeastStuck ends job reason search → IsJob line i t → IsJob line job turn → (t ≡ turn) × (r ≡ reason) × (o ≡ search)
 same_stuck line ends i job t turn r reason o search end same here is least at_i at_job =
     let other = least.stuck.0 in
@@ -160,7 +160,7 @@ same_stuck line ends i job t turn r reason o search end same here is least at_i 
     (a, b, d)
 
 -- a job whose result is a proof isn't stuck
-pub settled_here : (ends : List (Option JobResult)) (i : ℕ) (end : JobResult) (p : Proven) → HasEnd ends i end → end_of end ≡ Settled p → ¬ IsStuckAt ends i
+pub settled_here : (ends : List (Option JobResult)) (i : ℕ) (end : JobResult) (p : ProofClaim) → HasEnd ends i end → end_of end ≡ Settled p → ¬ IsStuckAt ends i
 settled_here ends i end p here is stuck =
     let same : stuck.0 ≡ end = same_Some stuck.0 end (same_Some (Some stuck.0) (Some end) (sym stuck.1 ∙ here)) in
     subst IsStuck (same ∙ settled_of end p is) stuck.2
@@ -194,7 +194,7 @@ other_side Defender Attacker other = refl
 other_side Defender Defender other = absurd (other refl)
 
 -- where no job has a win each proof is the opponent's
-pub lost_side : (side : Side) (ends : List (Option JobResult)) (i : ℕ) (end : JobResult) (p : Proven) → NoWin side ends → end_of end ≡ Settled p → HasEnd ends i end → p.side ≡ opponent side
+pub lost_side : (side : Side) (ends : List (Option JobResult)) (i : ℕ) (end : JobResult) (p : ProofClaim) → NoWin side ends → end_of end ≡ Settled p → HasEnd ends i end → p.side ≡ opponent side
 lost_side side ends i end p none is here = other_side p.side side (λ same. none i (result.Settled p, subst (HasEnd ends i) (settled_of end p is) here, same))
 
 -- a win stands within the list

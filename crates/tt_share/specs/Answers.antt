@@ -8,26 +8,26 @@ use Rattle.tt_game.specs.Game.{State, IsLegal, after, opponent, Forces}
 use Rattle.tt_game.specs.Line.{LineWithUndo}
 use Rattle.tt_game.specs.Turns.{turn_number, legal_turns}
 use Rattle.tt_proof.specs.Strategy.{depth}
-use Rattle.tt_proof.specs.Proven.{Proven, StandsAt, first_of}
+use Rattle.tt_proof.specs.ProofClaim.{ProofClaim, StandsAt, first_turn_of}
 use Rattle.tt_search.specs.declared.limits.Limits.{Limits}
 use Rattle.tt_search.specs.declared.limits.Reason.{Reason}
 use Rattle.tt_search.specs.declared.limits.Reason.TheVariants.{Budget, Depth, Total, Memory}
 use Rattle.tt_search.specs.Numbers.{count}
 use Rattle.tt_search.specs.Growing.{IsGrown}
-use Rattle.tt_search.specs.Searched.{Searched, IsStuckFor}
+use Rattle.tt_search.specs.SearchState.{SearchState, IsStuckFor}
 use Rattle.tt_share.specs.declared.answer.Answer.{Answer}
 use Rattle.tt_share.specs.declared.answer.Answer.TheVariants.{Settled, Unsettled}
 use Rattle.tt_share.specs.declared.answer.Stuck.{Stuck}
 
 -- the proof stands at the line, within the limit on depth; its first turn is there exactly where its side is to move
-pub record IsSettled (line : LineWithUndo) (limits : Limits) (p : Proven) (first : Option Turn) : Type 0 where
+pub record IsSettledAnswer (line : LineWithUndo) (limits : Limits) (p : ProofClaim) (first : Option Turn) : Type 0 where
   pub stands : StandsAt p line.frame line.state
   pub shallow : depth p.tree ≤ limits.depth
-  pub first_is : first ≡ first_of p.tree
+  pub first_is : first ≡ first_turn_of p.tree
   pub shown : IsSome first ↔ (p.side ≡ line.state.to_move)
 
 -- the search is on the line after the turn, under the same budget and a depth one less
-pub record IsBehind (line : LineWithUndo) (limits : Limits) (t : Turn) (search : Searched) : Type 0 where
+pub record IsSearchAfter (line : LineWithUndo) (limits : Limits) (t : Turn) (search : SearchState) : Type 0 where
   pub frame : search.line.frame ≡ line.frame
   pub state : search.line.state ≡ after line.frame line.state t
   pub budget : search.limits.budget ≡ limits.budget
@@ -36,14 +36,14 @@ pub record IsBehind (line : LineWithUndo) (limits : Limits) (t : Turn) (search :
 -- some search behind the turn is grown from there and has so many expanded nodes
 abbrev pub IsCountAfter : LineWithUndo → Limits → Turn → ℕ → Type 0
 IsCountAfter line limits t n =
-    (search : Searched) × IsBehind line limits t search × IsGrown search.limits search.line.frame search.line.state search.tree × (count search.tree ≡ n)
+    (search : SearchState) × IsSearchAfter line limits t search × IsGrown search.limits search.line.frame search.line.state search.tree × (count search.tree ≡ n)
 
 -- how many nodes are expanded in all
 abbrev pub spent_in_all : List (Turn × ℕ) → ℕ
 spent_in_all spent = sum_by (λ (e : Turn × ℕ). e.1) spent
 
 -- How a total was spent, where the search is behind the turn
-pub record IsSpent (line : LineWithUndo) (limits : Limits) (total : ℕ) (t : Turn) (search : Searched) (spent : List (Turn × ℕ)) : Type 0 where
+pub record IsTotalSpent (line : LineWithUndo) (limits : Limits) (total : ℕ) (t : Turn) (search : SearchState) (spent : List (Turn × ℕ)) : Type 0 where
   -- each legal turn is there, in rising order
   pub turns : map (λ (e : Turn × ℕ). e.0) spent ≡ legal_turns line.frame line.state
   -- each with the count of a grown search behind it, under the same budget and a depth one less
@@ -54,43 +54,43 @@ pub record IsSpent (line : LineWithUndo) (limits : Limits) (total : ℕ) (t : Tu
   pub in_all : spent_in_all spent ≡ total
 
 -- what is told of the counts: all of them where the total is spent, and else nothing
-abbrev pub spent_shown_of : Reason → List (Turn × ℕ) → List (Turn × ℕ)
-spent_shown_of Budget spent = []
-spent_shown_of Depth spent = []
-spent_shown_of Total spent = spent
-spent_shown_of Memory spent = []
+abbrev pub spent_if_total_of : Reason → List (Turn × ℕ) → List (Turn × ℕ)
+spent_if_total_of Budget spent = []
+spent_if_total_of Depth spent = []
+spent_if_total_of Total spent = spent
+spent_if_total_of Memory spent = []
 
 -- after each legal turn of a lesser number the side that is not to move can force its win
-abbrev pub LesserLose : Frame → State → Turn → Type 0
-LesserLose f s t =
+abbrev pub LesserTurnsLose : Frame → State → Turn → Type 0
+LesserTurnsLose f s t =
     (u : Turn) → IsLegal f s u → turn_number f u < turn_number f t → (n : ℕ) × Forces f (opponent s.to_move) n (after f s u)
 
 -- the turn is legal, the grown search behind it is stuck for the reason, and the lesser turns lose
-pub record IsStuckBehind (line : LineWithUndo) (limits : Limits) (reason : Reason) (t : Turn) (search : Searched) : Type 0 where
+pub record IsStuckAfter (line : LineWithUndo) (limits : Limits) (reason : Reason) (t : Turn) (search : SearchState) : Type 0 where
   pub legal : IsLegal line.frame line.state t
-  pub behind : IsBehind line limits t search
+  pub behind : IsSearchAfter line limits t search
   pub grown : IsGrown search.limits search.line.frame search.line.state search.tree
   pub stuck_for : IsStuckFor reason search
-  pub lesser_lose : LesserLose line.frame line.state t
+  pub lesser_lose : LesserTurnsLose line.frame line.state t
 
 -- memory was refused: outside a job the turn is a pass and no search is held, inside one it is the job's, and the lesser
 -- turns lose; a search that is held is behind that turn
 pub record IsStuckForMemory (line : LineWithUndo) (limits : Limits) (stuck : Stuck) : Type 0 where
-  pub turn : ((stuck.turn ≡ Pass) × (stuck.search ≡ None)) ⊎ (IsLegal line.frame line.state stuck.turn × LesserLose line.frame line.state stuck.turn)
-  pub behind : (search : Searched) → stuck.search ≡ Some search → IsBehind line limits stuck.turn search × IsGrown search.limits search.line.frame search.line.state search.tree
+  pub turn : ((stuck.turn ≡ Pass) × (stuck.search ≡ None)) ⊎ (IsLegal line.frame line.state stuck.turn × LesserTurnsLose line.frame line.state stuck.turn)
+  pub behind : (search : SearchState) → stuck.search ≡ Some search → IsSearchAfter line limits stuck.turn search × IsGrown search.limits search.line.frame search.line.state search.tree
 
 -- the search that is held is stuck behind the turn, or memory was refused; it is stuck for the total only where there is one, and
 -- then all of it is spent
-abbrev pub IsUnsettled : LineWithUndo → Limits → Option ℕ → Reason → Stuck → Type 0
-IsUnsettled line limits total Budget stuck =
-    (search : Searched) × (stuck.search ≡ Some search) × IsStuckBehind line limits Budget stuck.turn search × (stuck.spent.items ≡ [])
-IsUnsettled line limits total Depth stuck =
-    (search : Searched) × (stuck.search ≡ Some search) × IsStuckBehind line limits Depth stuck.turn search × (stuck.spent.items ≡ [])
-IsUnsettled line limits total Total stuck = (n : ℕ) × (total ≡ Some n) × (search : Searched) × (stuck.search ≡ Some search)
-    × IsStuckBehind line limits Total stuck.turn search × IsSpent line limits n stuck.turn search stuck.spent.items
-IsUnsettled line limits total Memory stuck = IsStuckForMemory line limits stuck × (stuck.spent.items ≡ [])
+abbrev pub IsUnsettledAnswer : LineWithUndo → Limits → Option ℕ → Reason → Stuck → Type 0
+IsUnsettledAnswer line limits total Budget stuck =
+    (search : SearchState) × (stuck.search ≡ Some search) × IsStuckAfter line limits Budget stuck.turn search × (stuck.spent.items ≡ [])
+IsUnsettledAnswer line limits total Depth stuck =
+    (search : SearchState) × (stuck.search ≡ Some search) × IsStuckAfter line limits Depth stuck.turn search × (stuck.spent.items ≡ [])
+IsUnsettledAnswer line limits total Total stuck = (n : ℕ) × (total ≡ Some n) × (search : SearchState) × (stuck.search ≡ Some search)
+    × IsStuckAfter line limits Total stuck.turn search × IsTotalSpent line limits n stuck.turn search stuck.spent.items
+IsUnsettledAnswer line limits total Memory stuck = IsStuckForMemory line limits stuck × (stuck.spent.items ≡ [])
 
 -- a proof of the line and its first turn, or what is stuck
 abbrev pub IsAnswer : LineWithUndo → Limits → Option ℕ → Answer → Type 0
-IsAnswer line limits total (Settled proof first) = IsSettled line limits (arc_value proof) first
-IsAnswer line limits total (Unsettled stuck) = IsUnsettled line limits total stuck.reason stuck
+IsAnswer line limits total (Settled proof first) = IsSettledAnswer line limits (arc_value proof) first
+IsAnswer line limits total (Unsettled stuck) = IsUnsettledAnswer line limits total stuck.reason stuck

@@ -17,28 +17,28 @@ abbrev pub fresh_knowledge : ℕ → SeatKnowledge
 fresh_knowledge seat_count = knowledge_of seat_count [] [] false false
 
 -- what the one seat of a new desk knows
-abbrev pub first_knowledge : DeskSize → SeatKnowledge
-first_knowledge plan = fresh_knowledge plan.seats
+abbrev pub first_seat_knowledge : DeskSize → SeatKnowledge
+first_seat_knowledge plan = fresh_knowledge plan.seats
 
 -- what a seat knows when it is handed out
-abbrev pub handed_out_knowledge : SeatKnowledge
-handed_out_knowledge = fresh_knowledge 1
+abbrev pub new_seat_knowledge : SeatKnowledge
+new_seat_knowledge = fresh_knowledge 1
 
 -- what a join leaves behind
 abbrev pub no_knowledge : SeatKnowledge
 no_knowledge = fresh_knowledge 0
 
-abbrev pub fewer : SeatKnowledge → SeatKnowledge
-fewer v = knowledge_of (v.seat_count - 1) v.numbers v.grants v.flag v.saw_flag
+abbrev pub knowledge_less_one_seat : SeatKnowledge → SeatKnowledge
+knowledge_less_one_seat v = knowledge_of (v.seat_count - 1) v.numbers v.grants v.flag v.saw_flag
 
-abbrev pub joined : SeatKnowledge → SeatKnowledge → SeatKnowledge
-joined v w = knowledge_of (v.seat_count + w.seat_count) (v.numbers ++ w.numbers) (v.grants ++ w.grants) (v.flag || w.flag) (v.saw_flag || w.saw_flag)
+abbrev pub joined_knowledge : SeatKnowledge → SeatKnowledge → SeatKnowledge
+joined_knowledge v w = knowledge_of (v.seat_count + w.seat_count) (v.numbers ++ w.numbers) (v.grants ++ w.grants) (v.flag || w.flag) (v.saw_flag || w.saw_flag)
 
-abbrev pub with_draw : SeatKnowledge → ℕ → SeatKnowledge
-with_draw v n = knowledge_of v.seat_count (v.numbers ++ n ∷ []) v.grants v.flag v.saw_flag
+abbrev pub knowledge_with_draw : SeatKnowledge → ℕ → SeatKnowledge
+knowledge_with_draw v n = knowledge_of v.seat_count (v.numbers ++ n ∷ []) v.grants v.flag v.saw_flag
 
-abbrev pub with_grant : SeatKnowledge → ℕ → SeatKnowledge
-with_grant v n = knowledge_of v.seat_count v.numbers (v.grants ++ n ∷ []) v.flag v.saw_flag
+abbrev pub knowledge_with_grant : SeatKnowledge → ℕ → SeatKnowledge
+knowledge_with_grant v n = knowledge_of v.seat_count v.numbers (v.grants ++ n ∷ []) v.flag v.saw_flag
 
 abbrev pub with_flag_raised : SeatKnowledge → SeatKnowledge
 with_flag_raised v = knowledge_of v.seat_count v.numbers v.grants true v.saw_flag
@@ -65,13 +65,13 @@ SomeSeat P knowledge = (seat : ℕ) × (v : SeatKnowledge) × (get_elem? knowled
 
 -- The numbers in the seats' lists are those below `count`, each once: however numbers are weighed, both weigh the same.
 -- A seat knows at most as many numbers not below the limit as it stands for seats; where it stands for one, its numbers rise
-pub record EachNumberOnce (numbers : SeatKnowledge → List ℕ) (limit count : ℕ) (knowledge : List SeatKnowledge) : Type 0 where
+pub record AreDealtNumbers (numbers : SeatKnowledge → List ℕ) (limit count : ℕ) (knowledge : List SeatKnowledge) : Type 0 where
   pub each_once : (weight : ℕ → ℕ) → sum_by (λ v. sum_by weight (numbers v)) knowledge ≡ sum_below weight count
   pub spares : EachSeat (λ v. overdraw_count limit (numbers v) ≤ v.seat_count) knowledge
   pub rising : EachSeat (λ v. v.seat_count ≡ 1 → IsStrictlyIncreasing (numbers v)) knowledge
 
 -- the flag is raised only where some seat raised it, and where a seat raised it or saw it, it is
-pub record IsFlag (flag : ℕ) (knowledge : List SeatKnowledge) : Type 0 where
+pub record IsFlagOfSeats (flag : ℕ) (knowledge : List SeatKnowledge) : Type 0 where
   pub bit : flag ≤ 1
   pub raised : flag ≡ 1 → SomeSeat (λ v. v.flag ≡ true) knowledge
   pub known : EachSeat (λ v. (v.flag || v.saw_flag) ≡ true → flag ≡ 1) knowledge
@@ -80,13 +80,13 @@ pub record IsFlag (flag : ℕ) (knowledge : List SeatKnowledge) : Type 0 where
 pub record IsDesk (plan : DeskSize) (drawn flag asked : ℕ) (knowledge : List SeatKnowledge) : Type 0 where
   pub seat_count : sum_by (λ v. v.seat_count) knowledge ≡ plan.seats
   pub spent : EachSeat (λ v. v.seat_count ≡ 0 → v ≡ no_knowledge) knowledge
-  pub draws : EachNumberOnce (λ v. v.numbers) plan.jobs drawn knowledge
-  pub marked : IsFlag flag knowledge
-  pub grants : EachNumberOnce (λ v. v.grants) plan.total asked knowledge
+  pub draws : AreDealtNumbers (λ v. v.numbers) plan.jobs drawn knowledge
+  pub marked : IsFlagOfSeats flag knowledge
+  pub grants : AreDealtNumbers (λ v. v.grants) plan.total asked knowledge
 
 -- What holds between any two steps: the first word counts the draws, the second is the flag, and the third counts the asks
-abbrev pub DeskHolds : DeskSize → State (Unit {0}) SeatKnowledge → Type 0
-DeskHolds plan s = (drawn : ℕ) × (flag : ℕ) × (asked : ℕ) × (s.words ≡ drawn ∷ flag ∷ asked ∷ []) × IsDesk plan drawn flag asked s.views
+abbrev pub IsDeskInvariant : DeskSize → State (Unit {0}) SeatKnowledge → Type 0
+IsDeskInvariant plan s = (drawn : ℕ) × (flag : ℕ) × (asked : ℕ) × (s.words ≡ drawn ∷ flag ∷ asked ∷ []) × IsDesk plan drawn flag asked s.views
 
 abbrev pub SeatState : Type 0
 SeatState = Me (Unit {0}) SeatKnowledge
@@ -95,16 +95,16 @@ SeatState = Me (Unit {0}) SeatKnowledge
 abbrev pub CanFollow : List ℕ → ℕ → Type 0
 CanFollow numbers n = IsStrictlyIncreasing (numbers ++ n ∷ []) × (length numbers ≤ n)
 
-abbrev pub Draws : SeatState → ℕ → SeatState → Type 0
-Draws before found after = (after ≡ (with_draw before.0 found, before.1)) × CanFollow before.0.numbers found
+abbrev pub DrawsNumber : SeatState → ℕ → SeatState → Type 0
+DrawsNumber before found after = (after ≡ (knowledge_with_draw before.0 found, before.1)) × CanFollow before.0.numbers found
 
-abbrev pub AsksForGrant : SeatState → ℕ → SeatState → Type 0
-AsksForGrant before found after = (after ≡ (with_grant before.0 found, before.1)) × CanFollow before.0.grants found
+abbrev pub AsksGrant : SeatState → ℕ → SeatState → Type 0
+AsksGrant before found after = (after ≡ (knowledge_with_grant before.0 found, before.1)) × CanFollow before.0.grants found
 
-abbrev pub Raises : SeatState → SeatState → Type 0
-Raises before after = after ≡ (with_flag_raised before.0, before.1)
+abbrev pub RaisesFlag : SeatState → SeatState → Type 0
+RaisesFlag before after = after ≡ (with_flag_raised before.0, before.1)
 
 -- what was found is seen, and where this seat raised or saw the flag before, it was found
-abbrev pub Looks : SeatState → ℕ → SeatState → Type 0
-Looks before found after =
+abbrev pub LooksAtFlag : SeatState → ℕ → SeatState → Type 0
+LooksAtFlag before found after =
     (after ≡ (with_look before.0 (nat_eq found 1), before.1)) × ((before.0.flag || before.0.saw_flag) ≡ true → found ≡ 1)

@@ -4,18 +4,18 @@ use Rattle.std.specs.List.Sorted.{IsStrictlyIncreasing}
 use Rattle.atomic_table.specs.Table.{State}
 use Rattle.tt_share.specs.declared.desk.rule.SeatKnowledge.{SeatKnowledge}
 use Rattle.tt_share.specs.declared.desk.rule.DeskSize.{DeskSize}
-use Rattle.tt_share.specs.Desk.{EachSeat, SomeSeat, DeskHolds, overdraw_count, no_knowledge}
+use Rattle.tt_share.specs.Desk.{EachSeat, SomeSeat, IsDeskInvariant, overdraw_count, no_knowledge}
 
 -- how often the number stands in the seats' lists
-abbrev pub occurrences : (SeatKnowledge → List ℕ) → ℕ → List SeatKnowledge → ℕ
-occurrences list number knowledge = sum_by (λ v. count_by (λ n. nat_eq n number) (list v)) knowledge
+abbrev pub occurrences_in_seats : (SeatKnowledge → List ℕ) → ℕ → List SeatKnowledge → ℕ
+occurrences_in_seats list number knowledge = sum_by (λ v. count_by (λ n. nat_eq n number) (list v)) knowledge
 
 -- The word is the count of all numbers in all lists, and they are the numbers below it, each once.
 -- Where a seat stands for itself alone its numbers rise, and all but the last are below the limit
 pub record EachNumberBelowOnce (list : SeatKnowledge → List ℕ) (limit word : ℕ) (knowledge : List SeatKnowledge) : Type 0 where
   pub count : sum_by (λ v. length (list v)) knowledge ≡ word
-  pub below : (number : ℕ) → number < word → occurrences list number knowledge ≡ 1
-  pub above : (number : ℕ) → word ≤ number → occurrences list number knowledge ≡ 0
+  pub below : (number : ℕ) → number < word → occurrences_in_seats list number knowledge ≡ 1
+  pub above : (number : ℕ) → word ≤ number → occurrences_in_seats list number knowledge ≡ 0
   pub rising : EachSeat (λ v. v.seat_count ≡ 1 → IsStrictlyIncreasing (list v)) knowledge
   pub one_overdraw : EachSeat (λ v. v.seat_count ≡ 1 → (k : ℕ) → k + 1 < length (list v) → slice_index (list v) k < limit) knowledge
   pub spares : EachSeat (λ v. overdraw_count limit (list v) ≤ v.seat_count) knowledge
@@ -38,4 +38,4 @@ pub record IsDeskState (plan : DeskSize) (words : List ℕ) (knowledge : List Se
   pub grants : EachNumberBelowOnce (λ v. v.grants) plan.total (slice_index words 2) knowledge
 
 abbrev pub DeskLaw : Type 0
-DeskLaw = (plan : DeskSize) (s : State (Unit {0}) SeatKnowledge) → DeskHolds plan s → IsDeskState plan s.words s.views
+DeskLaw = (plan : DeskSize) (s : State (Unit {0}) SeatKnowledge) → IsDeskInvariant plan s → IsDeskState plan s.words s.views

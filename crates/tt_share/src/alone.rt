@@ -7,8 +7,8 @@ ghost use Rattle.tt_share.specs.inside.Results.{IsReady, IsAllSpent, KnowsNothin
 ghost use Rattle.tt_share.specs.inside.Tallies.{IsGranted};
 
 use crate::answer::Answer;
-use crate::answer::conclude::no_memory;
-use crate::answer::root_proof::{from_store, offer};
+use crate::answer::conclude::no_memory_answer;
+use crate::answer::root_proof::{answer_from_store, offer_answer};
 use crate::results::Results;
 use std::alloc::Global;
 use tt_game::Line;
@@ -37,7 +37,7 @@ impl OwnGrants {
     }
 
     /// Whether the total has one more.
-    fn has_more(&self) -> bool
+    fn has_grant_left(&self) -> bool
         ensures { MatchOption self.now.total (result ≡ true) (λ n. result ≡ ltb self.now.granted n) }
     {
         match self.total {
@@ -58,7 +58,7 @@ impl Grants for OwnGrants {
         if self.refused {
             return false;
         }
-        let granted = self.has_more();
+        let granted = self.has_grant_left();
         if granted {
             self.granted += 1;
         } else {
@@ -77,7 +77,7 @@ impl Grants for OwnGrants {
 }
 
 /// The results of the line's jobs, none of them known yet; or the answer, where the store has one or memory was refused.
-pub(crate) fn begin<'a, S: Store>(
+pub(crate) fn results_or_answer<'a, S: Store>(
     alloc: Global,
     line: &'a Line,
     limits: &Limits,
@@ -90,14 +90,14 @@ pub(crate) fn begin<'a, S: Store>(
     ensures blank { IfOk result (λ r. KnowsNothing r) }
     ensures answer { (total : Option ℕ) → IfErr result (IsAnswer line.now limits.now total) }
 {
-    match from_store(alloc, line, *limits, store) {
+    match answer_from_store(alloc, line, *limits, store) {
         Ok(Some(answer)) => return Err(answer),
         Ok(None) => {}
-        Err(_) => return Err(no_memory(alloc)),
+        Err(_) => return Err(no_memory_answer(alloc)),
     }
     match Results::of(alloc, line, *limits) {
         Ok(results) => Ok(results),
-        Err(_) => Err(no_memory(alloc)),
+        Err(_) => Err(no_memory_answer(alloc)),
     }
 }
 
@@ -108,10 +108,10 @@ pub(crate) fn finish<S: Store>(alloc: Global, results: Results<'_>, store: &mut 
 {
     match results.conclude() {
         Ok(answer) => {
-            offer(&answer, store);
+            offer_answer(&answer, store);
             answer
         }
-        Err(_) => no_memory(alloc),
+        Err(_) => no_memory_answer(alloc),
     }
 }
 
@@ -130,10 +130,10 @@ pub fn solve_one<S: Store>(
     requires open { winner_of line.now.frame line.now.state ≡ None }
     ensures { IsAnswer line.now limits.now total result }
 {
-    match begin(alloc, line, limits, store) {
+    match results_or_answer(alloc, line, limits, store) {
         Ok(mut results) => {
             let mut grants = OwnGrants::new(total);
-            results.search_missing(store, &mut grants);
+            results.search_missing_until_win(store, &mut grants);
             finish(alloc, results, store)
         }
         Err(answer) => answer,

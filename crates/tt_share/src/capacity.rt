@@ -11,4 +11,4 @@ pub const MOST_KEPT: usize = 4096;
 pub(crate) const ROOM_BEFORE_A_PUSH: usize = 2 * MOST_WORKERS + 1;
 
 /// For how many pushes more a log makes room at once, where there isn't enough before a push.
-pub(crate) const ROOM_AT_ONCE: usize = 3;
+pub(crate) const EXTRA_ROOM_AT_ONCE: usize = 3;

@@ -8,18 +8,18 @@ ghost use Rattle.std.specs.Prelude.{IfOk, IfSome, IfNone, MatchOption, MatchResu
 ghost use Rattle.tt_game.specs.declared.turns.TheConstants.{MOST_LEGAL};
 ghost use Rattle.tt_share.specs.declared.capacity.TheConstants.{MOST_WORKERS};
 ghost use Rattle.tt_share.specs.Desk.{fresh_knowledge, knowledge_of};
-ghost use Rattle.tt_share.specs.Seats.{seat_of, fresh, EndsOverdraw, Adds, Gains, granted_of, Closes};
+ghost use Rattle.tt_share.specs.Seats.{seat_of, fresh_seat, EndsInOverdraw, SeatDraws, SeatAsksGrant, granted_among, IsClosedWith};
 ghost use Rattle.tt_share.specs.inside.Gathering.{Gathers};
 
 use crate::desk::rule::{
-    AtDesk, DeskSize, Draw, Grant, Look, Raise, SeatJoin, SeatKnowledge, SeatSplit,
+    DeskRule, DeskSize, Draw, FlagLook, FlagRaise, GrantRequest, SeatJoin, SeatKnowledge, SeatSplit,
 };
 use atomic_table::Table;
 use std::alloc::Global;
 use std::marker::Model;
 use tt_sgf::NoMemory;
 
-type Words = Table<(), SeatKnowledge, DeskSize, AtDesk, Global>;
+type Words = Table<(), SeatKnowledge, DeskSize, DeskRule, Global>;
 
 /// What a closed desk counted: the steps that all draws made, and the grants that it gave of its total, or 0 where it had
 /// none.
@@ -94,9 +94,9 @@ impl Seat {
         seat
     }
 
-    fn fresh_knowledge(seat: atomic_table::Seat<(), SeatKnowledge>) -> Seat
+    fn from_inner(seat: atomic_table::Seat<(), SeatKnowledge>) -> Seat
         requires { seat.me ≡ (fresh_knowledge 1, []) }
-        ensures { result ≡ fresh seat.table_id }
+        ensures { result ≡ fresh_seat seat.table_id }
     {
         Seat {
             seat,
@@ -117,18 +117,18 @@ fn split_seats(
     requires table { (first.table_id ≡ table.now.shared.table_id) × (0 < table.now.shared.table_id.words) }
     requires first { first.me ≡ (fresh_knowledge seats, []) }
     requires room { (all.items ≡ []) × (vec_capacity all ≡ seats) }
-    ensures { result.items ≡ replicate seats (fresh table.now.shared.table_id) }
+    ensures { result.items ≡ replicate seats (fresh_seat table.now.shared.table_id) }
 {
     for _ in 1..seats {
         let seat = table.shared.split_seat::<SeatSplit>(&mut first);
-        all.push_reserved(Seat::fresh_knowledge(seat));
+        all.push_reserved(Seat::from_inner(seat));
     }
-    all.push_reserved(Seat::fresh_knowledge(first));
+    all.push_reserved(Seat::from_inner(first));
     all
 }
 
 // Joins the seats to the last one.
-fn join_all(
+fn join_all_seats(
     table: &Words,
     last: Seat,
     mut seats: Vec<Seat>,
@@ -149,7 +149,7 @@ fn join_all(
 }
 
 // What was granted, of as many as were asked for.
-fn capped(asked: u64, total: Option<u32>) -> u64
+fn granted_of_total(asked: u64, total: Option<u32>) -> u64
     ensures { MatchOption total (result ≡ 0) (λ n. result ≡ min asked n) }
 {
     match total {
@@ -171,7 +171,7 @@ impl Desk {
         requires seats { (0 < seats) × (seats ≤ MOST_WORKERS + 1) }
         requires total { IfSome total (λ n. 0 < n) }
         ensures desk { IfOk result (λ r. (r.0.jobs ≡ jobs) × (r.0.seats ≡ seats) × (r.0.total ≡ total)) }
-        ensures seats { IfOk result (λ r. r.1.items ≡ replicate seats (fresh r.0.id)) }
+        ensures seats { IfOk result (λ r. r.1.items ≡ replicate seats (fresh_seat r.0.id)) }
     {
         let Ok(all) = Vec::with_capacity(alloc, seats) else {
             return Err(NoMemory);
@@ -198,10 +198,10 @@ impl Desk {
     /// seat got none, each later call on that seat answers none and makes no step. The seat is one of this desk's.
     pub fn draw(&self, s: &mut Seat) -> Option<usize>
         requires { s.old.desk ≡ self.now.id }
-        ensures spent { EndsOverdraw self.now.jobs s.old.numbers → (result ≡ None) × (s.new ≡ s.old) }
-        ensures draws { ¬ EndsOverdraw self.now.jobs s.old.numbers → (n : ℕ) × Adds self.now.jobs s.old n result s.new }
+        ensures spent { EndsInOverdraw self.now.jobs s.old.numbers → (result ≡ None) × (s.new ≡ s.old) }
+        ensures draws { ¬ EndsInOverdraw self.now.jobs s.old.numbers → (n : ℕ) × SeatDraws self.now.jobs s.old n result s.new }
         ensures some { IfSome result (λ n. (n < self.now.jobs) × (length s.old.numbers ≤ n) × (s.new.numbers ≡ s.old.numbers ++ n ∷ [])) }
-        ensures none { IfNone result (EndsOverdraw self.now.jobs s.new.numbers) }
+        ensures none { IfNone result (EndsInOverdraw self.now.jobs s.new.numbers) }
         ensures desk { s.new.desk ≡ s.old.desk }
         ensures jobs { 0 < self.now.jobs }
     {
@@ -222,7 +222,7 @@ impl Desk {
         requires { s.old.desk ≡ self.now.id }
         ensures { s.new ≡ seat_of s.old.desk s.old.numbers s.old.grants true s.old.saw_flag }
     {
-        self.table.shared.fetch_max::<Raise>(&mut s.seat, 1, 1);
+        self.table.shared.fetch_max::<FlagRaise>(&mut s.seat, 1, 1);
     }
 
     /// True only where some seat raised the flag, and always where this seat raised it or saw it before. It may be false
@@ -232,7 +232,7 @@ impl Desk {
         ensures saw_flag { s.new ≡ seat_of s.old.desk s.old.numbers s.old.grants s.old.flag (s.old.saw_flag || result) }
         ensures again { IsTrue (s.old.flag || s.old.saw_flag) → IsTrue result }
     {
-        self.table.shared.load::<Look>(&mut s.seat, 1) == 1
+        self.table.shared.load::<FlagLook>(&mut s.seat, 1) == 1
     }
 
     /// Whether one more of the desk's total was left, by one step. Once a seat was refused, each later call on that seat is
@@ -241,10 +241,10 @@ impl Desk {
     pub fn grant(&self, s: &mut Seat) -> bool
         requires { s.old.desk ≡ self.now.id }
         ensures unbounded { self.now.total ≡ None → (result ≡ true) × (s.new ≡ s.old) }
-        ensures spent { IfSome self.now.total (λ total. EndsOverdraw total s.old.grants → (result ≡ false) × (s.new ≡ s.old)) }
-        ensures grants { IfSome self.now.total (λ total. ¬ EndsOverdraw total s.old.grants → (n : ℕ) × Gains total s.old n result s.new) }
-        ensures tally { IfSome self.now.total (λ total. granted_of total s.new.grants ≡ granted_of total s.old.grants + cond result 1 0) }
-        ensures refused { IfSome self.now.total (λ total. result ≡ false → EndsOverdraw total s.new.grants) }
+        ensures spent { IfSome self.now.total (λ total. EndsInOverdraw total s.old.grants → (result ≡ false) × (s.new ≡ s.old)) }
+        ensures grants { IfSome self.now.total (λ total. ¬ EndsInOverdraw total s.old.grants → (n : ℕ) × SeatAsksGrant total s.old n result s.new) }
+        ensures tally { IfSome self.now.total (λ total. granted_among total s.new.grants ≡ granted_among total s.old.grants + cond result 1 0) }
+        ensures refused { IfSome self.now.total (λ total. result ≡ false → EndsInOverdraw total s.new.grants) }
         ensures stays { s.new ≡ seat_of s.old.desk s.old.numbers s.new.grants s.old.flag s.old.saw_flag }
         ensures desk { s.new.desk ≡ s.old.desk }
     {
@@ -254,7 +254,10 @@ impl Desk {
         if s.last_grant >= u64::from(total) {
             return false;
         }
-        let number = self.table.shared.fetch_add::<Grant>(&mut s.seat, 2, 1);
+        let number = self
+            .table
+            .shared
+            .fetch_add::<GrantRequest>(&mut s.seat, 2, 1);
         s.last_grant = number;
         number < u64::from(total)
     }
@@ -264,7 +267,7 @@ impl Desk {
     /// seats are this desk's.
     pub fn close(self, mut seats: Vec<Seat>) -> Result<Closed, (Desk, Vec<Seat>)>
         requires { All (λ s. s.desk ≡ self.id) seats.items }
-        ensures { MatchResult result (λ closed. Closes self seats.items closed) (λ back. (length seats.items ≢ self.seats) × (back.0 ≡ self) × (back.1.items ≡ seats.items)) }
+        ensures { MatchResult result (λ closed. IsClosedWith self seats.items closed) (λ back. (length seats.items ≢ self.seats) × (back.0 ≡ self) × (back.1.items ≡ seats.items)) }
     {
         if seats.len() != self.seats {
             return Err((self, seats));
@@ -272,11 +275,11 @@ impl Desk {
         let Some(first) = seats.pop() else {
             unreachable!()
         };
-        let whole = join_all(&self.table, first, seats);
+        let whole = join_all_seats(&self.table, first, seats);
         let Desk { table, total, .. } = self;
         let words = table.close_with(whole);
         let draws = words.word(0);
-        let granted = capped(words.word(2), total);
+        let granted = granted_of_total(words.word(2), total);
         words.free();
         Ok(Closed { draws, granted })
     }

@@ -5,7 +5,7 @@ ghost use Rattle.tt_game.specs.Game.{IsLegal, after, winner_of};
 ghost use Rattle.tt_game.specs.Turns.{legal_turns};
 ghost use Rattle.tt_game.specs.declared.turns.TheConstants.{MOST_LEGAL};
 ghost use Rattle.tt_search.specs.Growing.{new_leaf};
-ghost use Rattle.tt_share.specs.Answers.{IsBehind};
+ghost use Rattle.tt_share.specs.Answers.{IsSearchAfter};
 ghost use Rattle.tt_share.specs.inside.Jobs.{AsksFor, IsStuckOrWon, IsDropped, IsJob, IsOfEnd, IsResult, IsStuck, IsWinFor, end_of, kept_of};
 
 use std::alloc::Global;
@@ -71,7 +71,7 @@ pub(crate) fn is_stuck(end: &JobResult) -> bool
 
 /// A result as it is kept. A stuck search holds its whole tree, and only that of the least stuck turn is answered: so it
 /// is dropped where a lesser job is stuck.
-pub(crate) fn kept(past_stuck: bool, end: JobResult) -> JobResult
+pub(crate) fn dropped_if_past_stuck(past_stuck: bool, end: JobResult) -> JobResult
     ensures { result ≡ kept_of past_stuck end }
 {
     if past_stuck && is_stuck(&end) {
@@ -148,9 +148,9 @@ impl<'a> Jobs<'a> {
     }
 
     /// A search of the line after a job's turn, with the same budget and a depth one less. Nothing of it is expanded yet.
-    fn begin(&self, job: usize) -> Result<Search, NoMemory>
+    fn begin_search(&self, job: usize) -> Result<Search, NoMemory>
         requires job { job < length self.now.turns.items }
-        ensures behind { IfOk result (λ s. (t : Turn) → IsJob self.now.line.now job t → IsBehind self.now.line.now self.now.limits t s) }
+        ensures behind { IfOk result (λ s. (t : Turn) → IsJob self.now.line.now job t → IsSearchAfter self.now.line.now self.now.limits t s) }
         ensures new { IfOk result (λ s. s.tree ≡ new_leaf s.line.frame s.line.state) }
     {
         let limits = self.limits_after();
@@ -173,7 +173,7 @@ impl<'a> Jobs<'a> {
         ensures asks { AsksFor (G.asked grants.old) result.spent (end_of result.end) (G.asked grants.new) }
         ensures source { G.source grants.new ≡ G.source grants.old }
     {
-        match self.begin(job) {
+        match self.begin_search(job) {
             Ok(search) => {
                 let before = grants.granted();
                 let end = result_of(self.alloc, search.run(store, grants));
@@ -189,7 +189,7 @@ impl<'a> Jobs<'a> {
     }
 
     /// Whether a result is a proof for the side to move.
-    pub fn is_won(&self, end: &JobResult) -> bool
+    pub fn is_win_for_mover(&self, end: &JobResult) -> bool
         ensures { IsTrue result ↔ IsWinFor self.now.line.now.state.to_move end.now }
     {
         is_win(end, self.line.to_move())

@@ -6,9 +6,9 @@ pub(crate) mod view;
 
 ghost use Rattle.std.specs.Prelude.{◌≡◌, IfOk, IfSome};
 ghost use Rattle.std.specs.Arc.{arc_value};
-ghost use Rattle.tt_share.specs.Log.{IsOf};
+ghost use Rattle.tt_share.specs.Log.{IsTokenOf};
 
-use crate::capacity::{ROOM_AT_ONCE, ROOM_BEFORE_A_PUSH};
+use crate::capacity::{EXTRA_ROOM_AT_ONCE, ROOM_BEFORE_A_PUSH};
 use boxcar::Pushed;
 use std::alloc::Global;
 use std::marker::Model;
@@ -43,9 +43,9 @@ impl Model for Token {
     ghost use Rattle.std.specs.Arc.{arc_value};
     ghost use Rattle.tt_sgf.specs.contracts.sets.PointSet as points;
     ghost use Rattle.tt_proof.specs.laws.StrategyCode.{strategy_code};
-    ghost use Rattle.tt_share.specs.Log.{Ticket};
+    ghost use Rattle.tt_share.specs.Log.{TokenState};
 
-    ghost Value = { Ticket };
+    ghost Value = { TokenState };
 
     ghost coded = { Prim.hlevel (codes, strategy_code, points.the_row.coded) };
 
@@ -70,7 +70,7 @@ impl CertLog {
 
     /// The proof that was pushed for the token.
     pub fn at(&self, t: &Token) -> &Proof
-        requires { IsOf self.now t.now }
+        requires { IsTokenOf self.now t.now }
         ensures { result.now ≡ t.now.proof }
     {
         self.handle_at(t)
@@ -78,7 +78,7 @@ impl CertLog {
 
     /// A handle of the proof that was pushed for the token.
     pub(crate) fn handle_at(&self, t: &Token) -> &Arc<Proof>
-        requires { IsOf self.now t.now }
+        requires { IsTokenOf self.now t.now }
         ensures { arc_value result.now ≡ t.now.proof }
     {
         self.entries.value(&t.shown)
@@ -86,8 +86,8 @@ impl CertLog {
 
     /// Two tokens of one slot have one proof. It does nothing.
     pub fn agree(&self, a: &Token, b: &Token)
-        requires a { IsOf self.now a.now }
-        requires b { IsOf self.now b.now }
+        requires a { IsTokenOf self.now a.now }
+        requires b { IsTokenOf self.now b.now }
         requires slot { a.now.slot ≡ b.now.slot }
         ensures { a.now.proof ≡ b.now.proof }
     {
@@ -103,13 +103,14 @@ impl CertLog {
         p: Arc<Proof>,
         roomy: &mut usize,
     ) -> Result<Token, NoMemory>
-        ensures log { IfOk result (IsOf self.now) }
+        ensures log { IfOk result (IsTokenOf self.now) }
         ensures proof { IfOk result (λ t. t.proof ≡ arc_value p) }
     {
         let wanted = self.count().saturating_add(ROOM_BEFORE_A_PUSH);
         if wanted > *roomy {
-            self.entries.reserve(ROOM_BEFORE_A_PUSH + ROOM_AT_ONCE)?;
-            *roomy = wanted.saturating_add(ROOM_AT_ONCE);
+            self.entries
+                .reserve(ROOM_BEFORE_A_PUSH + EXTRA_ROOM_AT_ONCE)?;
+            *roomy = wanted.saturating_add(EXTRA_ROOM_AT_ONCE);
         }
         match self.entries.push_shown(rt, p) {
             Ok(shown) => Ok(Token { shown }),
@@ -124,7 +125,7 @@ impl CertLog {
 
     /// The token of a slot, where its push is finished.
     pub(crate) fn token(&self, slot: usize) -> Option<Token>
-        ensures log { IfSome result (IsOf self.now) }
+        ensures log { IfSome result (IsTokenOf self.now) }
         ensures slot { IfSome result (λ t. t.slot ≡ slot) }
     {
         let shown = self.entries.witness(slot)?;

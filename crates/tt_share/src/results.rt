@@ -11,7 +11,7 @@ ghost use Rattle.tt_share.specs.Answers.{spent_in_all};
 ghost use Rattle.tt_share.specs.inside.Jobs.{IsResult, IsWinFor};
 ghost use Rattle.tt_share.specs.inside.Results.{Notes, AskedFor, HasEnd, HasResult, HasWonIn, AllStuckOrWon, IsPastStuck, IsStuckIn, IsWinIn, IsWinAt, NoWin, IsLeastWin, IsReady, StopsAtWin, KeepsEnds, Puts};
 
-use crate::jobs::{JobResult, Jobs, SearchedJob, is_stuck, is_win, kept};
+use crate::jobs::{JobResult, Jobs, SearchedJob, dropped_if_past_stuck, is_stuck, is_win};
 use std::alloc::Global;
 use std::marker::Model;
 use tt_game::{Line, Side, Turn};
@@ -32,13 +32,13 @@ impl<'a> Model for Results<'a> {
     ghost use Rattle.std.specs.Coded.{codes};
     ghost use Rattle.tt_sgf.specs.contracts.sets.PointSet as points;
     ghost use Rattle.tt_proof.specs.laws.StrategyCode.{strategy_code};
-    ghost use Rattle.tt_search.specs.laws.PartialTreeCode.{partial_code};
+    ghost use Rattle.tt_search.specs.laws.PartialTreeCode.{partial_tree_code};
     ghost use Rattle.tt_share.specs.inside.Jobs.{AreResults};
     ghost use Rattle.tt_share.specs.inside.Results.{ResultsSoFar, AreNoted};
 
     ghost Value = { ResultsSoFar };
 
-    ghost coded = { Prim.hlevel (codes, strategy_code, partial_code, points.the_row.coded) };
+    ghost coded = { Prim.hlevel (codes, strategy_code, partial_tree_code, points.the_row.coded) };
 
     ghost view = { λ r. record { line = r.jobs.line.now; limits = r.jobs.limits; ends = r.ends.items; spent = r.spent.items } };
 
@@ -50,7 +50,7 @@ impl<'a> Model for Results<'a> {
 }
 
 /// Whether there is a result, and it is a proof for the side.
-fn is_win_in(end: &Option<JobResult>, side: Side) -> bool
+fn is_some_win(end: &Option<JobResult>, side: Side) -> bool
     ensures win { IsTrue result ↔ IsWinIn side end.now }
     ensures won { HasWonIn end.now }
 {
@@ -61,7 +61,7 @@ fn is_win_in(end: &Option<JobResult>, side: Side) -> bool
 }
 
 /// Whether there is a result, and it is a stuck search.
-fn is_stuck_in(end: &Option<JobResult>) -> bool
+fn is_some_stuck(end: &Option<JobResult>) -> bool
     ensures { IsTrue result ↔ IsStuckIn end.now }
 {
     match end {
@@ -71,12 +71,12 @@ fn is_stuck_in(end: &Option<JobResult>) -> bool
 }
 
 /// The least job whose result is a proof for the side.
-pub(crate) fn win_at(ends: &[Option<JobResult>], side: Side) -> Option<usize>
+pub(crate) fn least_win_in(ends: &[Option<JobResult>], side: Side) -> Option<usize>
     ensures least { MatchOption result (NoWin side ends.now) (IsLeastWin side ends.now) }
     ensures won { IfNone result (AllStuckOrWon ends.now) }
 {
     for (job, end) in ends.iter().enumerate() {
-        if is_win_in(end, side) {
+        if is_some_win(end, side) {
             return Some(job);
         }
     }
@@ -84,7 +84,7 @@ pub(crate) fn win_at(ends: &[Option<JobResult>], side: Side) -> Option<usize>
 }
 
 /// Whether there is such a slot, with no result.
-fn is_free_in(ends: &[Option<JobResult>], job: usize) -> bool
+fn is_missing_in(ends: &[Option<JobResult>], job: usize) -> bool
     ensures free { IsTrue result ↔ (slice_get ends.now job ≡ Some None) }
     ensures filled { result ≡ false → job < length ends.now → HasResult ends.now job }
 {
@@ -92,7 +92,7 @@ fn is_free_in(ends: &[Option<JobResult>], job: usize) -> bool
 }
 
 /// Writes a result at its slot.
-fn fill(ends: &mut Vec<Option<JobResult>>, job: usize, end: JobResult)
+fn write_result(ends: &mut Vec<Option<JobResult>>, job: usize, end: JobResult)
     requires { job < vec_len ends.old }
     ensures filled { ends.new.items ≡ slice_set ends.old.items job (Some end) }
     ensures len { vec_len ends.new ≡ vec_len ends.old }
@@ -101,7 +101,7 @@ fn fill(ends: &mut Vec<Option<JobResult>>, job: usize, end: JobResult)
 }
 
 /// Notes how many nodes the search of a job expanded.
-fn note(spent: &mut Vec<(Turn, u32)>, job: usize, count: u32)
+fn note_spent(spent: &mut Vec<(Turn, u32)>, job: usize, count: u32)
     requires { job < vec_len spent.old }
     ensures noted { (e : Turn × ℕ) × (slice_get spent.old.items job ≡ Some e) × (spent.new.items ≡ slice_set spent.old.items job (e.0, count)) }
 {
@@ -110,7 +110,7 @@ fn note(spent: &mut Vec<(Turn, u32)>, job: usize, count: u32)
 }
 
 /// The turns, each with no expanded node, in a list of its own.
-fn unspent(alloc: Global, turns: &[Turn]) -> Result<Vec<(Turn, u32)>, NoMemory>
+fn zero_counts(alloc: Global, turns: &[Turn]) -> Result<Vec<(Turn, u32)>, NoMemory>
     ensures turns { IfOk result (λ v. map (λ (e : Turn × ℕ). e.0) v.items ≡ turns.now) }
     ensures none { IfOk result (λ v. All (λ (e : Turn × ℕ). e.1 ≡ 0) v.items) }
 {
@@ -129,7 +129,7 @@ fn is_past_stuck(ends: &[Option<JobResult>], job: usize) -> bool
         if lesser >= job {
             return false;
         }
-        if is_stuck_in(end) {
+        if is_some_stuck(end) {
             return true;
         }
     }
@@ -148,7 +148,7 @@ impl<'a> Results<'a> {
     {
         let jobs = Jobs::of(alloc, line, limits);
         let count = jobs.turns.len();
-        let spent = unspent(alloc, jobs.turns.as_slice())?;
+        let spent = zero_counts(alloc, jobs.turns.as_slice())?;
         let mut ends = Vec::with_capacity(alloc, count)?;
         for _ in 0..count {
             ends.push_reserved(None);
@@ -157,7 +157,7 @@ impl<'a> Results<'a> {
     }
 
     /// How many jobs the line has.
-    pub fn count(&self) -> usize
+    pub fn job_count(&self) -> usize
         ensures count { result ≡ length self.now.ends }
         ensures few { result ≤ MOST_LEGAL }
     {
@@ -165,38 +165,38 @@ impl<'a> Results<'a> {
     }
 
     /// The least job that wins for the side to move.
-    fn win(&self) -> Option<usize>
+    fn least_win(&self) -> Option<usize>
         ensures { MatchOption result (NoWin self.now.line.state.to_move self.now.ends)
             (IsLeastWin self.now.line.state.to_move self.now.ends) }
     {
-        win_at(self.ends.as_slice(), self.jobs.line.to_move())
+        least_win_in(self.ends.as_slice(), self.jobs.line.to_move())
     }
 
     /// Whether the job is one of the line's and has no result.
-    fn is_free(&self, job: usize) -> bool
+    fn is_missing(&self, job: usize) -> bool
         ensures free { IsTrue result ↔ (slice_get self.now.ends job ≡ Some None) }
         ensures filled { result ≡ false → job < length self.now.ends → HasResult self.now.ends job }
     {
-        is_free_in(self.ends.as_slice(), job)
+        is_missing_in(self.ends.as_slice(), job)
     }
 
     /// Puts a result at the slot of its job. A double and a stranger are dropped.
-    pub fn put(&mut self, searched: SearchedJob)
+    pub fn put_if_missing(&mut self, searched: SearchedJob)
         requires searched { IsResult self.old.line self.old.limits searched }
         ensures same { self.new ≡ record self.old { ends = self.new.ends; spent = self.new.spent } }
         ensures puts { Puts self.old.ends self.new.ends searched }
         ensures notes { Notes self.old self.new searched }
     {
         let SearchedJob { job, end, spent } = searched;
-        if self.is_free(job) {
+        if self.is_missing(job) {
             let past_stuck = is_past_stuck(self.ends.as_slice(), job);
-            fill(&mut self.ends, job, kept(past_stuck, end));
-            note(&mut self.spent, job, spent);
+            write_result(&mut self.ends, job, dropped_if_past_stuck(past_stuck, end));
+            note_spent(&mut self.spent, job, spent);
         }
     }
 
     /// Searches a job that has no result, and answers whether it wins for the side to move.
-    fn search_free<S: Store, G: Grants>(
+    fn search_and_put<S: Store, G: Grants>(
         &mut self,
         job: usize,
         store: &mut S,
@@ -212,13 +212,18 @@ impl<'a> Results<'a> {
         ensures few { (G.asked grants.new).granted ≤ (G.asked grants.old).granted + MOST_EXPANDED }
     {
         let searched = self.jobs.search(job, store, grants);
-        let won = self.jobs.is_won(&searched.end);
-        self.put(searched);
+        let won = self.jobs.is_win_for_mover(&searched.end);
+        self.put_if_missing(searched);
         won
     }
 
     /// Searches a job if it has no result, and answers whether it was searched and wins for the side to move.
-    fn search_job<S: Store, G: Grants>(&mut self, job: usize, store: &mut S, grants: &mut G) -> bool
+    fn search_if_missing<S: Store, G: Grants>(
+        &mut self,
+        job: usize,
+        store: &mut S,
+        grants: &mut G,
+    ) -> bool
         requires within { job < length self.old.ends }
         requires grants { (G.asked grants.old).granted < 2 ^ 62 }
         ensures same { self.new ≡ record self.old { ends = self.new.ends; spent = self.new.spent } }
@@ -233,14 +238,14 @@ impl<'a> Results<'a> {
         ensures lost { result ≡ false → IsWinAt self.old.line.state.to_move self.new.ends job →
             IsWinAt self.old.line.state.to_move self.old.ends job }
     {
-        if !self.is_free(job) {
+        if !self.is_missing(job) {
             return false;
         }
-        self.search_free(job, store, grants)
+        self.search_and_put(job, store, grants)
     }
 
     /// Where no job wins for the side to move, searches each that has no result, in rising order, until one does.
-    pub fn search_missing<S: Store, G: Grants>(&mut self, store: &mut S, grants: &mut G)
+    pub fn search_missing_until_win<S: Store, G: Grants>(&mut self, store: &mut S, grants: &mut G)
         requires grants { (G.asked grants.old).granted ≡ 0 }
         ensures same { self.new ≡ record self.old { ends = self.new.ends; spent = self.new.spent } }
         ensures asks { AskedFor self.old (G.asked grants.old) self.new (G.asked grants.new) }
@@ -250,11 +255,11 @@ impl<'a> Results<'a> {
         ensures won { (job : ℕ) → IsWinAt self.old.line.state.to_move self.old.ends job → self.new ≡ self.old }
         ensures stops { StopsAtWin self.new.line.state.to_move self.old.ends self.new.ends }
     {
-        if let Some(_) = self.win() {
+        if let Some(_) = self.least_win() {
             return;
         }
-        for job in 0..self.count() {
-            if self.search_job(job, store, grants) {
+        for job in 0..self.job_count() {
+            if self.search_if_missing(job, store, grants) {
                 return;
             }
         }

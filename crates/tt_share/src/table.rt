@@ -34,12 +34,12 @@ impl Model for TableState {
     ghost use Rattle.tt_sgf.specs.contracts.sets.PointSet as points;
     ghost use Rattle.std.specs.Coded.{codes};
     ghost use Rattle.std.specs.Arc.{arc_value};
-    ghost use Rattle.tt_proof.specs.Proven.{Proven};
+    ghost use Rattle.tt_proof.specs.ProofClaim.{ProofClaim};
     ghost use Rattle.tt_proof.specs.laws.StrategyCode.{strategy_code};
     ghost use Rattle.tt_share.specs.inside.Slots.{IsIndexOf};
     ghost use Rattle.tt_share.specs.Table.{nodes_of};
 
-    ghost Value = { List Proven };
+    ghost Value = { List ProofClaim };
 
     ghost coded = { Prim.hlevel (codes, strategy_code, points.the_row.coded) };
 
@@ -133,7 +133,7 @@ impl TableState {
     }
 
     /// The last proof of the line's key for the side.
-    fn newest(&self, line: &Line, s: Side) -> Option<&Arc<Proof>>
+    fn newest_proof(&self, line: &Line, s: Side) -> Option<&Arc<Proof>>
         ensures newest { IsNewest line.now s (reverse self.now) (option_map (λ r. arc_value r.now) result) }
         ensures found { IfSome result (λ r. HasKeyAndSide line.now s (arc_value r.now)) }
     {
@@ -156,7 +156,7 @@ impl TableState {
         ensures newest { IfOk result (λ o. IsNewest line.now s (reverse self.now) (option_map (λ p. arc_value p) o)) }
         ensures found { IfOk result (λ o. IfSome o (λ p. HasKeyAndSide line.now s (arc_value p))) }
     {
-        let Some(p) = self.newest(line, s) else {
+        let Some(p) = self.newest_proof(line, s) else {
             return Ok(None);
         };
         let handle = Arc::try_clone(p)?;

@@ -6,9 +6,9 @@ ghost use Rattle.tt_share.specs.declared.capacity.TheConstants.{MOST_WORKERS};
 ghost use Rattle.tt_share.specs.Answers.{IsAnswer};
 ghost use Rattle.tt_share.specs.inside.Results.{KnowsNothing, IsReady, SpendsTotal};
 
-use crate::alone::{begin, finish};
+use crate::alone::{finish, results_or_answer};
 use crate::answer::Answer;
-use crate::answer::conclude::no_memory;
+use crate::answer::conclude::no_memory_answer;
 use crate::desk::Desk;
 use crate::desk::grants::SeatGrants;
 use crate::gate::Gate;
@@ -51,7 +51,7 @@ pub(crate) fn search_together<R: Threads + Wait + Sync, G: Gate, S: Store>(
     let work = run_workers(rt, &results.jobs, &desk, log, gate, all)?;
     let mut seats = gather(&desk, results, work, seats);
     let mut grants = SeatGrants::new(&desk, own);
-    results.search_missing(store, &mut grants);
+    results.search_missing_until_win(store, &mut grants);
     seats.push_reserved(grants.into_seat());
     match desk.close(seats) {
         Ok(_) => Ok(()),
@@ -82,14 +82,14 @@ pub fn solve<R: Threads + Wait + Sync, G: Gate>(
     ensures { IsAnswer line.now limits.now total result }
 {
     let Ok(view) = View::new(alloc, log) else {
-        return no_memory(alloc);
+        return no_memory_answer(alloc);
     };
     let mut store = LogStore::new(rt, view);
-    match begin(alloc, line, limits, &mut store) {
+    match results_or_answer(alloc, line, limits, &mut store) {
         Ok(mut results) => {
             match search_together(rt, &mut results, total, workers, log, gate, &mut store) {
                 Ok(()) => finish(alloc, results, &mut store),
-                Err(_) => no_memory(alloc),
+                Err(_) => no_memory_answer(alloc),
             }
         }
         Err(answer) => answer,

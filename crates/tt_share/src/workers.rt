@@ -11,7 +11,7 @@ ghost use Rattle.tt_share.specs.inside.Workers.{SomeWin, IsWork, held, times, sp
 use crate::desk::grants::SeatGrants;
 use crate::desk::{Desk, Seat};
 use crate::gate::Gate;
-use crate::jobs::{JobResult, Jobs, SearchedJob, is_stuck, kept};
+use crate::jobs::{JobResult, Jobs, SearchedJob, dropped_if_past_stuck, is_stuck};
 use crate::log::CertLog;
 use crate::log::log_store::LogStore;
 use crate::log::view::View;
@@ -48,7 +48,7 @@ fn next_job(grants: &mut SeatGrants<'_>, searched: &mut Vec<SearchedJob>) -> Opt
 }
 
 /// Whether a job was stuck before, or this one is.
-fn or_stuck(before: bool, end: &JobResult) -> bool
+fn was_or_is_stuck(before: bool, end: &JobResult) -> bool
     ensures { IsTrue result → IsTrue before ⊎ IsStuck end.now }
 {
     before || is_stuck(end)
@@ -79,9 +79,9 @@ pub(crate) fn work<S: Store, G: Gate>(
         gate.begin(job);
         let SearchedJob { job, end, spent } = jobs.search(job, store, &mut grants);
         gate.end(job);
-        grants.raise_for(jobs.is_won(&end));
-        let end = kept(stuck, end);
-        stuck = or_stuck(stuck, &end);
+        grants.raise_flag_if(jobs.is_win_for_mover(&end));
+        let end = dropped_if_past_stuck(stuck, end);
+        stuck = was_or_is_stuck(stuck, &end);
         searched.push_reserved(SearchedJob { job, end, spent });
     }
     let seat = grants.into_seat();
@@ -89,7 +89,7 @@ pub(crate) fn work<S: Store, G: Gate>(
 }
 
 /// Works over a view of the log. Where there is no memory for a view it hands its seat back, and no results.
-fn work_over<R: Wait, G: Gate>(
+fn work_with_view<R: Wait, G: Gate>(
     rt: &R,
     jobs: &Jobs<'_>,
     desk: &Desk,
@@ -130,7 +130,7 @@ pub(crate) fn run_workers<R: Threads + Wait + Sync, G: Gate>(
         requires { (desk.now.jobs ≡ length jobs.now.turns.items) × (seat.desk ≡ desk.now.id) × (seat.grants ≡ []) }
         ensures work { IsWork jobs.entry.now.line.now jobs.entry.now.limits desk.entry.now result }
         ensures drawn { AddsOverdraw desk.entry.now.jobs (seat.numbers ++ jobs_of result.searched.items) result.seat.numbers }
-    { work_over(rt, jobs, desk, log, gate, seat) };
+    { work_with_view(rt, jobs, desk, log, gate, seat) };
     match thread::map_vec(rt, seats, &worker) {
         Ok(work) => Ok(work),
         Err(_) => Err(NoMemory),
@@ -138,7 +138,7 @@ pub(crate) fn run_workers<R: Threads + Wait + Sync, G: Gate>(
 }
 
 /// Puts the results of one worker into the list of all.
-fn gather_one(results: &mut Results<'_>, mut searched: Vec<SearchedJob>)
+fn gather_one_worker(results: &mut Results<'_>, mut searched: Vec<SearchedJob>)
     requires searched { All (IsResult results.old.line results.old.limits) searched.items }
     ensures same { results.new ≡ record results.old { ends = results.new.ends; spent = results.new.spent } }
     ensures held { (job : ℕ) → held results.new.ends job ≤ held results.old.ends job + times job searched.items }
@@ -149,7 +149,7 @@ fn gather_one(results: &mut Results<'_>, mut searched: Vec<SearchedJob>)
     ensures given { AreGiven results.old.ends results.new.ends searched.items }
 {
     while let Some(one) = searched.pop() {
-        results.put(one);
+        results.put_if_missing(one);
     }
 }
 
@@ -175,7 +175,7 @@ pub(crate) fn gather(
     while let Some(back) = work.pop() {
         let HandedBack { seat, searched } = back;
         seats.push_reserved(seat);
-        gather_one(results, searched);
+        gather_one_worker(results, searched);
     }
     seats
 }

@@ -6,7 +6,7 @@ use crate::problem_tests::posed;
 use crate::proof_tests::replays;
 use crate::rows::{Table, holding};
 use std::alloc::Global;
-use tt_dfpn::{Advice, Visits, certify, find_proof};
+use tt_dfpn::{Advice, VisitsLeft, certify, find_proof};
 use tt_game::{Line, Side, Turn};
 use tt_proof::{MOST_DEPTH, Proof, write_cert};
 use tt_search::PrivateStore;
@@ -49,7 +49,7 @@ impl Advice for Liar {
         &mut self,
         _line: &Line,
         _refused: u16,
-        _visits: &mut Visits,
+        _visits: &mut VisitsLeft,
     ) -> Result<Option<Turn>, NoMemory>
         ensures fewer { _visits.new.left ≤ _visits.old.left }
     {
@@ -87,7 +87,7 @@ fn is_lied_in_vain(alloc: Global, line: &mut Line, winner: Side, side: Side) -> 
     for seed in 0..100u64 {
         let mut liar = Liar { state: seed };
         let mut memo = PrivateStore::with_capacity(alloc, 100);
-        let mut visits = Visits { left: 500 };
+        let mut visits = VisitsLeft { left: 500 };
         let found = certify(alloc, line, side, ROOM, &mut liar, &mut memo, &mut visits);
         if let Some(proof) = found.ok()? {
             if !is_right(alloc, line, &proof, winner, ROOM) {
@@ -113,7 +113,7 @@ fn is_found(alloc: Global, row: &[u8], room: u16, visits: u32) -> Option<bool> {
         return None;
     }
     let (winner, mut line) = read(alloc, row)?;
-    let mut visits = Visits { left: visits };
+    let mut visits = VisitsLeft { left: visits };
     match find_proof(alloc, &mut line, room, &mut visits).ok()? {
         Some(proof) => Some(is_right(alloc, &mut line, &proof, winner, room)),
         None => Some(false),

@@ -3,7 +3,7 @@
 ghost use Rattle.std.specs.Prelude.{◌≡◌, ◌↔◌, IsTrue};
 ghost use Rattle.tt_game.specs.Game.{IsLegal};
 ghost use Rattle.tt_game.specs.Turns.{IsTurnOnBoard};
-ghost use Rattle.tt_proof.specs.Proven.{IsChild, AreChildren, turns_of};
+ghost use Rattle.tt_proof.specs.ProofClaim.{IsChild, AreChildren, turns_of};
 
 use crate::problem_tests::{posed, turn};
 use crate::rows::{Table, cut, holding, short_number};

@@ -39,7 +39,7 @@ fn trail_of_none(alloc: Global, size: Size) -> Option<BoardDeltas> {
 /// Whether a trail's boards are those of the text, with a stroke between two.
 fn are(alloc: Global, trail: &BoardDeltas, size: Size, text: &[u8]) -> Option<bool> {
     let boards = boards_of(alloc, size, text)?;
-    Some(trail.are(&boards))
+    Some(trail.equals_boards(&boards))
 }
 
 /// Whether a trail's last board is that of the row; none where it has no board.

@@ -61,11 +61,11 @@ fn repeats(line: &Line, causes: &[u8]) -> bool {
     let mut number = 0;
     for cause in causes {
         if let (Some(p), false) = (size.point(number), *cause == b'O') {
-            let has_been = match line.repeated(p) {
+            let has_been = match line.repeated_board(p) {
                 Some(next) => line.history().iter().any(|board| board.same(&next)),
                 None => false,
             };
-            if has_been != (*cause == b'R') || has_been != line.repeated(p).is_some() {
+            if has_been != (*cause == b'R') || has_been != line.repeated_board(p).is_some() {
                 return false;
             }
         }
@@ -144,10 +144,10 @@ fn keeps(alloc: Global, line: &Line) -> bool {
     let Some(last) = kept.last() else {
         return false;
     };
-    kept.are(boards)
+    kept.equals_boards(boards)
         && last.same(line.present())
-        && !kept.are(&boards[1..])
-        && !kept.are(&boards[..boards.len() - 1])
+        && !kept.equals_boards(&boards[1..])
+        && !kept.equals_boards(&boards[..boards.len() - 1])
 }
 
 /// Makes the turn of this number. Whether it is legal, and a kept past tells the line before it from the line after it.
@@ -156,7 +156,7 @@ fn goes_on(line: &mut Line, number: u16) -> bool {
         return false;
     };
     let t = turn(line.frame().size, number);
-    snapshot.stands_with(line) && line.push(t).is_ok() && !snapshot.stands_with(line)
+    snapshot.is_state_of(line) && line.push(t).is_ok() && !snapshot.is_state_of(line)
 }
 
 /// Makes the turns of these numbers. Whether all go so.
@@ -171,10 +171,10 @@ fn go_on(line: &mut Line, numbers: &[u16]) -> bool {
 
 /// What isn't so of the past of a line, and of a copy of the line; nothing where all is.
 fn wrong_past(snapshot: &Snapshot, line: &Line, copy: &Line) -> &'static str {
-    if !snapshot.stands_with(line) {
+    if !snapshot.is_state_of(line) {
         return "the snapshot stands with the line";
     }
-    if !snapshot.stands_with(copy) {
+    if !snapshot.is_state_of(copy) {
         return "the snapshot stands with the copy";
     }
     if !snapshot.present().same(line.present()) {

@@ -11,66 +11,66 @@ use Rattle.tt_game.specs.Line.{LineWithUndo}
 use Rattle.tt_game.specs.Problems.{problem_of}
 use Rattle.tt_proof.specs.declared.certificate_read.CertFault.{CertFault}
 use Rattle.tt_proof.specs.declared.certificate_read.CertFault.TheVariants.{Syntax, TooDeep}
-use Rattle.tt_proof.specs.CertificateFaults.{IsFault, IsSharedFault}
+use Rattle.tt_proof.specs.CertificateFaults.{IsCertFault, IsSharedCertFault}
 use Rattle.tt_proof.specs.declared.tree.TheConstants.{MOST_DEPTH}
 use Rattle.tt_proof.specs.CertificateText.{IsCertificate, IsTooDeep}
 use Rattle.tt_proof.specs.Outlines.{Outline, IsSharedCertificate, unfolded}
-use Rattle.tt_proof.specs.SharedParts.{SharedPartsSay}
+use Rattle.tt_proof.specs.SharedParts.{IsOutlineAnswer}
 use Rattle.tt_proof.specs.Strategy.{Strategy}
 use Rattle.tt_proof.specs.Wins.{Wins}
-use Rattle.tt_text.specs.declared.finding.Finding.{Finding}
-use Rattle.tt_text.specs.declared.finding.Finding.TheVariants.{Valid, Invalid, Refused}
-use Rattle.tt_text.specs.Checking.{Finds, FindsAt, FindsOn, FindsShared, first_tree, goes_deep, loses, no_certificate, shared_loses, shared_wins, too_deep, unfit, unread, wins}
+use Rattle.tt_text.specs.declared.checking.CheckOutcome.{CheckOutcome}
+use Rattle.tt_text.specs.declared.checking.CheckOutcome.TheVariants.{Valid, Invalid, Refused}
+use Rattle.tt_text.specs.Checking.{Finds, FindsPlain, FindsOnProblem, FindsShared, first_tree, goes_deep, loses, no_certificate, shared_loses, shared_wins, too_deep, unfit, unread, wins}
 
 -- the size of the line's frame is that of its problem
 module _ (p : LineWithUndo) (f : Frame) (bytes : List ℕ) (same : f ≡ p.frame) where
   -- a certificate whose tree wins is valid
-  pub wins_at : (side : Side) (u : Strategy) → IsCertificate f.size bytes side u × (IsTooDeep f.size bytes → ⊥) → Wins side p.frame u p.state → FindsAt p bytes Valid
+  pub wins_at : (side : Side) (u : Strategy) → IsCertificate f.size bytes side u × (IsTooDeep f.size bytes → ⊥) → Wins side p.frame u p.state → FindsPlain p bytes Valid
   wins_at side u h w = let k = subst (λ (g : Frame). IsCertificate g.size bytes side u × (IsTooDeep g.size bytes → ⊥)) same h in wins side u k.1 k.0 w
 
   -- one whose tree doesn't win is invalid
-  pub loses_at : (side : Side) (u : Strategy) → IsCertificate f.size bytes side u × (IsTooDeep f.size bytes → ⊥) → (Wins side p.frame u p.state → ⊥) → FindsAt p bytes Invalid
+  pub loses_at : (side : Side) (u : Strategy) → IsCertificate f.size bytes side u × (IsTooDeep f.size bytes → ⊥) → (Wins side p.frame u p.state → ⊥) → FindsPlain p bytes Invalid
   loses_at side u h w = let k = subst (λ (g : Frame). IsCertificate g.size bytes side u × (IsTooDeep g.size bytes → ⊥)) same h in loses side u k.1 k.0 w
 
   -- bytes that are no certificate are refused with 30
-  pub none_at : (e : CertFault) → e ≡ Syntax → IsFault f.size bytes e → FindsAt p bytes (Refused 30)
+  pub none_at : (e : CertFault) → e ≡ Syntax → IsCertFault f.size bytes e → FindsPlain p bytes (Refused 30)
   none_at e is h =
-      let k : IsFault p.frame.size bytes Syntax = subst (λ (g : Frame). IsFault g.size bytes Syntax) same (subst (λ (x : CertFault). IsFault f.size bytes x) is h) in
+      let k : IsCertFault p.frame.size bytes Syntax = subst (λ (g : Frame). IsCertFault g.size bytes Syntax) same (subst (λ (x : CertFault). IsCertFault f.size bytes x) is h) in
       no_certificate k.1 k.0
 
   -- bytes with a turn that lies too deep are refused with 31
-  pub deep_at : (e : CertFault) → e ≡ TooDeep → IsFault f.size bytes e → FindsAt p bytes (Refused 31)
+  pub deep_at : (e : CertFault) → e ≡ TooDeep → IsCertFault f.size bytes e → FindsPlain p bytes (Refused 31)
   deep_at e is h =
-      let k : IsFault p.frame.size bytes TooDeep = subst (λ (g : Frame). IsFault g.size bytes TooDeep) same (subst (λ (x : CertFault). IsFault f.size bytes x) is h) in
+      let k : IsCertFault p.frame.size bytes TooDeep = subst (λ (g : Frame). IsCertFault g.size bytes TooDeep) same (subst (λ (x : CertFault). IsCertFault f.size bytes x) is h) in
       too_deep k
 
   -- so it is with parts that may be shared
-  pub unread_at : (e : CertFault) → e ≡ Syntax → IsSharedFault f.size MOST_DEPTH bytes e → FindsShared p bytes (Refused 30)
+  pub unread_at : (e : CertFault) → e ≡ Syntax → IsSharedCertFault f.size MOST_DEPTH bytes e → FindsShared p bytes (Refused 30)
   unread_at e is h =
-      unread (subst (λ (g : Frame). IsSharedFault g.size MOST_DEPTH bytes Syntax) same (subst (λ (x : CertFault). IsSharedFault f.size MOST_DEPTH bytes x) is h))
+      unread (subst (λ (g : Frame). IsSharedCertFault g.size MOST_DEPTH bytes Syntax) same (subst (λ (x : CertFault). IsSharedCertFault f.size MOST_DEPTH bytes x) is h))
 
-  pub goes_deep_at : (e : CertFault) → e ≡ TooDeep → IsSharedFault f.size MOST_DEPTH bytes e → FindsShared p bytes (Refused 31)
+  pub goes_deep_at : (e : CertFault) → e ≡ TooDeep → IsSharedCertFault f.size MOST_DEPTH bytes e → FindsShared p bytes (Refused 31)
   goes_deep_at e is h =
-      goes_deep (subst (λ (g : Frame). IsSharedFault g.size MOST_DEPTH bytes TooDeep) same (subst (λ (x : CertFault). IsSharedFault f.size MOST_DEPTH bytes x) is h))
+      goes_deep (subst (λ (g : Frame). IsSharedCertFault g.size MOST_DEPTH bytes TooDeep) same (subst (λ (x : CertFault). IsSharedCertFault f.size MOST_DEPTH bytes x) is h))
 
 -- the same of a certificate with shared parts
 module _ (p : LineWithUndo) (f : Frame) (bytes : List ℕ) (same : f ≡ p.frame) (side : Side) (o : Outline) (is : IsSharedCertificate f.size bytes side o) where
   here : IsSharedCertificate p.frame.size bytes side o
   here = subst (λ (g : Frame). IsSharedCertificate g.size bytes side o) same is
 
-  pub shared_wins_at : SharedPartsSay side p.frame o p.state (Some true) → Wins side p.frame (unfolded [] o) p.state → FindsShared p bytes Valid
+  pub shared_wins_at : IsOutlineAnswer side p.frame o p.state (Some true) → Wins side p.frame (unfolded [] o) p.state → FindsShared p bytes Valid
   shared_wins_at h w = shared_wins side o here h w
 
-  pub shared_loses_at : SharedPartsSay side p.frame o p.state (Some false) → (Wins side p.frame (unfolded [] o) p.state → ⊥) → FindsShared p bytes Invalid
+  pub shared_loses_at : IsOutlineAnswer side p.frame o p.state (Some false) → (Wins side p.frame (unfolded [] o) p.state → ⊥) → FindsShared p bytes Invalid
   shared_loses_at h w = shared_loses side o here h w
 
-  pub unfit_at : SharedPartsSay side p.frame o p.state None → FindsShared p bytes (Refused 32)
+  pub unfit_at : IsOutlineAnswer side p.frame o p.state None → FindsShared p bytes (Refused 32)
   unfit_at h = unfit side o here h
 
 -- what is found behind the first tree
-pub found_behind : (parts : Bool) (input : List ℕ) (used : ℕ) (t : GameTree) (nodes : List Node) (bytes : List ℕ) (o : Finding) → length input ≤ MAX_BYTES → FirstTreeEndsAt input used t
-    → nodes ≡ main_line t → bytes ≡ trimmed (take (length input - used) (drop used input)) → FindsOn parts (problem_of nodes) bytes o → Finds parts input o
+pub found_behind : (parts : Bool) (input : List ℕ) (used : ℕ) (t : GameTree) (nodes : List Node) (bytes : List ℕ) (o : CheckOutcome) → length input ≤ MAX_BYTES → FirstTreeEndsAt input used t
+    → nodes ≡ main_line t → bytes ≡ trimmed (take (length input - used) (drop used input)) → FindsOnProblem parts (problem_of nodes) bytes o → Finds parts input o
 found_behind parts input used t nodes bytes o small s same is h =
     let whole : take (length input - used) (drop used input) ≡ drop used input = take_all _ _ (omega (arith, length-drop used input)) in
     first_tree used t o small s
-    (subst (λ (x : List Node). FindsOn parts (problem_of x) (trimmed (drop used input)) o) same (subst (λ (x : List ℕ). FindsOn parts (problem_of nodes) x o) (is ∙ ap trimmed whole) h))
+    (subst (λ (x : List Node). FindsOnProblem parts (problem_of x) (trimmed (drop used input)) o) same (subst (λ (x : List ℕ). FindsOnProblem parts (problem_of nodes) x o) (is ∙ ap trimmed whole) h))

@@ -11,7 +11,7 @@ use Rattle.tt_game.specs.Turns.{IsTurnOnBoard, legal_turns}
 use Rattle.tt_game.specs.laws.TurnLaws.{contains-legal_turns}
 use Rattle.tt_search.specs.declared.limits.Limits.{Limits}
 use Rattle.tt_search.specs.declared.limits.Reason.{Reason}
-use Rattle.tt_text.specs.Solving.{AreTurnLines, IsValueOrReason, ProblemText, TurnsFollow, Verdict, line_after, value_line}
+use Rattle.tt_text.specs.Solving.{AreTurnLines, IsValueOrReason, IsAnswerText, TurnLinesFollow, IsVerdict, line_after, value_line}
 use Rattle.tt_text.specs.declared.options.Options.{Options}
 
 -- a turn in the list of legal turns is legal
@@ -54,6 +54,6 @@ pub all_lines : (p : LineWithUndo) (limits : Limits) (total : Option ℕ) (ts : 
 all_lines p limits total ts n lines whole all h = subst (λ (us : List Turn). AreTurnLines p limits total us lines) (take_all n ts whole ∙ all) h
 
 -- a verdict, and what follows it
-pub problem_text : (options : Options) (p : LineWithUndo) (verdict lines text : List ℕ) → Verdict p options.limits options.total options.cert verdict
-    → TurnsFollow p options.limits options.total options.turns lines → text ≡ verdict ++ lines → ProblemText options p text
+pub problem_text : (options : Options) (p : LineWithUndo) (verdict lines text : List ℕ) → IsVerdict p options.limits options.total options.cert verdict
+    → TurnLinesFollow p options.limits options.total options.turns lines → text ≡ verdict ++ lines → IsAnswerText options p text
 problem_text options p verdict lines text v h e = (verdict, lines, e, v, h)

@@ -10,13 +10,13 @@ use Rattle.tt_game.specs.declared.turns.Turn.{Turn}
 use Rattle.tt_game.specs.declared.turns.Turn.TheVariants.{Play, Pass}
 use Rattle.tt_game.specs.Game.{HasValue, value_for}
 use Rattle.tt_game.specs.Line.{LineWithUndo}
-use Rattle.tt_game.specs.laws.SideLaws.{words_apart}
-use Rattle.tt_game.specs.Sides.{side_word}
-use Rattle.tt_proof.specs.CertificateText.{shown_turn}
+use Rattle.tt_game.specs.laws.SideLaws.{verdict_words_are_apart}
+use Rattle.tt_game.specs.Sides.{verdict_word}
+use Rattle.tt_proof.specs.CertificateText.{readable_turn_text}
 use Rattle.tt_search.specs.declared.limits.Limits.{Limits}
-use Rattle.tt_text.specs.declared.options.Cert.{Cert}
+use Rattle.tt_text.specs.declared.options.CertKind.{CertKind}
 use Rattle.tt_text.specs.Laws.{VerdictsAreValues}
-use Rattle.tt_text.specs.Solving.{IsFirst, Verdict, decided, decided_text, first_text, unsettled}
+use Rattle.tt_text.specs.Solving.{IsFirstTurn, IsVerdict, decided, decided_text, first_turn_text, unsettled}
 
 -- the byte in a place, or 0
 abbrev byte : ℕ → List ℕ → ℕ
@@ -34,39 +34,39 @@ points_same size p q column row =
     sym (div-add-mod p size.columns) ∙ joined ∙ div-add-mod q size.columns
 
 -- a turn is read off its letters
-turns_same : (size : Size) (t u : Turn) (x y : List ℕ) → shown_turn size t ++ newline ∷ x ≡ shown_turn size u ++ newline ∷ y → t ≡ u
+turns_same : (size : Size) (t u : Turn) (x y : List ℕ) → readable_turn_text size t ++ newline ∷ x ≡ readable_turn_text size u ++ newline ∷ y → t ≡ u
 turns_same size (Play p) (Play q) x y e = ap Play (points_same size p q (ap (byte 0) e) (ap (byte 1) e))
 turns_same size (Play p) Pass x y e = let bad : newline ≡ 115 = ap (byte 2) e in absurd (omega (arith, bad))
 turns_same size Pass (Play q) x y e = let bad : 115 ≡ newline = ap (byte 2) e in absurd (omega (arith, bad))
 turns_same size Pass Pass x y e = refl
 
 -- and so is a first turn, or that there is none
-firsts_same : (size : Size) (first second : Option Turn) (x y : List ℕ) → first_text size first ++ newline ∷ x ≡ first_text size second ++ newline ∷ y → first ≡ second
+firsts_same : (size : Size) (first second : Option Turn) (x y : List ℕ) → first_turn_text size first ++ newline ∷ x ≡ first_turn_text size second ++ newline ∷ y → first ≡ second
 firsts_same size None None x y e = refl
 firsts_same size None (Some t) x y e = let bad : newline ≡ space = ap (byte 0) e in absurd (omega (arith, bad))
 firsts_same size (Some t) None x y e = let bad : space ≡ newline = ap (byte 0) e in absurd (omega (arith, bad))
-firsts_same size (Some t) (Some u) x y e = ap Some (turns_same size t u x y (append_cancel_left (space ∷ []) (shown_turn size t ++ newline ∷ x) (shown_turn size u ++ newline ∷ y) e))
+firsts_same size (Some t) (Some u) x y e = ap Some (turns_same size t u x y (append_cancel_left (space ∷ []) (readable_turn_text size t ++ newline ∷ x) (readable_turn_text size u ++ newline ∷ y) e))
 
 -- what a verdict that begins with the side's word says
 record Says (p : LineWithUndo) (side : Side) (rest : List ℕ) : Type 0 where
   first : Option Turn
   lines : List ℕ
   valued : HasValue p.frame p.state (value_for side)
-  first_is : IsFirst p side first
-  text : first_text p.frame.size first ++ newline ∷ lines ≡ rest
+  first_is : IsFirstTurn p side first
+  text : first_turn_text p.frame.size first ++ newline ∷ lines ≡ rest
 
 -- a verdict that begins with a side's word says so
-says : (p : LineWithUndo) (limits : Limits) (total : Option ℕ) (cert : Cert) (side : Side) (rest text : List ℕ) → Verdict p limits total cert text → text ≡ side_word side ++ rest → Says p side rest
+says : (p : LineWithUndo) (limits : Limits) (total : Option ℕ) (cert : CertKind) (side : Side) (rest text : List ℕ) → IsVerdict p limits total cert text → text ≡ verdict_word side ++ rest → Says p side rest
 says p limits total cert side rest text (decided s first lines valued keeps more) e =
     let size = p.frame.size in
-    let parts : decided_text size s first ++ lines ≡ side_word s ++ (first_text size first ++ newline ∷ lines) =
-    append_assoc (side_word s) (first_text size first ++ newline ∷ []) lines ∙ ap (λ (x : List ℕ). side_word s ++ x) (append_assoc (first_text size first) (newline ∷ []) lines) in
-    let same = words_apart s side (first_text size first ++ newline ∷ lines) rest (sym parts ∙ e) in
+    let parts : decided_text size s first ++ lines ≡ verdict_word s ++ (first_turn_text size first ++ newline ∷ lines) =
+    append_assoc (verdict_word s) (first_turn_text size first ++ newline ∷ []) lines ∙ ap (λ (x : List ℕ). verdict_word s ++ x) (append_assoc (first_turn_text size first) (newline ∷ []) lines) in
+    let same = verdict_words_are_apart s side (first_turn_text size first ++ newline ∷ lines) rest (sym parts ∙ e) in
     record {
       first = first;
       lines = lines;
       valued = subst (λ (x : Side). HasValue p.frame p.state (value_for x)) same.0 valued;
-      first_is = subst (λ (x : Side). IsFirst p x first) same.0 keeps;
+      first_is = subst (λ (x : Side). IsFirstTurn p x first) same.0 keeps;
       text = same.1;
     }
 says p limits total cert Attacker rest text (unsettled reason h) e = let bad : 117 ≡ 107 = ap (byte 0) e in absurd (omega (arith, bad))
@@ -75,5 +75,5 @@ says p limits total cert Defender rest text (unsettled reason h) e = let bad : 1
 -- verdicts name the value, and the turn behind the word
 pub are_values : VerdictsAreValues
 are_values p limits total cert side rest v =
-    let said = says p limits total cert side rest (side_word side ++ rest) v refl in
-    (said.valued, λ first lines e. subst (λ (o : Option Turn). IsFirst p side o) (firsts_same p.frame.size said.first first said.lines lines (said.text ∙ e)) said.first_is)
+    let said = says p limits total cert side rest (verdict_word side ++ rest) v refl in
+    (said.valued, λ first lines e. subst (λ (o : Option Turn). IsFirstTurn p side o) (firsts_same p.frame.size said.first first said.lines lines (said.text ∙ e)) said.first_is)

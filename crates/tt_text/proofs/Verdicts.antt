@@ -8,7 +8,7 @@ use Rattle.tt_game.specs.GameLaws.{IsState}
 use Rattle.tt_game.specs.Line.{LineWithUndo}
 use Rattle.tt_game.proofs.SomeSide.{state_after, values_forced}
 use Rattle.tt_proof.specs.CertificateText.{certificate_text}
-use Rattle.tt_proof.specs.Proven.{IsWon, Proven, StandsAt, first_of}
+use Rattle.tt_proof.specs.ProofClaim.{IsWinningTree, ProofClaim, StandsAt, first_turn_of}
 use Rattle.tt_proof.specs.Strategy.{Strategy, done, pick, reply, depth}
 use Rattle.tt_proof.specs.Wins.{Wins}
 use Rattle.tt_proof.specs.SharedWins.{IsWinningSharedCertificate}
@@ -18,24 +18,24 @@ use Rattle.tt_search.specs.declared.limits.Limits.{Limits}
 use Rattle.tt_search.specs.declared.limits.Reason.{Reason}
 use Rattle.tt_search.specs.declared.limits.Reason.TheVariants.{Budget, Depth, Total, Memory}
 use Rattle.tt_share.specs.declared.answer.Stuck.{Stuck}
-use Rattle.tt_share.specs.Answers.{IsSettled}
+use Rattle.tt_share.specs.Answers.{IsSettledAnswer}
 use Rattle.tt_share.specs.Answers as answer
 use Rattle.tt_sgf.specs.Bytes.{newline}
-use Rattle.tt_text.specs.declared.options.Cert.{Cert}
-use Rattle.tt_text.specs.declared.options.Cert.TheVariants.{Plain, Shared}
-use Rattle.tt_text.specs.Solving.{Follows, IsFirst, IsSaid, IsUnsettledFor, Verdict, decided, decided_text, unsettled, unsettled_text}
+use Rattle.tt_text.specs.declared.options.CertKind.{CertKind}
+use Rattle.tt_text.specs.declared.options.CertKind.TheVariants.{Plain, Shared}
+use Rattle.tt_text.specs.Solving.{CertificateFollows, IsFirstTurn, IsDecidedText, IsUnsettledFor, IsVerdict, decided, decided_text, unsettled, unsettled_text}
 
 -- a strategy that wins says the value
 won_value : (side : Side) (f : Frame) (u : Strategy) (s : State) → IsState f s → Wins side f u s → HasValue f s (value_for side)
 won_value side f u s is w = (values_forced f s side is).1 (depth u) (win_forces side f u s w)
 
 -- a proof that stands at the problem wins there
-won_there : (p : Proven) (f : Frame) (s : State) → StandsAt p f s → IsWon p.side p.frame p.state p.tree → IsWon p.side f s p.tree
-won_there p f s at w = subst (λ (x : State). IsWon p.side f x p.tree) at.1 (subst (λ (x : Frame). IsWon p.side x p.state p.tree) at.0 w)
+won_there : (p : ProofClaim) (f : Frame) (s : State) → StandsAt p f s → IsWinningTree p.side p.frame p.state p.tree → IsWinningTree p.side f s p.tree
+won_there p f s at w = subst (λ (x : State). IsWinningTree p.side f x p.tree) at.1 (subst (λ (x : Frame). IsWinningTree p.side x p.state p.tree) at.0 w)
 
 -- its certificate is one with shared parts
-pub plain_shared : (p : Proven) (f : Frame) (s : State) (most : ℕ) (text : List ℕ) → StandsAt p f s → IsWon p.side p.frame p.state p.tree
-    → depth p.tree ≤ most → text ≡ certificate_text f.size p.side p.tree → IsWinningSharedCertificate f s p.side (first_of p.tree) most text
+pub plain_shared : (p : ProofClaim) (f : Frame) (s : State) (most : ℕ) (text : List ℕ) → StandsAt p f s → IsWinningTree p.side p.frame p.state p.tree
+    → depth p.tree ≤ most → text ≡ certificate_text f.size p.side p.tree → IsWinningSharedCertificate f s p.side (first_turn_of p.tree) most text
 plain_shared p f s most text at won low e =
     let w = won_there p f s at won in
     let c = certificates_shared f.size text p.side p.tree (record { in_order = w.in_order; shallow = w.shallow; text = e }) in
@@ -45,56 +45,56 @@ plain_shared p f s most text at won low e =
       wins = subst (λ (v : Strategy). Wins p.side f v s) (sym c.1.1) w.wins;
       shallow = subst (λ (v : Strategy). depth v ≤ most) (sym c.1.1) low;
       fits = c.1.2 p.side f s;
-      begins = sym (ap first_of c.1.1);
+      begins = sym (ap first_turn_of c.1.1);
     }
 
 -- and as a line it follows the verdict
-pub plain_follows : (p : Proven) (line : LineWithUndo) (limits : Limits) (text lines : List ℕ) → StandsAt p line.frame line.state
-    → IsWon p.side p.frame p.state p.tree → depth p.tree ≤ limits.depth → text ≡ certificate_text line.frame.size p.side p.tree
-    → lines ≡ text ++ newline ∷ [] → Follows line limits p.side (first_of p.tree) Plain lines
+pub plain_follows : (p : ProofClaim) (line : LineWithUndo) (limits : Limits) (text lines : List ℕ) → StandsAt p line.frame line.state
+    → IsWinningTree p.side p.frame p.state p.tree → depth p.tree ≤ limits.depth → text ≡ certificate_text line.frame.size p.side p.tree
+    → lines ≡ text ++ newline ∷ [] → CertificateFollows line limits p.side (first_turn_of p.tree) Plain lines
 plain_follows p line limits text lines at won low e f =
     let w = won_there p line.frame line.state at won in
     (text, record { strategy = p.tree; is = record { in_order = w.in_order; shallow = w.shallow; text = e }; wins = w.wins; shallow = low; begins = refl }, f)
 
 pub shared_follows : (line : LineWithUndo) (limits : Limits) (side : Side) (first : Option Turn) (most : ℕ) (text lines : List ℕ) → most ≡ limits.depth
-    → IsWinningSharedCertificate line.frame line.state side first most text → lines ≡ text ++ newline ∷ [] → Follows line limits side first Shared lines
+    → IsWinningSharedCertificate line.frame line.state side first most text → lines ≡ text ++ newline ∷ [] → CertificateFollows line limits side first Shared lines
 shared_follows line limits side first most text lines same w e =
     (text, subst (λ (n : ℕ). IsWinningSharedCertificate line.frame line.state side first n text) same w, e)
 
 -- the line of a verdict, and what follows it
-pub said : (line : LineWithUndo) (limits : Limits) (p : Proven) (first : Option Turn) (cert : Cert) (lines text : List ℕ) → first ≡ first_of p.tree
-    → Follows line limits p.side (first_of p.tree) cert lines → text ≡ decided_text line.frame.size p.side first ++ lines
-    → IsSaid line limits p.side first cert text
-said line limits p first cert lines text e h at = (lines, subst (λ (o : Option Turn). Follows line limits p.side o cert lines) (sym e) h, at)
+pub said : (line : LineWithUndo) (limits : Limits) (p : ProofClaim) (first : Option Turn) (cert : CertKind) (lines text : List ℕ) → first ≡ first_turn_of p.tree
+    → CertificateFollows line limits p.side (first_turn_of p.tree) cert lines → text ≡ decided_text line.frame.size p.side first ++ lines
+    → IsDecidedText line limits p.side first cert text
+said line limits p first cert lines text e h at = (lines, subst (λ (o : Option Turn). CertificateFollows line limits p.side o cert lines) (sym e) h, at)
 
 module _ (line : LineWithUndo) (is : IsState line.frame line.state) where
   -- the first turn of a winning strategy keeps the value
-  first_keeps : (side : Side) (u : Strategy) → Wins side line.frame u line.state → (side ≡ line.state.to_move → IsSome (first_of u)) → IsFirst line side (first_of u)
+  first_keeps : (side : Side) (u : Strategy) → Wins side line.frame u line.state → (side ≡ line.state.to_move → IsSome (first_turn_of u)) → IsFirstTurn line side (first_turn_of u)
   first_keeps side done w shown = λ e. let bad : false ≡ true = shown (sym e) in cc
   first_keeps side (pick t u) w shown =
       (w.1, w.2, won_value side line.frame u (after line.frame line.state t) (state_after line.frame line.state t is w.2) w.3)
   first_keeps side (reply es) w shown = λ e. let bad : false ≡ true = shown (sym e) in cc
 
   -- a strategy that wins within the limit on depth makes a verdict
-  won_verdict : (limits : Limits) (total : Option ℕ) (side : Side) (u : Strategy) (cert : Cert) (text : List ℕ) → IsWon side line.frame line.state u
-      → (side ≡ line.state.to_move → IsSome (first_of u)) → IsSaid line limits side (first_of u) cert text → Verdict line limits total cert text
+  won_verdict : (limits : Limits) (total : Option ℕ) (side : Side) (u : Strategy) (cert : CertKind) (text : List ℕ) → IsWinningTree side line.frame line.state u
+      → (side ≡ line.state.to_move → IsSome (first_turn_of u)) → IsDecidedText line limits side (first_turn_of u) cert text → IsVerdict line limits total cert text
   won_verdict limits total side u cert text w shown said =
-      subst (λ (x : List ℕ). Verdict line limits total cert x) (sym said.2)
-      (decided side (first_of u) said.0 (won_value side line.frame u line.state is w.wins) (first_keeps side u w.wins shown) said.1)
+      subst (λ (x : List ℕ). IsVerdict line limits total cert x) (sym said.2)
+      (decided side (first_turn_of u) said.0 (won_value side line.frame u line.state is w.wins) (first_keeps side u w.wins shown) said.1)
 
-  settled_won : (limits : Limits) (p : Proven) (first : Option Turn) → IsSettled line limits p first → IsWon p.side p.frame p.state p.tree → IsWon p.side line.frame line.state p.tree
+  settled_won : (limits : Limits) (p : ProofClaim) (first : Option Turn) → IsSettledAnswer line limits p first → IsWinningTree p.side p.frame p.state p.tree → IsWinningTree p.side line.frame line.state p.tree
   settled_won limits p first h w = won_there p line.frame line.state h.stands w
 
   -- the text of a proof that stands at the problem
-  pub settled_verdict : (limits : Limits) (total : Option ℕ) (cert : Cert) (p : Proven) (first : Option Turn) (text : List ℕ) → IsSettled line limits p first
-      → IsWon p.side p.frame p.state p.tree → IsSaid line limits p.side first cert text → Verdict line limits total cert text
+  pub settled_verdict : (limits : Limits) (total : Option ℕ) (cert : CertKind) (p : ProofClaim) (first : Option Turn) (text : List ℕ) → IsSettledAnswer line limits p first
+      → IsWinningTree p.side p.frame p.state p.tree → IsDecidedText line limits p.side first cert text → IsVerdict line limits total cert text
   settled_verdict limits total cert p first text h w said =
-      let shown : p.side ≡ line.state.to_move → IsSome (first_of p.tree) = λ is. subst (λ (o : Option Turn). IsSome o) h.first_is (h.shown.1 is) in
+      let shown : p.side ≡ line.state.to_move → IsSome (first_turn_of p.tree) = λ is. subst (λ (o : Option Turn). IsSome o) h.first_is (h.shown.1 is) in
       won_verdict limits total p.side p.tree cert text (settled_won limits p first h w) shown
-      (subst (λ (o : Option Turn). IsSaid line limits p.side o cert text) h.first_is said)
+      (subst (λ (o : Option Turn). IsDecidedText line limits p.side o cert text) h.first_is said)
 
   -- its side is the value
-  pub settled_value : (limits : Limits) (p : Proven) (first : Option Turn) → IsSettled line limits p first → IsWon p.side p.frame p.state p.tree
+  pub settled_value : (limits : Limits) (p : ProofClaim) (first : Option Turn) → IsSettledAnswer line limits p first → IsWinningTree p.side p.frame p.state p.tree
       → HasValue line.frame line.state (value_for p.side)
   settled_value limits p first h w = won_value p.side line.frame p.tree line.state is (settled_won limits p first h w).wins
 
@@ -103,7 +103,7 @@ module _ (line : LineWithUndo) (is : IsState line.frame line.state) where
   winner_value side w = (values_forced line.frame line.state side is).1 0 w
 
 -- what a stuck turn says is what the verdict says for the reason
-pub stuck_for : (line : LineWithUndo) (limits : Limits) (total : Option ℕ) (stuck : Stuck) (reason : Reason) → answer.IsUnsettled line limits total reason stuck
+pub stuck_for : (line : LineWithUndo) (limits : Limits) (total : Option ℕ) (stuck : Stuck) (reason : Reason) → answer.IsUnsettledAnswer line limits total reason stuck
     → IsUnsettledFor line limits total reason
 stuck_for line limits total stuck Budget h = (stuck.turn, h.0, h.2)
 stuck_for line limits total stuck Depth h = (stuck.turn, h.0, h.2)
@@ -111,7 +111,7 @@ stuck_for line limits total stuck Total h = (h.0, h.1, stuck.turn, h.2, stuck.sp
 stuck_for line limits total stuck Memory h = tt
 
 -- the text of a stuck turn
-pub stuck_verdict : (line : LineWithUndo) (limits : Limits) (total : Option ℕ) (cert : Cert) (stuck : Stuck) (text : List ℕ) → answer.IsUnsettled line limits total stuck.reason stuck
-    → text ≡ unsettled_text stuck.reason → Verdict line limits total cert text
+pub stuck_verdict : (line : LineWithUndo) (limits : Limits) (total : Option ℕ) (cert : CertKind) (stuck : Stuck) (text : List ℕ) → answer.IsUnsettledAnswer line limits total stuck.reason stuck
+    → text ≡ unsettled_text stuck.reason → IsVerdict line limits total cert text
 stuck_verdict line limits total cert stuck text h e =
-    subst (λ (x : List ℕ). Verdict line limits total cert x) (sym e) (unsettled stuck.reason (stuck_for line limits total stuck stuck.reason h))
+    subst (λ (x : List ℕ). IsVerdict line limits total cert x) (sym e) (unsettled stuck.reason (stuck_for line limits total stuck stuck.reason h))

@@ -12,71 +12,71 @@ use Rattle.tt_game.specs.Line.{LineWithUndo}
 use Rattle.tt_game.specs.Problems.{problem_of}
 use Rattle.tt_proof.specs.declared.certificate_read.CertFault.TheVariants.{Syntax, TooDeep}
 use Rattle.tt_proof.specs.declared.tree.TheConstants.{MOST_DEPTH}
-use Rattle.tt_proof.specs.CertificateFaults.{IsSharedFault}
+use Rattle.tt_proof.specs.CertificateFaults.{IsSharedCertFault}
 use Rattle.tt_proof.specs.CertificateText.{IsCertificate, IsTooDeep}
 use Rattle.tt_proof.specs.Outlines.{Outline, IsSharedCertificate, unfolded}
-use Rattle.tt_proof.specs.SharedParts.{SharedPartsSay}
+use Rattle.tt_proof.specs.SharedParts.{IsOutlineAnswer}
 use Rattle.tt_proof.specs.Strategy.{Strategy}
 use Rattle.tt_proof.specs.Wins.{Wins}
-use Rattle.tt_text.specs.declared.finding.Finding.{Finding}
-use Rattle.tt_text.specs.declared.finding.Finding.TheVariants.{Valid, Invalid, Refused}
+use Rattle.tt_text.specs.declared.checking.CheckOutcome.{CheckOutcome}
+use Rattle.tt_text.specs.declared.checking.CheckOutcome.TheVariants.{Valid, Invalid, Refused}
 
 -- What is found on bytes at a problem: a turn lies too deep; or they are no certificate; or they are one, and its tree
 -- wins at the problem or doesn't.
-pub data FindsAt (p : LineWithUndo) (bytes : List ℕ) : Finding → Type 0 where
-  too_deep : IsTooDeep p.frame.size bytes → FindsAt p bytes (Refused 31)
+pub data FindsPlain (p : LineWithUndo) (bytes : List ℕ) : CheckOutcome → Type 0 where
+  too_deep : IsTooDeep p.frame.size bytes → FindsPlain p bytes (Refused 31)
   no_certificate : (IsTooDeep p.frame.size bytes → ⊥) → ((side : Side) (u : Strategy) → IsCertificate p.frame.size bytes side u → ⊥)
-      → FindsAt p bytes (Refused 30)
+      → FindsPlain p bytes (Refused 30)
   wins : (side : Side) (u : Strategy) → (IsTooDeep p.frame.size bytes → ⊥) → IsCertificate p.frame.size bytes side u
-      → Wins side p.frame u p.state → FindsAt p bytes Valid
+      → Wins side p.frame u p.state → FindsPlain p bytes Valid
   loses : (side : Side) (u : Strategy) → (IsTooDeep p.frame.size bytes → ⊥) → IsCertificate p.frame.size bytes side u
-      → (Wins side p.frame u p.state → ⊥) → FindsAt p bytes Invalid
+      → (Wins side p.frame u p.state → ⊥) → FindsPlain p bytes Invalid
 
 -- What is found on bytes at a problem where parts may be shared: they are a certificate with shared parts, and a part of it
 -- doesn't fit, or its tree wins at the problem or doesn't; or they are none.
-pub data FindsShared (p : LineWithUndo) (bytes : List ℕ) : Finding → Type 0 where
-  unread : IsSharedFault p.frame.size MOST_DEPTH bytes Syntax → FindsShared p bytes (Refused 30)
-  goes_deep : IsSharedFault p.frame.size MOST_DEPTH bytes TooDeep → FindsShared p bytes (Refused 31)
-  unfit : (side : Side) (o : Outline) → IsSharedCertificate p.frame.size bytes side o → SharedPartsSay side p.frame o p.state None
+pub data FindsShared (p : LineWithUndo) (bytes : List ℕ) : CheckOutcome → Type 0 where
+  unread : IsSharedCertFault p.frame.size MOST_DEPTH bytes Syntax → FindsShared p bytes (Refused 30)
+  goes_deep : IsSharedCertFault p.frame.size MOST_DEPTH bytes TooDeep → FindsShared p bytes (Refused 31)
+  unfit : (side : Side) (o : Outline) → IsSharedCertificate p.frame.size bytes side o → IsOutlineAnswer side p.frame o p.state None
       → FindsShared p bytes (Refused 32)
-  shared_wins : (side : Side) (o : Outline) → IsSharedCertificate p.frame.size bytes side o → SharedPartsSay side p.frame o p.state (Some true)
+  shared_wins : (side : Side) (o : Outline) → IsSharedCertificate p.frame.size bytes side o → IsOutlineAnswer side p.frame o p.state (Some true)
       → Wins side p.frame (unfolded [] o) p.state → FindsShared p bytes Valid
-  shared_loses : (side : Side) (o : Outline) → IsSharedCertificate p.frame.size bytes side o → SharedPartsSay side p.frame o p.state (Some false)
+  shared_loses : (side : Side) (o : Outline) → IsSharedCertificate p.frame.size bytes side o → IsOutlineAnswer side p.frame o p.state (Some false)
       → (Wins side p.frame (unfolded [] o) p.state → ⊥) → FindsShared p bytes Invalid
 
 -- the one or the other, as parts are asked for
-abbrev pub FindsBy : Bool → LineWithUndo → List ℕ → Finding → Type 0
-FindsBy true = FindsShared
-FindsBy false = FindsAt
+abbrev pub FindsPlainOrShared : Bool → LineWithUndo → List ℕ → CheckOutcome → Type 0
+FindsPlainOrShared true = FindsShared
+FindsPlainOrShared false = FindsPlain
 
 -- the same, where the problem may be refused before
-abbrev pub FindsOn : Bool → Result LineWithUndo GameFault → List ℕ → Finding → Type 0
-FindsOn parts (Ok p) bytes o = FindsBy parts p bytes o
-FindsOn parts (Err e) bytes o = o ≡ Refused (code_of e)
+abbrev pub FindsOnProblem : Bool → Result LineWithUndo GameFault → List ℕ → CheckOutcome → Type 0
+FindsOnProblem parts (Ok p) bytes o = FindsPlainOrShared parts p bytes o
+FindsOnProblem parts (Err e) bytes o = o ≡ Refused (code_of e)
 
 -- What is found on the whole input: it is too long; or it has no tree; or the first tree is the problem, and what follows it,
 -- without the white space at both ends, is to be the certificate.
-pub data Finds (parts : Bool) (input : List ℕ) : Finding → Type 0 where
+pub data Finds (parts : Bool) (input : List ℕ) : CheckOutcome → Type 0 where
   too_long : MAX_BYTES < length input → Finds parts input (Refused 2)
   no_tree : length input ≤ MAX_BYTES → HasNoTree input → Finds parts input (Refused 1)
-  first_tree : (count : ℕ) (t : GameTree) (o : Finding) → length input ≤ MAX_BYTES → FirstTreeEndsAt input count t
-      → FindsOn parts (problem_of (main_line t)) (trimmed (drop count input)) o → Finds parts input o
+  first_tree : (count : ℕ) (t : GameTree) (o : CheckOutcome) → length input ≤ MAX_BYTES → FirstTreeEndsAt input count t
+      → FindsOnProblem parts (problem_of (main_line t)) (trimmed (drop count input)) o → Finds parts input o
 
 -- the line on a finding; a newline ends it
-abbrev pub finding_line : Finding → List ℕ
-finding_line Valid = codes "valid" ++ newline ∷ []
-finding_line Invalid = codes "invalid" ++ newline ∷ []
-finding_line (Refused code) = codes "refused " ++ (decimal code ++ newline ∷ [])
+abbrev pub check_line : CheckOutcome → List ℕ
+check_line Valid = codes "valid" ++ newline ∷ []
+check_line Invalid = codes "invalid" ++ newline ∷ []
+check_line (Refused code) = codes "refused " ++ (decimal code ++ newline ∷ [])
 
 -- the exit status: 0 where the certificate is valid
-abbrev pub finding_status : Finding → ℕ
-finding_status Valid = 0
-finding_status Invalid = 1
-finding_status (Refused code) = 1
+abbrev pub check_status : CheckOutcome → ℕ
+check_status Valid = 0
+check_status Invalid = 1
+check_status (Refused code) = 1
 
 -- the text is the line on what is found
 pub record IsCheckText (parts : Bool) (input text : List ℕ) (status : ℕ) : Type 0 where
-  pub finding : Finding
+  pub finding : CheckOutcome
   pub finds : Finds parts input finding
-  pub line : text ≡ finding_line finding
-  pub status_is : status ≡ finding_status finding
+  pub line : text ≡ check_line finding
+  pub status_is : status ≡ check_status finding

@@ -5,13 +5,13 @@ use Rattle.tt_game.specs.declared.frame.Side.{Side}
 use Rattle.tt_game.specs.declared.turns.Turn.{Turn}
 use Rattle.tt_game.specs.Game.{HasValue, value_for}
 use Rattle.tt_game.specs.Line.{LineWithUndo}
-use Rattle.tt_game.specs.Sides.{side_word}
+use Rattle.tt_game.specs.Sides.{verdict_word}
 use Rattle.tt_search.specs.declared.limits.Limits.{Limits}
-use Rattle.tt_text.specs.declared.options.Cert.{Cert}
-use Rattle.tt_text.specs.Solving.{IsFirst, Verdict, first_text}
+use Rattle.tt_text.specs.declared.options.CertKind.{CertKind}
+use Rattle.tt_text.specs.Solving.{IsFirstTurn, IsVerdict, first_turn_text}
 
 -- a verdict that begins with a side's word names the problem's value, and the turn behind the word, or its absence, is so
 abbrev pub VerdictsAreValues : Type 0
-VerdictsAreValues = (p : LineWithUndo) (limits : Limits) (total : Option ℕ) (cert : Cert) (side : Side) (rest : List ℕ) → Verdict p limits total cert (side_word side ++ rest)
+VerdictsAreValues = (p : LineWithUndo) (limits : Limits) (total : Option ℕ) (cert : CertKind) (side : Side) (rest : List ℕ) → IsVerdict p limits total cert (verdict_word side ++ rest)
     → HasValue p.frame p.state (value_for side)
-    × ((first : Option Turn) (lines : List ℕ) → rest ≡ first_text p.frame.size first ++ newline ∷ lines → IsFirst p side first)
+    × ((first : Option Turn) (lines : List ℕ) → rest ≡ first_turn_text p.frame.size first ++ newline ∷ lines → IsFirstTurn p side first)

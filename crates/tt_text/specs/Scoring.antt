@@ -10,10 +10,10 @@ use Rattle.tt_text.specs.declared.outcome.TreeOutcome.{TreeOutcome}
 use Rattle.tt_text.specs.declared.outcome.TreeOutcome.TheVariants.{Scored, Refused}
 
 -- a record's score, or the number of its refusal
-abbrev pub scored : Result Record GameFault → TreeOutcome
-scored (Ok r) = Scored r
-scored (Err e) = Refused (code_of e)
+abbrev pub record_outcome : Result Record GameFault → TreeOutcome
+record_outcome (Ok r) = Scored r
+record_outcome (Err e) = Refused (code_of e)
 
 -- what `score` makes of a main line
 abbrev pub Scores : List Node → TreeOutcome → Type 0
-Scores nodes o = o ≡ scored (record_of nodes)
+Scores nodes o = o ≡ record_outcome (record_of nodes)

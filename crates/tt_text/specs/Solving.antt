@@ -11,34 +11,34 @@ use Rattle.tt_game.specs.Faults.{code_of}
 use Rattle.tt_game.specs.Game.{HasValue, IsLegal, after, value_for}
 use Rattle.tt_game.specs.Line.{LineWithUndo}
 use Rattle.tt_game.specs.Problems.{problem_of}
-use Rattle.tt_game.specs.Sides.{side_word}
+use Rattle.tt_game.specs.Sides.{verdict_word}
 use Rattle.tt_game.specs.Turns.{legal_turns}
-use Rattle.tt_proof.specs.CertificateText.{IsCertificate, shown_turn}
-use Rattle.tt_proof.specs.Proven.{first_of}
+use Rattle.tt_proof.specs.CertificateText.{IsCertificate, readable_turn_text}
+use Rattle.tt_proof.specs.ProofClaim.{first_turn_of}
 use Rattle.tt_proof.specs.SharedWins.{IsWinningSharedCertificate}
 use Rattle.tt_proof.specs.Strategy.{Strategy, depth}
 use Rattle.tt_proof.specs.Wins.{Wins}
 use Rattle.tt_search.specs.declared.limits.Limits.{Limits}
 use Rattle.tt_search.specs.declared.limits.Reason.{Reason}
 use Rattle.tt_search.specs.declared.limits.Reason.TheVariants.{Budget, Depth, Total, Memory}
-use Rattle.tt_search.specs.Searched.{Searched}
-use Rattle.tt_share.specs.Answers.{IsSpent, IsStuckBehind}
+use Rattle.tt_search.specs.SearchState.{SearchState}
+use Rattle.tt_share.specs.Answers.{IsTotalSpent, IsStuckAfter}
 use Rattle.tt_text.specs.declared.outcome.TreeOutcome.{TreeOutcome}
 use Rattle.tt_text.specs.declared.outcome.TreeOutcome.TheVariants.{Answered, Refused}
-use Rattle.tt_text.specs.declared.options.Cert.{Cert}
-use Rattle.tt_text.specs.declared.options.Cert.TheVariants.{Unasked, Plain, Shared}
+use Rattle.tt_text.specs.declared.options.CertKind.{CertKind}
+use Rattle.tt_text.specs.declared.options.CertKind.TheVariants.{Unasked, Plain, Shared}
 use Rattle.tt_text.specs.declared.options.Options.{Options}
 
 -- ---- texts; a newline ends each line
 
 -- a blank and the first turn, where there is one
-abbrev pub first_text : Size → Option Turn → List ℕ
-first_text size None = []
-first_text size (Some t) = space ∷ shown_turn size t
+abbrev pub first_turn_text : Size → Option Turn → List ℕ
+first_turn_text size None = []
+first_turn_text size (Some t) = space ∷ readable_turn_text size t
 
 -- the line of a decided problem
 abbrev pub decided_text : Size → Side → Option Turn → List ℕ
-decided_text size side first = side_word side ++ (first_text size first ++ newline ∷ [])
+decided_text size side first = verdict_word side ++ (first_turn_text size first ++ newline ∷ [])
 
 abbrev pub reason_word : Reason → List ℕ
 reason_word Budget = codes "budget"
@@ -52,19 +52,19 @@ unsettled_text reason = codes "unsettled " ++ (reason_word reason ++ newline ∷
 
 -- what is said behind a turn: the side that wins, or why that isn't known
 abbrev pub value_text : Result Side Reason → List ℕ
-value_text (Ok side) = side_word side ++ newline ∷ []
+value_text (Ok side) = verdict_word side ++ newline ∷ []
 value_text (Err reason) = unsettled_text reason
 
 -- the line on a turn, behind two blanks
 abbrev pub value_line : Size → Turn → Result Side Reason → List ℕ
-value_line size t value = space ∷ space ∷ (shown_turn size t ++ space ∷ value_text value)
+value_line size t value = space ∷ space ∷ (readable_turn_text size t ++ space ∷ value_text value)
 
 -- ---- what they say
 
 -- the first turn is shown exactly where the winner is to move; it is legal, and keeps the value
-abbrev pub IsFirst : LineWithUndo → Side → Option Turn → Type 0
-IsFirst p side None = p.state.to_move ≢ side
-IsFirst p side (Some t) =
+abbrev pub IsFirstTurn : LineWithUndo → Side → Option Turn → Type 0
+IsFirstTurn p side None = p.state.to_move ≢ side
+IsFirstTurn p side (Some t) =
     (p.state.to_move ≡ side) × IsLegal p.frame p.state t × HasValue p.frame (after p.frame p.state t) (value_for side)
 
 -- the bytes are the certificate of a strategy that wins for the side, within the limit on depth, and begins with that turn
@@ -73,34 +73,34 @@ pub record IsWinningCertificate (p : LineWithUndo) (limits : Limits) (side : Sid
   pub is : IsCertificate p.frame.size bytes side strategy
   pub wins : Wins side p.frame strategy p.state
   pub shallow : depth strategy ≤ limits.depth
-  pub begins : first ≡ first_of strategy
+  pub begins : first ≡ first_turn_of strategy
 
 -- nothing follows, or a certificate on a line of its own where it is asked for
-abbrev pub Follows : LineWithUndo → Limits → Side → Option Turn → Cert → List ℕ → Type 0
-Follows p limits side first Unasked lines = lines ≡ []
-Follows p limits side first Plain lines = (bytes : List ℕ) × IsWinningCertificate p limits side first bytes × (lines ≡ bytes ++ newline ∷ [])
-Follows p limits side first Shared lines =
+abbrev pub CertificateFollows : LineWithUndo → Limits → Side → Option Turn → CertKind → List ℕ → Type 0
+CertificateFollows p limits side first Unasked lines = lines ≡ []
+CertificateFollows p limits side first Plain lines = (bytes : List ℕ) × IsWinningCertificate p limits side first bytes × (lines ≡ bytes ++ newline ∷ [])
+CertificateFollows p limits side first Shared lines =
     (bytes : List ℕ) × IsWinningSharedCertificate p.frame p.state side first limits.depth bytes × (lines ≡ bytes ++ newline ∷ [])
 
 -- the text of a decided problem, with what follows it
-abbrev pub IsSaid : LineWithUndo → Limits → Side → Option Turn → Cert → List ℕ → Type 0
-IsSaid p limits side first cert text =
-    (lines : List ℕ) × Follows p limits side first cert lines × (text ≡ decided_text p.frame.size side first ++ lines)
+abbrev pub IsDecidedText : LineWithUndo → Limits → Side → Option Turn → CertKind → List ℕ → Type 0
+IsDecidedText p limits side first cert text =
+    (lines : List ℕ) × CertificateFollows p limits side first cert lines × (text ≡ decided_text p.frame.size side first ++ lines)
 
 -- behind some legal turn the search is stuck for the reason, and the lesser turns lose; for the total only where there is one, and
 -- then the count of this search and those of grown searches behind the other legal turns add up to it; of memory nothing is said
 abbrev pub IsUnsettledFor : LineWithUndo → Limits → Option ℕ → Reason → Type 0
-IsUnsettledFor p limits total Budget = (t : Turn) × (search : Searched) × IsStuckBehind p limits Budget t search
-IsUnsettledFor p limits total Depth = (t : Turn) × (search : Searched) × IsStuckBehind p limits Depth t search
-IsUnsettledFor p limits total Total = (n : ℕ) × (total ≡ Some n) × (t : Turn) × (search : Searched) × (spent : List (Turn × ℕ))
-    × IsStuckBehind p limits Total t search × IsSpent p limits n t search spent
+IsUnsettledFor p limits total Budget = (t : Turn) × (search : SearchState) × IsStuckAfter p limits Budget t search
+IsUnsettledFor p limits total Depth = (t : Turn) × (search : SearchState) × IsStuckAfter p limits Depth t search
+IsUnsettledFor p limits total Total = (n : ℕ) × (total ≡ Some n) × (t : Turn) × (search : SearchState) × (spent : List (Turn × ℕ))
+    × IsStuckAfter p limits Total t search × IsTotalSpent p limits n t search spent
 IsUnsettledFor p limits total Memory = Unit {0}
 
 -- The text is a verdict on the problem: its value, killed or lives; or that no win was found, for a reason.
-pub data Verdict (p : LineWithUndo) (limits : Limits) (total : Option ℕ) (cert : Cert) : List ℕ → Type 0 where
-  decided : (side : Side) (first : Option Turn) (lines : List ℕ) → HasValue p.frame p.state (value_for side) → IsFirst p side first
-      → Follows p limits side first cert lines → Verdict p limits total cert (decided_text p.frame.size side first ++ lines)
-  unsettled : (reason : Reason) → IsUnsettledFor p limits total reason → Verdict p limits total cert (unsettled_text reason)
+pub data IsVerdict (p : LineWithUndo) (limits : Limits) (total : Option ℕ) (cert : CertKind) : List ℕ → Type 0 where
+  decided : (side : Side) (first : Option Turn) (lines : List ℕ) → HasValue p.frame p.state (value_for side) → IsFirstTurn p side first
+      → CertificateFollows p limits side first cert lines → IsVerdict p limits total cert (decided_text p.frame.size side first ++ lines)
+  unsettled : (reason : Reason) → IsUnsettledFor p limits total reason → IsVerdict p limits total cert (unsettled_text reason)
 
 -- the side has the value, or a search is stuck for the reason
 abbrev pub IsValueOrReason : LineWithUndo → Limits → Option ℕ → Result Side Reason → Type 0
@@ -118,20 +118,20 @@ AreTurnLines p limits total (t ∷ ts) lines = (value : Result Side Reason) × (
     × (lines ≡ value_line p.frame.size t value ++ rest) × AreTurnLines p limits total ts rest
 
 -- nothing follows, or a line for each legal turn, in rising order, where they are asked for
-abbrev pub TurnsFollow : LineWithUndo → Limits → Option ℕ → Bool → List ℕ → Type 0
-TurnsFollow p limits total false lines = lines ≡ []
-TurnsFollow p limits total true lines = AreTurnLines p limits total (legal_turns p.frame p.state) lines
+abbrev pub TurnLinesFollow : LineWithUndo → Limits → Option ℕ → Bool → List ℕ → Type 0
+TurnLinesFollow p limits total false lines = lines ≡ []
+TurnLinesFollow p limits total true lines = AreTurnLines p limits total (legal_turns p.frame p.state) lines
 
 -- a verdict on the problem, and what follows of its turns
-abbrev pub ProblemText : Options → LineWithUndo → List ℕ → Type 0
-ProblemText options p text = (verdict lines : List ℕ) × (text ≡ verdict ++ lines)
-    × Verdict p options.limits options.total options.cert verdict × TurnsFollow p options.limits options.total options.turns lines
+abbrev pub IsAnswerText : Options → LineWithUndo → List ℕ → Type 0
+IsAnswerText options p text = (verdict lines : List ℕ) × (text ≡ verdict ++ lines)
+    × IsVerdict p options.limits options.total options.cert verdict × TurnLinesFollow p options.limits options.total options.turns lines
 
 -- what is said of the problem, or the number of its refusal
-abbrev pub SolvesAs : Options → Result LineWithUndo GameFault → TreeOutcome → Type 0
-SolvesAs options (Ok p) o = (text : List ℕ) × (o ≡ Answered text) × ProblemText options p text
-SolvesAs options (Err e) o = o ≡ Refused (code_of e)
+abbrev pub SolvesProblemAs : Options → Result LineWithUndo GameFault → TreeOutcome → Type 0
+SolvesProblemAs options (Ok p) o = (text : List ℕ) × (o ≡ Answered text) × IsAnswerText options p text
+SolvesProblemAs options (Err e) o = o ≡ Refused (code_of e)
 
 -- what `solve` makes of a main line; workers and df-pn have no part in it
 abbrev pub Solves : Options → List Node → TreeOutcome → Type 0
-Solves options nodes o = SolvesAs options (problem_of nodes) o
+Solves options nodes o = SolvesProblemAs options (problem_of nodes) o

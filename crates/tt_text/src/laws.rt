@@ -17,9 +17,9 @@ pub fn one_check_text()
     ensures { (parts : Bool) (input s t : List ℕ) (m n : ℕ) → IsCheckText parts input s m → IsCheckText parts input t n → (s ≡ t) × (m ≡ n) }
 {
     tt_sgf::laws::one_reading();
-    tt_proof::laws::one_certificate();
-    tt_proof::laws::one_shared_certificate();
-    tt_proof::laws::one_shared_answer();
+    tt_proof::laws::one_strategy_per_certificate();
+    tt_proof::laws::one_outline_per_certificate();
+    tt_proof::laws::one_answer_per_outline();
 }
 
 /// A verdict of `solve` that names a side says the problem's value. The turn that it shows keeps that value, and where it

@@ -2,15 +2,15 @@
 
 #![tactic(auto)]
 
-mod finding;
+mod checking;
 pub mod laws;
 mod options;
 mod outcome;
 mod solving;
 mod verdict;
 
-pub use finding::{Finding, find};
-pub use options::{Cert, MOST_IN_ALL, Options};
+pub use checking::{CheckOutcome, check_input};
+pub use options::{CertKind, MOST_TOTAL, Options};
 pub use outcome::{TreeOutcome, line, score};
-pub use solving::{found, solve};
+pub use solving::{solve, usable_dfpn_proof};
 pub use verdict::verdict_text;

@@ -1,7 +1,7 @@
 //! What becomes of one game tree, and the line that says so.
 ghost use Rattle.std.specs.Prelude.{◌≡◌, IfOk};
 ghost use Rattle.tt_text.specs.Scoring.{Scores};
-ghost use Rattle.tt_text.specs.Trees.{is_refused, line_of};
+ghost use Rattle.tt_text.specs.Trees.{is_refused, outcome_line};
 
 use std::alloc::{AllocError, Global};
 use tt_game::{GameFault, Record, play_record};
@@ -29,7 +29,7 @@ impl TreeOutcome {
 
 /// The line of a score.
 fn score_line(alloc: Global, number: usize, scored: &Record) -> Result<Vec<u8>, AllocError>
-    ensures { IfOk result (λ text. text.items ≡ line_of number (TreeOutcome.Scored scored.now)) }
+    ensures { IfOk result (λ text. text.items ≡ outcome_line number (TreeOutcome.Scored scored.now)) }
 {
     let Record {
         black,
@@ -43,7 +43,7 @@ fn score_line(alloc: Global, number: usize, scored: &Record) -> Result<Vec<u8>, 
 
 /// The number of a tree, and the text of its answer behind a blank.
 fn answer_lines(alloc: Global, number: usize, answer: &[u8]) -> Result<Vec<u8>, AllocError>
-    ensures { IfOk result (λ text. text.items ≡ line_of number (TreeOutcome.Answered answer.now)) }
+    ensures { IfOk result (λ text. text.items ≡ outcome_line number (TreeOutcome.Answered answer.now)) }
 {
     let mut text = format!(in alloc; "{number} ")?.into_bytes();
     text.extend_from_slice(answer)?;
@@ -52,7 +52,7 @@ fn answer_lines(alloc: Global, number: usize, answer: &[u8]) -> Result<Vec<u8>, 
 
 /// The line of a refusal.
 fn refusal_line(alloc: Global, number: usize, code: u8) -> Result<Vec<u8>, AllocError>
-    ensures { IfOk result (λ text. text.items ≡ line_of number (TreeOutcome.Refused code)) }
+    ensures { IfOk result (λ text. text.items ≡ outcome_line number (TreeOutcome.Refused code)) }
 {
     let text = format!(in alloc; "{number} refused {code}\n")?;
     Ok(text.into_bytes())
@@ -60,7 +60,7 @@ fn refusal_line(alloc: Global, number: usize, code: u8) -> Result<Vec<u8>, Alloc
 
 /// The line on the outcome of the tree with this number, with the line of a certificate where there is one.
 pub fn line(alloc: Global, number: usize, outcome: &TreeOutcome) -> Result<Vec<u8>, AllocError>
-    ensures { IfOk result (λ text. text.items ≡ line_of number outcome.now) }
+    ensures { IfOk result (λ text. text.items ≡ outcome_line number outcome.now) }
 {
     match outcome {
         TreeOutcome::Scored(record) => score_line(alloc, number, record),

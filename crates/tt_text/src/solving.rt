@@ -6,25 +6,30 @@ ghost use Rattle.tt_game.specs.GameLaws.{IsState};
 ghost use Rattle.tt_game.specs.Turns.{legal_turns};
 ghost use Rattle.tt_proof.specs.CertificateText.{certificate_text};
 ghost use Rattle.tt_proof.specs.declared.tree.TheConstants.{MOST_DEPTH};
-ghost use Rattle.tt_proof.specs.Proven.{StandsAt};
+ghost use Rattle.tt_proof.specs.ProofClaim.{StandsAt};
 ghost use Rattle.tt_share.specs.Answers.{IsAnswer};
-ghost use Rattle.tt_text.specs.Solving.{AreTurnLines, IsValueOrReason, ProblemText, Solves, TurnsFollow, Verdict, line_after};
+ghost use Rattle.tt_text.specs.Solving.{AreTurnLines, IsValueOrReason, IsAnswerText, Solves, TurnLinesFollow, IsVerdict, line_after};
 
-use crate::options::{Cert, Options};
+use crate::options::{CertKind, Options};
 use crate::outcome::TreeOutcome;
-use crate::verdict::{put_value_line, value_of, verdict_text};
+use crate::verdict::{put_value_line, value_of_answer, verdict_text};
 use std::alloc::Global;
 use std::sync::{Arc, Wait};
 use std::thread::Threads;
-use tt_dfpn::{Visits, find_proof};
+use tt_dfpn::{VisitsLeft, find_proof};
 use tt_game::{GameFault, Line, Side, Turn, problem};
-use tt_proof::{Proof, write_cert, write_parts};
+use tt_proof::{Proof, write_cert, write_shared_cert};
 use tt_search::Reason;
 use tt_sgf::{Items, MAX_BYTES, MainLine, NoMemory, Size};
 use tt_share::{Answer, CertLog, Gate, NoGate, View};
 
 /// Whether `check` reads the certificate of a proof behind a problem's text, with the ends of two lines.
-fn is_checkable(alloc: Global, proof: &Proof, size: Size, bytes: usize) -> Result<bool, NoMemory>
+fn plain_cert_fits_input(
+    alloc: Global,
+    proof: &Proof,
+    size: Size,
+    bytes: usize,
+) -> Result<bool, NoMemory>
     requires { size ≡ proof.now.frame.size }
     ensures { IfOk result (λ b. b ≡ true → bytes + length (certificate_text size proof.now.side proof.now.tree) + 2 ≤ MAX_BYTES) }
 {
@@ -38,7 +43,7 @@ fn is_checkable(alloc: Global, proof: &Proof, size: Size, bytes: usize) -> Resul
 
 /// Whether `check --parts` reads a certificate with shared parts of a proof at the line behind a problem's text, with the ends of two
 /// lines.
-fn is_shareable(
+fn shared_cert_fits_input(
     alloc: Global,
     proof: &Proof,
     line: &Line,
@@ -52,12 +57,12 @@ fn is_shareable(
         return Ok(false);
     }
     let room = MAX_BYTES - 2 - bytes;
-    let text = write_parts(alloc, proof.side(), proof.tree(), line, most_depth, room)?;
+    let text = write_shared_cert(alloc, proof.side(), proof.tree(), line, most_depth, room)?;
     Ok(text.is_some())
 }
 
 /// Whether the certificate that is asked for can be checked behind the problem's text.
-fn is_usable(
+fn asked_cert_fits_input(
     alloc: Global,
     proof: &Proof,
     line: &Line,
@@ -65,13 +70,19 @@ fn is_usable(
     bytes: usize,
 ) -> Result<bool, NoMemory>
     requires { StandsAt proof.now line.now.frame line.now.state }
-    ensures { IfOk result (λ b. b ≡ true → options.cert ≡ Cert.Plain
+    ensures { IfOk result (λ b. b ≡ true → options.cert ≡ CertKind.Plain
         → bytes + length (certificate_text line.now.frame.size proof.now.side proof.now.tree) + 2 ≤ MAX_BYTES) }
 {
     match options.cert {
-        Cert::Unasked => Ok(true),
-        Cert::Plain => is_checkable(alloc, proof, line.frame().size, bytes),
-        Cert::Shared => is_shareable(alloc, proof, line, options.limits.depth(), bytes),
+        CertKind::Unasked => Ok(true),
+        CertKind::Plain => plain_cert_fits_input(alloc, proof, line.frame().size, bytes),
+        CertKind::Shared => shared_cert_fits_input(
+            alloc,
+            proof,
+            line,
+            options.limits.depth(),
+            bytes,
+        ),
     }
 }
 
@@ -86,21 +97,21 @@ fn proof_by_dfpn(
     requires { depth ≤ MOST_DEPTH }
     ensures { IfOk result (λ o. IfSome o (λ p. StandsAt p line.now.frame line.now.state)) }
 {
-    let mut visits = Visits { left: positions };
+    let mut visits = VisitsLeft { left: positions };
     let mut copy = line.try_clone()?;
     find_proof(alloc, &mut copy, depth, &mut visits)
 }
 
 /// What df-pn finds at a line, where it is asked for. A proof whose certificate is to be written, and can't be checked behind the
 /// problem's text, is left.
-pub fn found(
+pub fn usable_dfpn_proof(
     alloc: Global,
     line: &Line,
     options: Options,
     bytes: usize,
 ) -> Result<Option<Proof>, NoMemory>
     ensures stands { IfOk result (λ o. IfSome o (λ p. StandsAt p line.now.frame line.now.state)) }
-    ensures checkable { IfOk result (λ o. IfSome o (λ p. options.cert ≡ Cert.Plain
+    ensures checkable { IfOk result (λ o. IfSome o (λ p. options.cert ≡ CertKind.Plain
         → bytes + length (certificate_text line.now.frame.size p.side p.tree) + 2 ≤ MAX_BYTES)) }
 {
     let Some(positions) = options.dfpn else {
@@ -109,7 +120,7 @@ pub fn found(
     let Some(proof) = proof_by_dfpn(alloc, line, options.limits.depth(), positions)? else {
         return Ok(None);
     };
-    if is_usable(alloc, &proof, line, options, bytes)? {
+    if asked_cert_fits_input(alloc, &proof, line, options, bytes)? {
         Ok(Some(proof))
     } else {
         Ok(None)
@@ -117,7 +128,7 @@ pub fn found(
 }
 
 /// Keeps a proof in the log.
-fn keep<X: Wait>(rt: &X, alloc: Global, log: &CertLog, proof: Proof) -> Result<(), NoMemory> {
+fn keep_proof<X: Wait>(rt: &X, alloc: Global, log: &CertLog, proof: Proof) -> Result<(), NoMemory> {
     let mut view = View::new(alloc, log)?;
     view.keep(rt, Arc::new(alloc, proof)?);
     Ok(())
@@ -137,8 +148,8 @@ fn solve_problem<X: Threads + Wait + Sync, G: Gate>(
     ensures { IfOk result (λ answer. IsAnswer line.now options.limits options.total answer) }
 {
     let log = CertLog::new(alloc)?;
-    if let Ok(Some(proof)) = found(alloc, line, options, bytes) {
-        let _ = keep(rt, alloc, &log, proof);
+    if let Ok(Some(proof)) = usable_dfpn_proof(alloc, line, options, bytes) {
+        let _ = keep_proof(rt, alloc, &log, proof);
     }
     Ok(tt_share::solve(
         rt,
@@ -163,7 +174,7 @@ fn verdict_at<X: Threads + Wait + Sync, G: Gate>(
 ) -> Result<Vec<u8>, NoMemory>
     requires open { winner_of line.now.frame line.now.state ≡ None }
     requires state { IsState line.now.frame line.now.state }
-    ensures { IfOk result (λ text. Verdict line.now options.limits options.total options.cert text.items) }
+    ensures { IfOk result (λ text. IsVerdict line.now options.limits options.total options.cert text.items) }
 {
     let answer = solve_problem(rt, alloc, line, options, bytes, gate)?;
     verdict_text(
@@ -190,7 +201,7 @@ fn value_at<X: Threads + Wait + Sync>(
         return Ok(side);
     }
     match solve_problem(rt, alloc, line, options, 0, &NoGate) {
-        Ok(answer) => value_of(line, &options.limits, options.total, &answer),
+        Ok(answer) => value_of_answer(line, &options.limits, options.total, &answer),
         Err(NoMemory) => Err(Reason::Memory),
     }
 }
@@ -206,7 +217,7 @@ fn line_after(line: &Line, turn: Turn) -> Result<Line, NoMemory>
 }
 
 /// Which side wins behind a legal turn, or why that isn't known.
-fn value_behind<X: Threads + Wait + Sync>(
+fn value_after_turn<X: Threads + Wait + Sync>(
     rt: &X,
     alloc: Global,
     line: &Line,
@@ -236,21 +247,21 @@ fn turn_lines<X: Threads + Wait + Sync>(
     let turns = line.turns();
     let mut lines = Vec::new(alloc);
     for turn in turns.as_slice() {
-        let value = value_behind(rt, alloc, line, options, *turn);
+        let value = value_after_turn(rt, alloc, line, options, *turn);
         put_value_line(&mut lines, line, *turn, value)?;
     }
     Ok(lines)
 }
 
 /// What follows of the problem's turns, nothing where it isn't asked for.
-fn asked_lines<X: Threads + Wait + Sync>(
+fn turn_lines_if_asked<X: Threads + Wait + Sync>(
     rt: &X,
     alloc: Global,
     line: &Line,
     options: Options,
 ) -> Result<Vec<u8>, NoMemory>
     requires { IsState line.now.frame line.now.state }
-    ensures { IfOk result (λ lines. TurnsFollow line.now options.limits options.total options.turns lines.items) }
+    ensures { IfOk result (λ lines. TurnLinesFollow line.now options.limits options.total options.turns lines.items) }
 {
     if options.turns {
         turn_lines(rt, alloc, line, options)
@@ -261,7 +272,7 @@ fn asked_lines<X: Threads + Wait + Sync>(
 
 /// What is said of the problem at a line: a verdict, and the lines on its turns where they are asked for.
 #[tactic(auto, using(crate::proofs::Turns::problem_text))]
-fn solve_at<X: Threads + Wait + Sync, G: Gate>(
+fn solve_to_text<X: Threads + Wait + Sync, G: Gate>(
     rt: &X,
     alloc: Global,
     line: &Line,
@@ -271,10 +282,10 @@ fn solve_at<X: Threads + Wait + Sync, G: Gate>(
 ) -> Result<Items<u8>, NoMemory>
     requires open { winner_of line.now.frame line.now.state ≡ None }
     requires state { IsState line.now.frame line.now.state }
-    ensures { IfOk result (λ text. ProblemText options line.now text) }
+    ensures { IfOk result (λ text. IsAnswerText options line.now text) }
 {
     let mut text = verdict_at(rt, alloc, line, options, bytes, gate)?;
-    let lines = asked_lines(rt, alloc, line, options)?;
+    let lines = turn_lines_if_asked(rt, alloc, line, options)?;
     text.extend_from_slice(lines.as_slice())?;
     Ok(Items::from_vec(text))
 }
@@ -293,7 +304,7 @@ pub fn solve<X: Threads + Wait + Sync, G: Gate>(
 {
     match problem(alloc, main) {
         Ok(line) => {
-            let text = solve_at(rt, alloc, &line, options, bytes, gate)?;
+            let text = solve_to_text(rt, alloc, &line, options, bytes, gate)?;
             Ok(TreeOutcome::Answered(text))
         }
         Err(GameFault::NoMemory) => Err(NoMemory),

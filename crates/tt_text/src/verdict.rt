@@ -4,16 +4,16 @@ ghost use Rattle.tt_sgf.specs.Bytes.{newline};
 ghost use Rattle.tt_game.specs.GameLaws.{IsState};
 ghost use Rattle.tt_proof.specs.declared.tree.TheConstants.{MOST_DEPTH};
 ghost use Rattle.tt_proof.specs.CertificateText.{certificate_text};
-ghost use Rattle.tt_proof.specs.Proven.{IsWon, StandsAt, first_of};
+ghost use Rattle.tt_proof.specs.ProofClaim.{IsWinningTree, StandsAt, first_turn_of};
 ghost use Rattle.tt_proof.specs.SharedWins.{IsWinningSharedCertificate};
 ghost use Rattle.tt_proof.specs.Strategy.{IsOnBoard, depth};
-ghost use Rattle.tt_share.specs.Answers.{IsAnswer, IsSettled};
-ghost use Rattle.tt_text.specs.Solving.{Follows, IsSaid, IsValueOrReason, Verdict, decided_text, first_text, reason_word, unsettled_text, value_line, value_text};
+ghost use Rattle.tt_share.specs.Answers.{IsAnswer, IsSettledAnswer};
+ghost use Rattle.tt_text.specs.Solving.{CertificateFollows, IsDecidedText, IsValueOrReason, IsVerdict, decided_text, first_turn_text, reason_word, unsettled_text, value_line, value_text};
 
-use crate::options::Cert;
+use crate::options::CertKind;
 use std::alloc::Global;
 use tt_game::{Line, Side, Turn};
-use tt_proof::{Proof, put_shown, write_cert, write_parts};
+use tt_proof::{Proof, put_readable_turn, write_cert, write_shared_cert};
 use tt_search::{Limits, Reason};
 use tt_sgf::{NoMemory, Size};
 use tt_share::Answer;
@@ -31,38 +31,43 @@ fn reason_word(reason: Reason) -> &'static [u8]
 }
 
 /// Writes a blank and the first turn behind the bytes, where there is one.
-fn put_first(out: &mut Vec<u8>, first: &Option<Turn>, size: Size) -> Result<(), NoMemory>
+fn put_first_turn_text(out: &mut Vec<u8>, first: &Option<Turn>, size: Size) -> Result<(), NoMemory>
     requires { IfSome first.now (IsOnBoard size) }
-    ensures { OnOk result (out.new.items ≡ out.old.items ++ first_text size first.now) }
+    ensures { OnOk result (out.new.items ≡ out.old.items ++ first_turn_text size first.now) }
 {
     match first {
         None => Ok(()),
         Some(turn) => {
             out.push(b' ')?;
-            put_shown(out, *turn, size)
+            put_readable_turn(out, *turn, size)
         }
     }
 }
 
 /// The certificate of a proof at the line.
-fn plain(alloc: Global, proof: &Proof, line: &Line) -> Result<Vec<u8>, NoMemory>
+fn plain_certificate(alloc: Global, proof: &Proof, line: &Line) -> Result<Vec<u8>, NoMemory>
     requires { StandsAt proof.now line.now.frame line.now.state }
     ensures text { IfOk result (λ text. text.items ≡ certificate_text line.now.frame.size proof.now.side proof.now.tree) }
-    ensures won { IsWon proof.now.side proof.now.frame proof.now.state proof.now.tree }
+    ensures won { IsWinningTree proof.now.side proof.now.frame proof.now.state proof.now.tree }
 {
     write_cert(alloc, proof.side(), proof.tree(), line.frame().size)
 }
 
 /// A certificate with shared parts of a proof at the line. Where none is found it is that of the whole tree, which has no parts.
 #[tactic(auto, using(crate::proofs::Verdicts::plain_shared))]
-fn shared(alloc: Global, proof: &Proof, line: &Line, most_depth: u16) -> Result<Vec<u8>, NoMemory>
+fn shared_certificate(
+    alloc: Global,
+    proof: &Proof,
+    line: &Line,
+    most_depth: u16,
+) -> Result<Vec<u8>, NoMemory>
     requires stands { StandsAt proof.now line.now.frame line.now.state }
     requires shallow { depth proof.now.tree ≤ most_depth }
     requires most { most_depth ≤ MOST_DEPTH }
     ensures { IfOk result (λ text.
-        IsWinningSharedCertificate line.now.frame line.now.state proof.now.side (first_of proof.now.tree) most_depth text.items) }
+        IsWinningSharedCertificate line.now.frame line.now.state proof.now.side (first_turn_of proof.now.tree) most_depth text.items) }
 {
-    let found = write_parts(
+    let found = write_shared_cert(
         alloc,
         proof.side(),
         proof.tree(),
@@ -73,12 +78,12 @@ fn shared(alloc: Global, proof: &Proof, line: &Line, most_depth: u16) -> Result<
     if let Some(text) = found {
         return Ok(text);
     }
-    let text = plain(alloc, proof, line)?;
+    let text = plain_certificate(alloc, proof, line)?;
     Ok(text)
 }
 
 /// The bytes as a line.
-fn as_line(bytes: Vec<u8>) -> Result<Vec<u8>, NoMemory>
+fn with_newline(bytes: Vec<u8>) -> Result<Vec<u8>, NoMemory>
     ensures { IfOk result (λ text. text.items ≡ bytes.items ++ newline ∷ []) }
 {
     let mut text = bytes;
@@ -88,27 +93,27 @@ fn as_line(bytes: Vec<u8>) -> Result<Vec<u8>, NoMemory>
 
 /// What follows the line of a proof at the line: its certificate, where one is asked for.
 #[tactic(auto, using(crate::proofs::Verdicts::plain_follows, crate::proofs::Verdicts::shared_follows))]
-fn following(
+fn certificate_lines(
     alloc: Global,
     proof: &Proof,
     line: &Line,
     limits: &Limits,
-    cert: Cert,
+    cert: CertKind,
 ) -> Result<Vec<u8>, NoMemory>
     requires stands { StandsAt proof.now line.now.frame line.now.state }
     requires shallow { depth proof.now.tree ≤ limits.now.depth }
-    ensures { IfOk result (λ lines. Follows line.now limits.now proof.now.side (first_of proof.now.tree) cert lines.items) }
+    ensures { IfOk result (λ lines. CertificateFollows line.now limits.now proof.now.side (first_turn_of proof.now.tree) cert lines.items) }
 {
     match cert {
-        Cert::Unasked => Ok(Vec::new(alloc)),
-        Cert::Plain => {
-            let text = plain(alloc, proof, line)?;
-            let lines = as_line(text)?;
+        CertKind::Unasked => Ok(Vec::new(alloc)),
+        CertKind::Plain => {
+            let text = plain_certificate(alloc, proof, line)?;
+            let lines = with_newline(text)?;
             Ok(lines)
         }
-        Cert::Shared => {
-            let text = shared(alloc, proof, line, limits.depth())?;
-            let lines = as_line(text)?;
+        CertKind::Shared => {
+            let text = shared_certificate(alloc, proof, line, limits.depth())?;
+            let lines = with_newline(text)?;
             Ok(lines)
         }
     }
@@ -123,14 +128,14 @@ fn decided_verdict(
     lines: &[u8],
 ) -> Result<Vec<u8>, NoMemory>
     requires size { size ≡ proof.now.frame.size }
-    requires first { first.now ≡ first_of proof.now.tree }
+    requires first { first.now ≡ first_turn_of proof.now.tree }
     ensures text { IfOk result (λ text. text.items ≡ decided_text size proof.now.side first.now ++ lines.now) }
-    ensures won { IsWon proof.now.side proof.now.frame proof.now.state proof.now.tree }
+    ensures won { IsWinningTree proof.now.side proof.now.frame proof.now.state proof.now.tree }
 {
     let side = proof.side();
     let mut out = Vec::new(alloc);
-    out.extend_from_slice(side.word())?;
-    put_first(&mut out, first, size)?;
+    out.extend_from_slice(side.verdict_word())?;
+    put_first_turn_text(&mut out, first, size)?;
     out.push(b'\n')?;
     out.extend_from_slice(lines)?;
     Ok(out)
@@ -138,19 +143,19 @@ fn decided_verdict(
 
 /// The verdict that a proof at the line is, with its certificate where one is asked for.
 #[tactic(auto, using(crate::proofs::Verdicts::said))]
-fn settled(
+fn settled_verdict_text(
     alloc: Global,
     proof: &Proof,
     first: &Option<Turn>,
     line: &Line,
     limits: &Limits,
-    cert: Cert,
+    cert: CertKind,
 ) -> Result<Vec<u8>, NoMemory>
-    requires { IsSettled line.now limits.now proof.now first.now }
-    ensures { IfOk result (λ text. IsWon proof.now.side proof.now.frame proof.now.state proof.now.tree
-        × IsSaid line.now limits.now proof.now.side first.now cert text.items) }
+    requires { IsSettledAnswer line.now limits.now proof.now first.now }
+    ensures { IfOk result (λ text. IsWinningTree proof.now.side proof.now.frame proof.now.state proof.now.tree
+        × IsDecidedText line.now limits.now proof.now.side first.now cert text.items) }
 {
-    let lines = following(alloc, proof, line, limits, cert)?;
+    let lines = certificate_lines(alloc, proof, line, limits, cert)?;
     let text = decided_verdict(alloc, proof, first, line.frame().size, lines.as_slice())?;
     Ok(text)
 }
@@ -160,7 +165,7 @@ fn put_value(out: &mut Vec<u8>, value: Result<Side, Reason>) -> Result<(), NoMem
     ensures { OnOk result (out.new.items ≡ out.old.items ++ value_text value) }
 {
     match value {
-        Ok(side) => out.extend_from_slice(side.word())?,
+        Ok(side) => out.extend_from_slice(side.verdict_word())?,
         Err(reason) => {
             out.extend_from_slice(b"unsettled ")?;
             out.extend_from_slice(reason_word(reason))?;
@@ -171,7 +176,7 @@ fn put_value(out: &mut Vec<u8>, value: Result<Side, Reason>) -> Result<(), NoMem
 }
 
 /// That no win was found, and why.
-fn unsettled(alloc: Global, reason: Reason) -> Result<Vec<u8>, NoMemory>
+fn unsettled_verdict_text(alloc: Global, reason: Reason) -> Result<Vec<u8>, NoMemory>
     ensures { IfOk result (λ text. text.items ≡ unsettled_text reason) }
 {
     let mut out = Vec::new(alloc);
@@ -190,7 +195,7 @@ pub fn put_value_line(
     ensures { OnOk result (out.new.items ≡ out.old.items ++ value_line line.now.frame.size turn value) }
 {
     out.extend_from_slice(b"  ")?;
-    put_shown(out, turn, line.frame().size)?;
+    put_readable_turn(out, turn, line.frame().size)?;
     out.push(b' ')?;
     put_value(out, value)
 }
@@ -202,20 +207,22 @@ pub fn verdict_text(
     limits: &Limits,
     total: Option<u32>,
     answer: &Answer,
-    cert: Cert,
+    cert: CertKind,
 ) -> Result<Vec<u8>, NoMemory>
     requires state { IsState line.now.frame line.now.state }
     requires answer { IsAnswer line.now limits.now total answer.now }
-    ensures { IfOk result (λ text. Verdict line.now limits.now total cert text.items) }
+    ensures { IfOk result (λ text. IsVerdict line.now limits.now total cert text.items) }
 {
     match answer {
-        Answer::Settled { proof, first } => { settled(alloc, proof, first, line, limits, cert) }
-        Answer::Unsettled(stuck) => unsettled(alloc, stuck.reason),
+        Answer::Settled { proof, first } => {
+            settled_verdict_text(alloc, proof, first, line, limits, cert)
+        }
+        Answer::Unsettled(stuck) => unsettled_verdict_text(alloc, stuck.reason),
     }
 }
 
 /// The value that an answer tells, or why it tells none.
-pub fn value_of(
+pub fn value_of_answer(
     line: &Line,
     limits: &Limits,
     total: Option<u32>,

@@ -1,6 +1,6 @@
 -- Lines of which the first ones are written.
 use Rattle.std.specs.Prelude.{◌≡◌, ℕ, List, ◌++◌, Option, Some, None}
-use Rattle.tsumego_show.specs.Drawing.{first_lines}
+use Rattle.tsumego_show.specs.StrategyListing.{first_lines}
 
 -- a text, with the first lines of the rest where the number of lines that are left is known, and nothing else behind its end
 abbrev pub with_lines : Option ℕ → List ℕ → List ℕ → List ℕ

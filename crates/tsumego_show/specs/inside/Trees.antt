@@ -7,9 +7,9 @@ use Rattle.tt_proof.specs.declared.certificate_read.CertFault.{CertFault}
 use Rattle.tt_proof.specs.declared.certificate_read.CertFault.TheVariants.{Syntax, TooDeep, NoMemory}
 use Rattle.tt_proof.specs.declared.tree.Tree.{Tree}
 use Rattle.tt_proof.specs.Strategy.{Strategy, strategy_of}
-use Rattle.tsumego_show.specs.Found.{Found, IsCertificateFor, no_strategy, found}
+use Rattle.tsumego_show.specs.FollowingStrategy.{FollowingStrategy, IsCertificateFor, no_strategy, found}
 
-abbrev pub found_of : Option (Side × Tree) → Found
+abbrev pub found_of : Option (Side × Tree) → FollowingStrategy
 found_of None = no_strategy
 found_of (Some f) = found f.0 (strategy_of f.1)
 

@@ -7,13 +7,13 @@ use Rattle.tt_board.specs.declared.Colour.TheVariants.{Black, White}
 use Rattle.tt_sgf.specs.declared.size.Size.{Size}
 use Rattle.tt_sgf.specs.declared.size.TheConstants.{MOST_POINTS}
 use Rattle.tt_sgf.specs.Sizes.{point_count}
-use Rattle.tt_board.specs.declared.counted.play_kind.Names.{Names}
-use Rattle.tt_board.specs.declared.counted.play_kind.TheConstants.{NOWHERE}
+use Rattle.tt_board.specs.declared.counted.play_kind.NeighbourNames.{NeighbourNames}
+use Rattle.tt_board.specs.declared.counted.play_kind.TheConstants.{NO_POINT_NAME}
 use Rattle.tt_board.specs.Near.{IsNeighbour}
 use Rattle.tt_board.specs.Position.{Colouring}
 use Rattle.tt_board.specs.Reach.{entry_at}
 use Rattle.tt_board.specs.Setup.{AllHaveLiberties}
-use Rattle.tt_board.specs.Decided.{Decision, both, some_below, neighbour, decided}
+use Rattle.tt_board.specs.Decided.{Decision, decide_both, decide_some_below, decide_neighbour, decision_test}
 
 -- a path of adjacent points of one colour leads from p to q
 abbrev pub Leads : Size → Colouring → ℕ → List ℕ → ℕ → Type 0
@@ -59,14 +59,14 @@ abbrev pub Touches : Size → List ℕ → ℕ → ℕ → Type 0
 Touches s ns e q = (r : ℕ) × (r < point_count s) × (IsNeighbour s q r × (name_at ns r ≡ e))
 
 pub touching : (s : Size) (ns : List ℕ) (e q : ℕ) → Decision (Touches s ns e q)
-touching s ns e q = some_below (λ r. IsNeighbour s q r × (name_at ns r ≡ e)) (λ r. both (neighbour s q r) (same (name_at ns r) e)) (point_count s)
+touching s ns e q = decide_some_below (λ r. IsNeighbour s q r × (name_at ns r ≡ e)) (λ r. decide_both (decide_neighbour s q r) (same (name_at ns r) e)) (point_count s)
   where
     same : (a b : ℕ) → Decision (a ≡ b)
     same a b = cases_eq a b
 
 -- q is a liberty of chain e: an empty point beside one of its stones
 abbrev pub is_liberty : Size → List ℕ → ℕ → ℕ → Bool
-is_liberty s ns e q = (name_at ns q == 0) && decided (touching s ns e q)
+is_liberty s ns e q = (name_at ns q == 0) && decision_test (touching s ns e q)
 
 -- how many liberties chain e has
 unfoldable pub liberty_count : Size → List ℕ → ℕ → ℕ
@@ -120,11 +120,11 @@ renamed a b x = if x == a then b else x
 
 -- q is empty, and beside no stone of chain e
 abbrev pub is_new : Size → List ℕ → ℕ → ℕ → Bool
-is_new s ns e q = (name_at ns q == 0) && not (decided (touching s ns e q))
+is_new s ns e q = (name_at ns q == 0) && not (decision_test (touching s ns e q))
 
 -- how many points beside p pass a test
 unfoldable pub count_beside : Size → (ℕ → Bool) → ℕ → ℕ
-count_beside s test p = count_by (λ q. test q && decided (neighbour s p q)) (range_with_len 0 (point_count s))
+count_beside s test p = count_by (λ q. test q && decision_test (decide_neighbour s p q)) (range_with_len 0 (point_count s))
 
 -- 1 for a point that is there and passes a test, 0 for another one or none
 abbrev pub count_there : (ℕ → Bool) → Option ℕ → ℕ
@@ -135,9 +135,9 @@ count_there test (Some q) = if test q then 1 else 0
 abbrev pub bare_one : ℕ → ℕ
 bare_one m = if m == 0 then 1 else 0
 
--- the names on the four neighbours of p; NOWHERE where the board has no such point
-pub record AreNear (s : Size) (ns : List ℕ) (p : ℕ) (near : Names) : Type 0 where
-  pub touching : (m : ℕ) → m ≢ NOWHERE → IsOneName near.above near.left near.right near.below m ↔ Touches s ns m p
+-- the names on the four neighbours of p; NO_POINT_NAME where the board has no such point
+pub record AreNear (s : Size) (ns : List ℕ) (p : ℕ) (near : NeighbourNames) : Type 0 where
+  pub touching : (m : ℕ) → m ≢ NO_POINT_NAME → IsOneName near.above near.left near.right near.below m ↔ Touches s ns m p
   pub bare : near.empty ≡ count_beside s (λ q. name_at ns q == 0) p
 
 -- each chain but one has its root

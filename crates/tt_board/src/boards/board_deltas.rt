@@ -40,9 +40,9 @@ impl BoardDeltas {
         ensures { IfOk result (λ t. t ≡ boards.now) }
     {
         let mut steps = Differences::with_capacity(alloc, boards.len().saturating_mul(2))?;
-        let mut here = base.points();
+        let mut here = base.colouring();
         for board in boards {
-            let next = board.points();
+            let next = board.colouring();
             steps.push(here, next)?;
             here = next;
         }
@@ -52,15 +52,15 @@ impl BoardDeltas {
     }
 
     /// Whether they are exactly these boards. It takes no memory.
-    pub fn are(&self, boards: &[Board]) -> bool
+    pub fn equals_boards(&self, boards: &[Board]) -> bool
         ensures { IsTrue result ↔ (self.now ≡ boards.now) }
     {
         let size = self.base.size();
-        let mut points = self.base.points().copy();
+        let mut points = self.base.colouring().copy();
         let mut seen = 0;
         let mut from = 0;
-        while let Some(next) = self.steps.lead(from, &mut points) {
-            if seen == boards.len() || !boards[seen].shows(size, &points) {
+        while let Some(next) = self.steps.apply_next(from, &mut points) {
+            if seen == boards.len() || !boards[seen].has_colouring(size, &points) {
                 return false;
             }
             seen += 1;
@@ -81,10 +81,10 @@ impl BoardDeltas {
         ensures { IsTrue result → Contains self.now board.now }
     {
         let size = self.base.size();
-        let mut points = self.base.points().copy();
+        let mut points = self.base.colouring().copy();
         let mut from = 0;
-        while let Some(next) = self.steps.lead(from, &mut points) {
-            if board.shows(size, &points) {
+        while let Some(next) = self.steps.apply_next(from, &mut points) {
+            if board.has_colouring(size, &points) {
                 return true;
             }
             from = next;
@@ -99,6 +99,9 @@ impl BoardDeltas {
         if self.steps.is_empty() {
             return None;
         }
-        Some(Board::showing(self.base.size(), self.steps.end(self.base.points())))
+        Some(Board::from_colouring(
+            self.base.size(),
+            self.steps.apply_all(self.base.colouring()),
+        ))
     }
 }

@@ -5,7 +5,7 @@ ghost use Rattle.tt_sgf.specs.declared.size.TheConstants.{MOST_POINTS};
 ghost use Rattle.tt_board.specs.Position.{Colouring as Entries};
 ghost use Rattle.tt_board.specs.inside.Differences.{edited, colourings_from};
 ghost use Rattle.tt_board.specs.inside.Boards.{edit_at, edit_of, led, IsLed, IsHalf, AreAlikeBy, FinishesNext, IsLast};
-ghost use Rattle.tt_board.specs.declared.boards.differences.TheConstants.{PLACES};
+ghost use Rattle.tt_board.specs.declared.boards.differences.TheConstants.{EDIT_STRIDE};
 
 use crate::Colour;
 use crate::colouring::Colouring;
@@ -24,39 +24,39 @@ enum Edit {
 }
 
 /// How many numbers there are for the points of each kind of edit.
-const PLACES: u16 = 512;
+const EDIT_STRIDE: u16 = 512;
 
-/// An edit in two bytes: its kind so many times `PLACES`, and its point. Contracts see the edit.
+/// An edit in two bytes: its kind so many times `EDIT_STRIDE`, and its point. Contracts see the edit.
 #[derive(Drop)]
 struct EditWord(u16);
 
 impl Model for EditWord {
     ghost use Rattle.std.specs.Prelude.{◌/◌, ◌%◌};
     ghost use Rattle.tt_board.specs.declared.boards.differences.Edit.{Edit};
-    ghost use Rattle.tt_board.specs.declared.boards.differences.TheConstants.{PLACES};
+    ghost use Rattle.tt_board.specs.declared.boards.differences.TheConstants.{EDIT_STRIDE};
     ghost use Rattle.tt_board.specs.inside.Boards.{edit_at};
 
     ghost Value = { Edit };
 
-    ghost view = { λ s. edit_at (s.0 / PLACES) (s.0 % PLACES) };
+    ghost view = { λ s. edit_at (s.0 / EDIT_STRIDE) (s.0 % EDIT_STRIDE) };
 }
 
 impl EditWord {
     /// The step of this kind at a point.
     fn new(kind: u16, p: u16) -> EditWord
         requires kind { kind < 4 }
-        requires point { p < PLACES }
+        requires point { p < EDIT_STRIDE }
         ensures { result ≡ edit_at kind p }
     {
-        EditWord(kind * PLACES + p)
+        EditWord(kind * EDIT_STRIDE + p)
     }
 
     /// The edit that it stands for.
     fn edit(&self) -> Edit
         ensures { result ≡ self.now }
     {
-        let p = self.0 % PLACES;
-        match self.0 / PLACES {
+        let p = self.0 % EDIT_STRIDE;
+        match self.0 / EDIT_STRIDE {
             0 => Edit::Black(p),
             1 => Edit::White(p),
             2 => Edit::Empty(p),
@@ -65,7 +65,7 @@ impl EditWord {
     }
 
     /// Whether it is the same word, where those before were alike.
-    fn same_too(&self, other: &EditWord, before: bool) -> bool
+    fn same_and_before(&self, other: &EditWord, before: bool) -> bool
         ensures words { IsTrue result → self.now ≡ other.now }
         ensures before { IsTrue result → IsTrue before }
     {
@@ -92,7 +92,7 @@ impl Model for Differences {
 
 /// The edit that puts an entry on a point.
 fn edit_of(p: u16, entry: Option<Colour>) -> EditWord
-    requires { p < PLACES }
+    requires { p < EDIT_STRIDE }
     ensures { result ≡ edit_of p entry }
 {
     match entry {
@@ -103,7 +103,7 @@ fn edit_of(p: u16, entry: Option<Colour>) -> EditWord
 }
 
 /// Makes an edit.
-fn edit_points(points: &mut Colouring, edit: Edit)
+fn apply_edit(points: &mut Colouring, edit: Edit)
     ensures { points.new ≡ edited points.old edit }
 {
     let (number, entry) = match edit {
@@ -158,7 +158,7 @@ fn push_edits(
     ensures ok { OnOk result (IsLed edits.old.items edits.new.items here.now there.now) }
     ensures kept { take (length edits.old.items) edits.new.items ≡ edits.old.items }
 {
-    let words = here.apart(there).words();
+    let words = here.differing_points(there).words();
     let used = (here.len() + 63) / 64;
     for k in 0..used {
         push_word_edits(edits, there, 64 * k, words[k])?;
@@ -200,7 +200,7 @@ impl Differences {
 
     /// Leads a colouring on to the next one, from an edit on: behind which edit the others begin, or none where no
     /// other is.
-    pub(crate) fn lead(&self, from: usize, points: &mut Colouring) -> Option<usize>
+    pub(crate) fn apply_next(&self, from: usize, points: &mut Colouring) -> Option<usize>
         requires { from ≤ length self.now }
         ensures next { MatchOption result (IsLast self.now from points.old points.new)
             (λ to. FinishesNext self.now from to points.old points.new) }
@@ -213,7 +213,7 @@ impl Differences {
             if let Edit::Whole = edit {
                 return Some(at);
             }
-            edit_points(points, edit);
+            apply_edit(points, edit);
         }
         None
     }
@@ -227,7 +227,7 @@ impl Differences {
         }
         let mut same = true;
         for k in 0..self.edits.len() {
-            same = self.edits[k].same_too(&other.edits[k], same);
+            same = self.edits[k].same_and_before(&other.edits[k], same);
         }
         same
     }
@@ -240,12 +240,12 @@ impl Differences {
     }
 
     /// Where the edits lead to from a base.
-    pub(crate) fn end(&self, base: &Colouring) -> Colouring
+    pub(crate) fn apply_all(&self, base: &Colouring) -> Colouring
         ensures { result ≡ led base.now self.now }
     {
         let mut points = base.copy();
         for edit in &self.edits {
-            edit_points(&mut points, edit.edit());
+            apply_edit(&mut points, edit.edit());
         }
         points
     }

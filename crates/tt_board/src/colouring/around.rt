@@ -24,15 +24,15 @@ pub(crate) fn first_column(size: Size) -> Bits
 }
 
 /// The points of the board beside those of a set. A row ends where the first column begins, so no point is beside one of another row there.
-pub(crate) fn around(size: Size, first: &Bits, points: &Bits) -> Bits
+pub(crate) fn adjacent_points(size: Size, first: &Bits, points: &Bits) -> Bits
     requires first { (p : ℕ) → p < point_count size → (bit_in first.now.words p ≡ true) ↔ (p % size.columns ≡ 0) }
     requires on_board { AreOn size points.now.words }
     ensures { (p : ℕ) → p < point_count size → (bit_in result.words p ≡ true) ↔ IsBesideSome size points.now.words p }
 {
     let columns = usize::from(size.columns());
-    let left = points.minus(first).down(1);
-    let right = points.up(1).minus(first);
-    let above = points.down(columns);
-    let below = points.up(columns);
+    let left = points.minus(first).shift_to_lower(1);
+    let right = points.shift_to_higher(1).minus(first);
+    let above = points.shift_to_lower(columns);
+    let below = points.shift_to_higher(columns);
     left.or(&right).or(&above.or(&below))
 }

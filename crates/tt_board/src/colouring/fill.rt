@@ -10,7 +10,7 @@ ghost use Rattle.tt_board.specs.inside.Around.{AreOn, AreThose, AreReaching};
 
 use crate::Colour;
 use crate::colouring::Colouring;
-use crate::colouring::around::{around, first_column};
+use crate::colouring::around::{adjacent_points, first_column};
 use tt_sgf::{BITS, Bits, Size};
 
 /// All points of the board.
@@ -45,9 +45,9 @@ pub(crate) fn reaching(size: Size, own: &Bits, wanted: &Bits) -> Bits
     ensures on_board { AreOn size result.words }
 {
     let first = first_column(size);
-    let mut found = around(size, &first, wanted).and(own);
+    let mut found = adjacent_points(size, &first, wanted).and(own);
     loop {
-        let more = around(size, &first, &found).and(own).minus(&found);
+        let more = adjacent_points(size, &first, &found).and(own).minus(&found);
         if more.first_from(0) == BITS {
             return found;
         }

@@ -12,22 +12,22 @@ impl Board {
     ghost use Rattle.tt_board.specs.Stones.{LiesOn, any_empty, all_stones_of, IsEmptyIn};
 
     /// Whether some of these points of the board is empty.
-    pub fn has_empty(&self, points: &PointSet) -> bool
+    pub fn has_some_empty(&self, points: &PointSet) -> bool
         requires { LiesOn self.now.size points.now }
         ensures { result ≡ any_empty points.now self.now.points }
     {
         let black = self.bits(Colour::Black);
         let white = self.bits(Colour::White);
-        !points.bits().are_covered(black, white)
+        !points.bits().is_within_union(black, white)
     }
 
     /// Whether stones of this colour stand on all of these points of the board.
-    pub fn has_all(&self, points: &PointSet, colour: Colour) -> bool
+    pub fn has_stones_on_all(&self, points: &PointSet, colour: Colour) -> bool
         requires { LiesOn self.now.size points.now }
         ensures { result ≡ all_stones_of points.now self.now.points colour }
     {
         let stones = self.bits(colour);
-        points.bits().are_covered(stones, stones)
+        points.bits().is_within_union(stones, stones)
     }
 
     /// The empty points of the board among these, as bits; numbers past the board may have theirs too.

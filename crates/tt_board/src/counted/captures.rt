@@ -6,11 +6,11 @@ ghost use Rattle.tt_sgf.specs.Sizes.{point_count};
 ghost use Rattle.tt_board.specs.inside.Chains.{name_at, renamed, OtherChainsCounted, IsChainOf, AreOthersCounted, HasLost};
 
 use crate::colouring::Colouring;
-use crate::counted::names::{chains_beside, give_liberty, root_of};
+use crate::counted::chain_names::{chains_beside, give_liberty, root_of};
 use tt_sgf::Size;
 
 /// Takes the stone of the chain `name` on `p` off, which gives a liberty to each other chain beside it.
-fn release_stone(
+fn remove_stone(
     size: Size,
     points: &mut Colouring,
     names: &mut [u16],
@@ -35,7 +35,7 @@ fn release_stone(
 }
 
 /// Takes the stones of the chain `name`, so many, off the board.
-fn release_all(
+fn remove_chain_stones(
     size: Size,
     points: &mut Colouring,
     names: &mut [u16],
@@ -56,14 +56,14 @@ fn release_all(
             return;
         }
         if names[p] == name {
-            release_stone(size, points, names, liberties, name, p);
+            remove_stone(size, points, names, liberties, name, p);
             left -= 1;
         }
     }
 }
 
 /// Takes the chain `name` of so many stones off the board.
-pub(crate) fn release(
+pub(crate) fn remove_chain(
     size: Size,
     points: &mut Colouring,
     names: &mut [u16],
@@ -79,9 +79,9 @@ pub(crate) fn release(
     ensures still_counted { OtherChainsCounted size names.new liberties.new name }
 {
     if stones == 1 {
-        release_stone(size, points, names, liberties, name, root_of(name));
+        remove_stone(size, points, names, liberties, name, root_of(name));
     } else {
-        release_all(size, points, names, liberties, name, stones);
+        remove_chain_stones(size, points, names, liberties, name, stones);
     }
 }
 

@@ -9,22 +9,22 @@ ghost use Rattle.tt_sgf.specs.MachineWords.{bit_in};
 ghost use Rattle.tt_board.specs.Reach.{entry_at};
 ghost use Rattle.tt_board.specs.Play.{play_of};
 ghost use Rattle.tt_board.specs.Setup.{AllHaveLiberties};
-ghost use Rattle.tt_board.specs.PlayKind.{IsKind};
+ghost use Rattle.tt_board.specs.PlayKind.{IsPlayOfKind};
 ghost use Rattle.tt_board.specs.inside.Chains.{name_at, root_of, colour_number, renamed, IsEachOnce, IsOneName, AreNear, HasLost};
 
 use crate::Colour;
 use crate::colouring::Colouring;
-use crate::colouring::around::{around, first_column};
-use crate::counted::captures::{lift_chain, release};
-use crate::counted::joins::{join_beside, start};
-use crate::counted::looks::{PlayEffect, last_ones};
-use crate::counted::names::{root_of, take_over};
-use crate::counted::play_kind::{Names, PlayKind, colour_number, names_beside};
+use crate::colouring::around::{adjacent_points, first_column};
+use crate::counted::captures::{lift_chain, remove_chain};
+use crate::counted::chain_names::{copy_first, root_of};
+use crate::counted::joins::{join_beside, start_chain};
+use crate::counted::play_effects::{PlayEffect, chains_in_atari};
+use crate::counted::play_kind::{NeighbourNames, PlayKind, colour_number, names_beside};
 use std::marker::Model;
 use tt_sgf::{BITS, Bits, Size};
 
 /// Of so many points the names and the counts are copied in three parts; of more in one, with those behind them.
-const FEW: usize = 180;
+const FEW_POINTS: usize = 180;
 
 /// The name of the chain on each point, 0 where it is empty, and each chain's counts of stones and of liberties at its root. They lie
 /// side by side, so that a large board takes them over from another one in one move.
@@ -109,7 +109,7 @@ impl Chains {
     }
 
     /// The colouring, in which each stone reaches empty.
-    pub(crate) fn points(&self) -> &Colouring
+    pub(crate) fn colouring(&self) -> &Colouring
         ensures value { result.now ≡ self.now.points }
         ensures fits { length self.now.points ≡ point_count self.now.size }
         ensures alive { AllHaveLiberties self.now.size self.now.points }
@@ -126,11 +126,11 @@ impl Chains {
         ensures points { self.new.points ≡ slice_set self.old.points p (Some colour) }
     {
         let near = names_beside(self.size, &self.counts.names, p);
-        self.put(colour, p, &near);
+        self.put_stone_by_names(colour, p, &near);
     }
 
     /// Puts a stone as `put_stone` does, where these are the names beside `p`.
-    fn put(&mut self, colour: Colour, p: usize, near: &Names)
+    fn put_stone_by_names(&mut self, colour: Colour, p: usize, near: &NeighbourNames)
         requires on_board { p < point_count self.old.size }
         requires free { entry_at self.old.points p ≡ None }
         requires alive { AllHaveLiberties self.old.size (slice_set self.old.points p (Some colour)) }
@@ -139,7 +139,7 @@ impl Chains {
         ensures points { self.new.points ≡ slice_set self.old.points p (Some colour) }
     {
         self.points.set(p, Some(colour));
-        start(
+        start_chain(
             self.size,
             &mut self.counts.names,
             &mut self.counts.stones,
@@ -160,14 +160,14 @@ impl Chains {
     }
 
     /// Takes the chain of this name off the board.
-    pub(crate) fn take(&mut self, name: u16)
+    pub(crate) fn take_chain(&mut self, name: u16)
         requires living { (name ≢ 0) × (name_at self.old.names (root_of name) ≡ name) }
         ensures size { self.new.size ≡ self.old.size }
         ensures names { self.new.names ≡ map (renamed name 0) self.old.names }
         ensures lost { HasLost self.old.names name self.old.points self.new.points }
     {
         let stones = self.counts.stones[root_of(name)];
-        release(
+        remove_chain(
             self.size,
             &mut self.points,
             &mut self.counts.names,
@@ -202,33 +202,33 @@ impl Chains {
         requires on_board { p < point_count self.now.size }
         requires free { entry_at self.now.points p ≡ None }
         ensures fits { length self.now.points ≡ point_count self.now.size }
-        ensures kind { IsKind result self.now.size self.now.points colour p }
+        ensures kind { IsPlayOfKind result self.now.size self.now.points colour p }
     {
         let near = names_beside(self.size, &self.counts.names, p);
-        self.kind(colour, &near)
+        self.play_kind_by_names(colour, &near)
     }
 
     /// What the names beside an empty point tell of a play of `colour` there.
     #[inline(always)]
-    fn kind(&self, colour: Colour, near: &Names) -> PlayKind
+    fn play_kind_by_names(&self, colour: Colour, near: &NeighbourNames) -> PlayKind
         requires { (m : ℕ) → IsOneName near.now.above near.now.left near.now.right near.now.below m → root_of m < MOST_POINTS }
         ensures { (p : ℕ) → p < point_count self.now.size → entry_at self.now.points p ≡ None → AreNear self.now.size self.now.names p near.now
-            → IsKind result self.now.size self.now.points colour p }
+            → IsPlayOfKind result self.now.size self.now.points colour p }
     {
-        if near.has_last(&self.counts.liberties, colour_number(colour.other())) {
+        if near.has_chain_in_atari(&self.counts.liberties, colour_number(colour.other())) {
             return PlayKind::NeedsBoard;
         }
-        if near.has_open(&self.counts.liberties, colour_number(colour)) {
+        if near.has_empty_or_not_in_atari(&self.counts.liberties, colour_number(colour)) {
             return PlayKind::NoCapture;
         }
-        if near.has_own(colour_number(colour)) {
+        if near.has_own_colour(colour_number(colour)) {
             return PlayKind::NeedsBoard;
         }
         PlayKind::SingleStoneSuicide
     }
 
     /// Those of these stones whose chain has one liberty.
-    fn last_among(&self, stones: &Bits) -> Bits
+    fn stones_in_atari(&self, stones: &Bits) -> Bits
         requires { (q : ℕ) → q < BITS → bit_in stones.now.words q ≡ true → (q < point_count self.now.size) × (entry_at self.now.points q ≢ None) }
         ensures { (q : ℕ) → q < BITS → (bit_in result.words q ≡ true) ↔ ((bit_in stones.now.words q ≡ true) × (name_at self.now.liberties (root_of (name_at self.now.names q)) ≡ 1)) }
     {
@@ -253,16 +253,18 @@ impl Chains {
     {
         let first = first_column(self.size);
         let points = points.below(self.size.point_count());
-        let near = around(self.size, &first, &points);
-        let last = self.last_among(&near.and(self.points.bits(colour.other())));
-        points.and(&near).minus(&around(self.size, &first, &last))
+        let near = adjacent_points(self.size, &first, &points);
+        let last = self.stones_in_atari(&near.and(self.points.bits(colour.other())));
+        points
+            .and(&near)
+            .minus(&adjacent_points(self.size, &first, &last))
     }
 
     /// What a play of `colour` on the empty point `p` does (the Tromp-Taylor rules of Go).
     ///
     /// A chain goes with it exactly where `p` is its one liberty: the opponent's; or one's own, where none of the opponent's goes,
     /// no point beside `p` is empty, and no own chain beside it has another liberty.
-    pub(crate) fn look(&self, colour: Colour, p: usize) -> PlayEffect
+    pub(crate) fn play_effect(&self, colour: Colour, p: usize) -> PlayEffect
         requires on_board { p < point_count self.now.size }
         requires free { entry_at self.now.points p ≡ None }
         ensures fits { length self.now.points ≡ point_count self.now.size }
@@ -273,35 +275,35 @@ impl Chains {
         ensures living { (m : ℕ) → Contains result.goes.items m → (m ≢ 0) × (name_at self.now.names (root_of m) ≡ m) }
     {
         let near = names_beside(self.size, &self.counts.names, p);
-        let weak = last_ones(&self.counts.liberties, &near, colour_number(colour.other()));
+        let weak = chains_in_atari(&self.counts.liberties, &near, colour_number(colour.other()));
         if !weak.is_empty() {
             return PlayEffect {
                 goes: weak,
                 suicide: false,
             };
         }
-        if near.has_open(&self.counts.liberties, colour_number(colour)) {
+        if near.has_empty_or_not_in_atari(&self.counts.liberties, colour_number(colour)) {
             return PlayEffect {
                 goes: weak,
                 suicide: false,
             };
         }
         PlayEffect {
-            goes: last_ones(&self.counts.liberties, &near, colour_number(colour)),
+            goes: chains_in_atari(&self.counts.liberties, &near, colour_number(colour)),
             suicide: true,
         }
     }
 
     /// A play by which stones may go: they are taken off before the stone comes, which the counts allow.
-    fn make_taking(&mut self, colour: Colour, p: usize)
+    fn play_with_captures(&mut self, colour: Colour, p: usize)
         requires on_board { p < point_count self.old.size }
         requires free { entry_at self.old.points p ≡ None }
         ensures size { self.new.size ≡ self.old.size }
         ensures points { self.new.points ≡ play_of self.old.size self.old.points colour p }
     {
-        let look = self.look(colour, p);
+        let look = self.play_effect(colour, p);
         for name in look.goes.as_slice() {
-            self.take(*name);
+            self.take_chain(*name);
         }
         if !look.suicide {
             self.put_stone(colour, p);
@@ -310,16 +312,18 @@ impl Chains {
 
     /// Plays `colour` on the empty point `p`: the stone is put, then the other colour is cleared, then `colour` (the Tromp-Taylor
     /// rules of Go).
-    pub(crate) fn make(&mut self, colour: Colour, p: usize)
+    pub(crate) fn play_stone(&mut self, colour: Colour, p: usize)
         requires on_board { p < point_count self.old.size }
         requires free { entry_at self.old.points p ≡ None }
         ensures size { self.new.size ≡ self.old.size }
         ensures points { self.new.points ≡ play_of self.old.size self.old.points colour p }
     {
         let near = names_beside(self.size, &self.counts.names, p);
-        match self.kind(colour, &near) {
-            PlayKind::NoCapture => self.put(colour, p, &near),
-            PlayKind::SingleStoneSuicide | PlayKind::NeedsBoard => self.make_taking(colour, p),
+        match self.play_kind_by_names(colour, &near) {
+            PlayKind::NoCapture => self.put_stone_by_names(colour, p, &near),
+            PlayKind::SingleStoneSuicide | PlayKind::NeedsBoard => self.play_with_captures(
+                colour, p,
+            ),
         }
     }
 
@@ -334,12 +338,12 @@ impl Chains {
     }
 
     /// The colouring after a play by which stones may go.
-    fn points_after_taking(&self, colour: Colour, p: usize) -> Colouring
+    fn colouring_after_captures(&self, colour: Colour, p: usize) -> Colouring
         requires on_board { p < point_count self.now.size }
         requires free { entry_at self.now.points p ≡ None }
         ensures { result ≡ play_of self.now.size self.now.points colour p }
     {
-        let look = self.look(colour, p);
+        let look = self.play_effect(colour, p);
         let mut points = self.points.copy();
         for name in look.goes.as_slice() {
             self.lift(*name, &mut points);
@@ -351,10 +355,10 @@ impl Chains {
     }
 
     /// The colouring after a play of `colour` on the empty point `p`, of which this is told; no chain is changed for it.
-    pub(crate) fn points_after(&self, colour: Colour, p: usize, kind: PlayKind) -> Colouring
+    pub(crate) fn colouring_after(&self, colour: Colour, p: usize, kind: PlayKind) -> Colouring
         requires on_board { p < point_count self.now.size }
         requires free { entry_at self.now.points p ≡ None }
-        requires kind { IsKind kind self.now.size self.now.points colour p }
+        requires kind { IsPlayOfKind kind self.now.size self.now.points colour p }
         ensures { result ≡ play_of self.now.size self.now.points colour p }
     {
         match kind {
@@ -364,7 +368,7 @@ impl Chains {
                 points
             }
             PlayKind::SingleStoneSuicide => self.points.copy(),
-            PlayKind::NeedsBoard => self.points_after_taking(colour, p),
+            PlayKind::NeedsBoard => self.colouring_after_captures(colour, p),
         }
     }
 
@@ -374,10 +378,10 @@ impl Chains {
         ensures points { self.new.points ≡ other.now.points }
     {
         let end = later_end(self.end, other.end);
-        if end <= FEW {
-            take_over(&mut self.counts.names, &other.counts.names, end);
-            take_over(&mut self.counts.stones, &other.counts.stones, end);
-            take_over(&mut self.counts.liberties, &other.counts.liberties, end);
+        if end <= FEW_POINTS {
+            copy_first(&mut self.counts.names, &other.counts.names, end);
+            copy_first(&mut self.counts.stones, &other.counts.stones, end);
+            copy_first(&mut self.counts.liberties, &other.counts.liberties, end);
         } else {
             self.counts = other.counts;
         }

@@ -3,68 +3,68 @@
 ghost use Rattle.std.specs.Prelude.{◌≡◌, ◌≢◌, ℕ, ◌+◌, ◌/◌, ◌<◌, ◌≤◌, ◌⊎◌, length, map, slice_set};
 ghost use Rattle.tt_sgf.specs.declared.size.TheConstants.{MOST_POINTS};
 ghost use Rattle.tt_sgf.specs.Sizes.{point_count};
-ghost use Rattle.tt_board.specs.declared.counted.play_kind.TheConstants.{NOWHERE};
+ghost use Rattle.tt_board.specs.declared.counted.play_kind.TheConstants.{NO_POINT_NAME};
 ghost use Rattle.tt_board.specs.Position.{Colouring};
 ghost use Rattle.tt_board.specs.Reach.{entry_at};
 ghost use Rattle.tt_board.specs.inside.Chains.{name_at, root_of, renamed, liberty_count, AreCounted, AreNames, AreNamesBut, AreNear, AreGathered, Touches, IsOneName, IsNewName};
 ghost use Rattle.tt_board.specs.inside.Chains.{IsChainOf, AreBoardCounts, AreTwoChains};
 
-use crate::counted::names::{new_liberties, root_of};
-use crate::counted::play_kind::{NOWHERE, Names};
+use crate::counted::chain_names::{new_liberties, root_of};
+use crate::counted::play_kind::{NO_POINT_NAME, NeighbourNames};
 use tt_sgf::Size;
 
 /// Takes a liberty from the chain of this name, if it is one and not one of three others.
 #[inline]
-fn take_from(liberties: &mut [u16], name: u16, one: u16, two: u16, three: u16)
+fn take_liberty_from(liberties: &mut [u16], name: u16, one: u16, two: u16, three: u16)
     requires in_range { root_of name < length liberties.old }
-    requires some { IsNewName NOWHERE name one two three → 0 < name_at liberties.old (root_of name) }
-    ensures fewer { IsNewName NOWHERE name one two three → name_at liberties.new (root_of name) + 1 ≡ name_at liberties.old (root_of name) }
-    ensures same { (r : ℕ) → (IsNewName NOWHERE name one two three → root_of name ≢ r) → name_at liberties.new r ≡ name_at liberties.old r }
+    requires some { IsNewName NO_POINT_NAME name one two three → 0 < name_at liberties.old (root_of name) }
+    ensures fewer { IsNewName NO_POINT_NAME name one two three → name_at liberties.new (root_of name) + 1 ≡ name_at liberties.old (root_of name) }
+    ensures same { (r : ℕ) → (IsNewName NO_POINT_NAME name one two three → root_of name ≢ r) → name_at liberties.new r ≡ name_at liberties.old r }
 {
-    if name != 0 && name != NOWHERE && name != one && name != two && name != three {
+    if name != 0 && name != NO_POINT_NAME && name != one && name != two && name != three {
         liberties[root_of(name)] -= 1;
     }
 }
 
 /// Takes a liberty from each chain of which one of these names is.
 #[inline]
-fn take_beside(liberties: &mut [u16], near: &Names)
+fn take_liberty_beside(liberties: &mut [u16], near: &NeighbourNames)
     requires in_range { (m : ℕ) → IsOneName near.now.above near.now.left near.now.right near.now.below m → root_of m < length liberties.old }
     requires apart { (m k : ℕ) → IsOneName near.now.above near.now.left near.now.right near.now.below m → IsOneName near.now.above near.now.left near.now.right near.now.below k
-        → m ≢ 0 → m ≢ NOWHERE → k ≢ 0 → k ≢ NOWHERE → m ≢ k → root_of m ≢ root_of k }
-    requires some { (m : ℕ) → IsOneName near.now.above near.now.left near.now.right near.now.below m → m ≢ 0 → m ≢ NOWHERE → 0 < name_at liberties.old (root_of m) }
-    ensures fewer { (m : ℕ) → IsOneName near.now.above near.now.left near.now.right near.now.below m → m ≢ 0 → m ≢ NOWHERE
+        → m ≢ 0 → m ≢ NO_POINT_NAME → k ≢ 0 → k ≢ NO_POINT_NAME → m ≢ k → root_of m ≢ root_of k }
+    requires some { (m : ℕ) → IsOneName near.now.above near.now.left near.now.right near.now.below m → m ≢ 0 → m ≢ NO_POINT_NAME → 0 < name_at liberties.old (root_of m) }
+    ensures fewer { (m : ℕ) → IsOneName near.now.above near.now.left near.now.right near.now.below m → m ≢ 0 → m ≢ NO_POINT_NAME
         → name_at liberties.new (root_of m) + 1 ≡ name_at liberties.old (root_of m) }
-    ensures same { (r : ℕ) → ((m : ℕ) → IsOneName near.now.above near.now.left near.now.right near.now.below m → m ≢ 0 → m ≢ NOWHERE → root_of m ≢ r)
+    ensures same { (r : ℕ) → ((m : ℕ) → IsOneName near.now.above near.now.left near.now.right near.now.below m → m ≢ 0 → m ≢ NO_POINT_NAME → root_of m ≢ r)
         → name_at liberties.new r ≡ name_at liberties.old r }
 {
-    take_from(liberties, near.above, 0, 0, 0);
-    take_from(liberties, near.left, near.above, 0, 0);
-    take_from(liberties, near.right, near.above, near.left, 0);
-    take_from(liberties, near.below, near.above, near.left, near.right);
+    take_liberty_from(liberties, near.above, 0, 0, 0);
+    take_liberty_from(liberties, near.left, near.above, 0, 0);
+    take_liberty_from(liberties, near.right, near.above, near.left, 0);
+    take_liberty_from(liberties, near.below, near.above, near.left, near.right);
 }
 
 /// Puts a stone on the empty point `p` as a chain of its own, which takes a liberty from each chain beside it.
-pub(crate) fn start(
+pub(crate) fn start_chain(
     size: Size,
     names: &mut [u16],
     stones: &mut [u16],
     liberties: &mut [u16],
     p: usize,
     name: u16,
-    near: &Names,
+    near: &NeighbourNames,
 )
     requires wide { (length names.old ≡ MOST_POINTS) × (length stones.old ≡ MOST_POINTS) × (length liberties.old ≡ MOST_POINTS) }
     requires on_board { p < point_count size }
     requires free { name_at names.old p ≡ 0 }
-    requires coloured { (q : ℕ) → name_at names.old q ≢ NOWHERE }
+    requires coloured { (q : ℕ) → name_at names.old q ≢ NO_POINT_NAME }
     requires named { (name ≢ 0) × (root_of name ≡ p) }
     requires near { AreNear size names.old p near.now }
     requires counted { AreCounted size names.old stones.old liberties.old }
     ensures put { names.new ≡ slice_set names.old p name }
     ensures still_counted { AreCounted size names.new stones.new liberties.new }
 {
-    take_beside(liberties, near);
+    take_liberty_beside(liberties, near);
     names[p] = name;
     stones[p] = 1;
     liberties[p] = near.empty;
@@ -178,7 +178,7 @@ fn join_named(
     requires on_board { p < point_count size }
     requires stone { 512 ≤ name_at names.old p }
     requires in_range { root_of name < MOST_POINTS }
-    requires near { 512 ≤ name → name ≢ NOWHERE → name_at names.old (root_of name) ≡ name → Touches size names.old name p }
+    requires near { 512 ≤ name → name ≢ NO_POINT_NAME → name_at names.old (root_of name) ≡ name → Touches size names.old name p }
     ensures gathered { AreGathered size names.old names.new p }
     ensures joined { name / 512 ≡ name_at names.old p / 512 → name_at names.old (root_of name) ≡ name → name_at names.new (root_of name) ≡ name_at names.new p }
     ensures still_counted { AreCounted size names.new stones.new liberties.new }
@@ -196,7 +196,7 @@ pub(crate) fn join_beside(
     stones: &mut [u16],
     liberties: &mut [u16],
     p: usize,
-    near: &Names,
+    near: &NeighbourNames,
 )
     requires counts { AreBoardCounts size names.old stones.old liberties.old }
     requires on_board { p < point_count size }

@@ -2,12 +2,12 @@
 
 ghost use Rattle.std.specs.Prelude.{◌≡◌, ◌≢◌, ℕ, ◌+◌, ◌/◌, ◌<◌, ◌≤◌, ◌⊎◌, ◌↔◌, length, IsTrue, Some, MatchOption, false};
 ghost use Rattle.tt_sgf.specs.Sizes.{point_count};
-ghost use Rattle.tt_board.specs.declared.counted.play_kind.TheConstants.{NOWHERE};
+ghost use Rattle.tt_board.specs.declared.counted.play_kind.TheConstants.{NO_POINT_NAME};
 ghost use Rattle.tt_board.specs.inside.Chains.{name_at, root_of, colour_number, IsOneName, AreNear, bare_one};
 
 use crate::Colour;
-use crate::counted::names::root_of;
-use crate::near::beside;
+use crate::counted::chain_names::root_of;
+use crate::near::neighbours_of;
 use tt_sgf::Size;
 
 /// What the points beside an empty point tell of a play there.
@@ -22,11 +22,11 @@ pub enum PlayKind {
 }
 
 /// Instead of a name where the board has no point. No chain has it.
-pub(crate) const NOWHERE: u16 = 1536;
+pub(crate) const NO_POINT_NAME: u16 = 1536;
 
-/// The names on the four neighbours of a point, `NOWHERE` where the board has no such point; and how many of them are empty.
+/// The names on the four neighbours of a point, `NO_POINT_NAME` where the board has no such point; and how many of them are empty.
 #[derive(Clone, Copy)]
-pub(crate) struct Names {
+pub(crate) struct NeighbourNames {
     pub(crate) above: u16,
     pub(crate) left: u16,
     pub(crate) right: u16,
@@ -45,42 +45,42 @@ pub(crate) fn colour_number(colour: Colour) -> u16
     }
 }
 
-/// The name on a point; `NOWHERE` for no point.
+/// The name on a point; `NO_POINT_NAME` for no point.
 #[inline]
 fn name_there(names: &[u16], index: Option<usize>) -> u16
     requires { (q : ℕ) → index ≡ Some q → q < length names.now }
-    ensures { MatchOption index (result ≡ NOWHERE) (λ q. result ≡ name_at names.now q) }
+    ensures { MatchOption index (result ≡ NO_POINT_NAME) (λ q. result ≡ name_at names.now q) }
 {
     match index {
         Some(q) => names[q],
-        None => NOWHERE,
+        None => NO_POINT_NAME,
     }
 }
 
 /// The names beside `p`.
 #[inline]
-pub(crate) fn names_beside(size: Size, names: &[u16], p: usize) -> Names
+pub(crate) fn names_beside(size: Size, names: &[u16], p: usize) -> NeighbourNames
     requires wide { point_count size ≤ length names.now }
     requires on_board { p < point_count size }
     ensures { AreNear size names.now p result }
 {
-    let near = beside(size, p);
+    let near = neighbours_of(size, p);
     let above = name_there(names, near.above);
     let left = name_there(names, near.left);
     let right = name_there(names, near.right);
     let below = name_there(names, near.below);
-    Names {
+    NeighbourNames {
         above,
         left,
         right,
         below,
-        empty: empty_one(above) + empty_one(left) + empty_one(right) + empty_one(below),
+        empty: empty_count(above) + empty_count(left) + empty_count(right) + empty_count(below),
     }
 }
 
 /// Whether the name is of a chain of the colour of this code, with one liberty.
 #[inline]
-pub(crate) fn is_last(liberties: &[u16], name: u16, code: u16) -> bool
+pub(crate) fn is_in_atari(liberties: &[u16], name: u16, code: u16) -> bool
     requires { root_of name < length liberties.now }
     ensures { IsTrue result ↔ ((name / 512 ≡ code) × (name_at liberties.now (root_of name) ≡ 1)) }
 {
@@ -89,7 +89,7 @@ pub(crate) fn is_last(liberties: &[u16], name: u16, code: u16) -> bool
 
 /// Whether the name is that of an empty point, or of a chain of the colour of this code, with another number of liberties than one.
 #[inline]
-fn is_open(liberties: &[u16], name: u16, code: u16) -> bool
+fn is_empty_or_not_in_atari(liberties: &[u16], name: u16, code: u16) -> bool
     requires { root_of name < length liberties.now }
     ensures { IsTrue result ↔ ((name ≡ 0) ⊎ ((name / 512 ≡ code) × (name_at liberties.now (root_of name) ≢ 1))) }
 {
@@ -98,29 +98,29 @@ fn is_open(liberties: &[u16], name: u16, code: u16) -> bool
 
 /// 1 for the name of an empty point, 0 for another one.
 #[inline]
-fn empty_one(name: u16) -> u16
+fn empty_count(name: u16) -> u16
     ensures { result ≡ bare_one name }
 {
     if name == 0 { 1 } else { 0 }
 }
 
-impl Names {
+impl NeighbourNames {
     /// Whether a chain of the colour of this code has one liberty.
     #[inline]
-    pub(crate) fn has_last(&self, liberties: &[u16], code: u16) -> bool
+    pub(crate) fn has_chain_in_atari(&self, liberties: &[u16], code: u16) -> bool
         requires { (m : ℕ) → IsOneName self.now.above self.now.left self.now.right self.now.below m → root_of m < length liberties.now }
         ensures { result ≡ false → (m : ℕ) → IsOneName self.now.above self.now.left self.now.right self.now.below m → m / 512 ≡ code
             → name_at liberties.now (root_of m) ≢ 1 }
     {
-        is_last(liberties, self.above, code)
-            || is_last(liberties, self.left, code)
-            || is_last(liberties, self.right, code)
-            || is_last(liberties, self.below, code)
+        is_in_atari(liberties, self.above, code)
+            || is_in_atari(liberties, self.left, code)
+            || is_in_atari(liberties, self.right, code)
+            || is_in_atari(liberties, self.below, code)
     }
 
     /// Whether a point is empty, or a chain of the colour of this code has not one liberty.
     #[inline]
-    pub(crate) fn has_open(&self, liberties: &[u16], code: u16) -> bool
+    pub(crate) fn has_empty_or_not_in_atari(&self, liberties: &[u16], code: u16) -> bool
         requires { (m : ℕ) → IsOneName self.now.above self.now.left self.now.right self.now.below m → root_of m < length liberties.now }
         ensures some { IsTrue result → (m : ℕ) × IsOneName self.now.above self.now.left self.now.right self.now.below m
             × ((m ≡ 0) ⊎ ((m / 512 ≡ code) × (name_at liberties.now (root_of m) ≢ 1))) }
@@ -128,15 +128,15 @@ impl Names {
         ensures shut { result ≡ false → (m : ℕ) → IsOneName self.now.above self.now.left self.now.right self.now.below m → m / 512 ≡ code
             → name_at liberties.now (root_of m) ≢ 1 → ⊥ }
     {
-        is_open(liberties, self.above, code)
-            || is_open(liberties, self.left, code)
-            || is_open(liberties, self.right, code)
-            || is_open(liberties, self.below, code)
+        is_empty_or_not_in_atari(liberties, self.above, code)
+            || is_empty_or_not_in_atari(liberties, self.left, code)
+            || is_empty_or_not_in_atari(liberties, self.right, code)
+            || is_empty_or_not_in_atari(liberties, self.below, code)
     }
 
     /// Whether one is of a chain of the colour of this code.
     #[inline]
-    pub(crate) fn has_own(&self, code: u16) -> bool
+    pub(crate) fn has_own_colour(&self, code: u16) -> bool
         ensures { result ≡ false → (m : ℕ) → IsOneName self.now.above self.now.left self.now.right self.now.below m → m / 512 ≢ code }
     {
         self.above / 512 == code

@@ -2,7 +2,7 @@
 
 ghost use Rattle.std.specs.Prelude.{◌≡◌, ◌≤◌};
 
-use crate::advice::{Advice, Visits};
+use crate::advice::{Advice, VisitsLeft};
 use crate::finder::board::SearchBoard;
 use crate::finder::search::{Finder, hashes_of};
 use crate::finder::transpositions::{LOST, NO_TURN, PASS, ProofNumbers, UNKNOWN, WON, turn_of};
@@ -22,12 +22,12 @@ pub struct Advisor {
 }
 
 /// How many positions a search at a line may visit, where so many were visited for its problem.
-fn share_of(visited: u32) -> u32 {
+fn advice_visit_limit(visited: u32) -> u32 {
     visited.saturating_mul(2).saturating_add(200_000)
 }
 
 /// The least point of the second set that the first has not.
-fn first_new(before: &Bits, after: &Bits) -> Option<u16> {
+fn first_added_point(before: &Bits, after: &Bits) -> Option<u16> {
     let p = after.minus(before).first_from(0);
     if p < 361 { Some(p as u16) } else { None }
 }
@@ -35,7 +35,7 @@ fn first_new(before: &Bits, after: &Bits) -> Option<u16> {
 /// The play that led from one board to the next; none where no stone is new.
 fn play_between(before: &Board, after: &Board) -> Option<(Colour, u16)> {
     for colour in [Colour::Black, Colour::White] {
-        if let Some(p) = first_new(before.bits(colour), after.bits(colour)) {
+        if let Some(p) = first_added_point(before.bits(colour), after.bits(colour)) {
             return Some((colour, p));
         }
     }
@@ -44,26 +44,26 @@ fn play_between(before: &Board, after: &Board) -> Option<(Colour, u16)> {
 
 impl Advisor {
     /// Advice for the problem of a line. Its memory grows with the number of positions.
-    pub fn at(alloc: Global, line: &Line, positions: u32) -> Result<Advisor, NoMemory> {
+    pub fn new(alloc: Global, line: &Line, positions: u32) -> Result<Advisor, NoMemory> {
         Ok(Advisor {
-            finder: Finder::at(alloc, line, positions)?,
+            finder: Finder::new(alloc, line, positions)?,
             visited: 0,
         })
     }
 
     /// Forgets all numbers, and leaves no turn out any more: for where what it said of the problem itself was wrong.
-    pub fn look_at_all(&mut self) {
-        self.finder.look_at_all();
+    pub fn restart_without_pruning(&mut self) {
+        self.finder.restart_without_pruning();
     }
 
     /// Begins anew where a line stands; what is known stays.
-    fn begin_anew(&mut self, line: &Line) -> Result<(), NoMemory> {
+    fn reset_board(&mut self, line: &Line) -> Result<(), NoMemory> {
         self.finder.board = SearchBoard::of(self.finder.alloc, line)?;
         Ok(())
     }
 
     /// Whether the finder's board is the last of the first so many.
-    fn shows(&self, boards: &[Board], count: usize) -> bool {
+    fn stands_at_last_of(&self, boards: &[Board], count: usize) -> bool {
         match boards.get(count.wrapping_sub(1)) {
             Some(board) => self.finder.board.zobrist_hash(board) == self.finder.board.hash(),
             None => false,
@@ -74,7 +74,7 @@ impl Advisor {
     fn unplay_to_line(&mut self, boards: &[Board]) -> bool {
         for _ in 0..MOST_UNDONE {
             let count = self.finder.board.history().len();
-            if count <= boards.len() && self.shows(boards, count) {
+            if count <= boards.len() && self.stands_at_last_of(boards, count) {
                 return true;
             }
             if !self.finder.board.can_undo() {
@@ -86,46 +86,50 @@ impl Advisor {
     }
 
     /// Plays what led to the last board; whether it could.
-    fn go_on(&mut self, boards: &[Board]) -> Result<bool, NoMemory> {
+    fn play_to_line(&mut self, boards: &[Board]) -> Result<bool, NoMemory> {
         for k in self.finder.board.history().len()..boards.len() {
             let (Some(before), Some(after)) = (boards.get(k.wrapping_sub(1)), boards.get(k)) else {
                 return Ok(false);
             };
             match play_between(before, after) {
-                Some((colour, p)) if self.finder.board.is_empty(p) => {
+                Some((colour, p)) if self.finder.board.is_empty_point(p) => {
                     self.finder.board.play(colour, p)?;
                 }
                 _ => return Ok(false),
             }
         }
-        Ok(self.shows(boards, boards.len()))
+        Ok(self.stands_at_last_of(boards, boards.len()))
     }
 
     /// Goes where a line stands.
     fn follow(&mut self, line: &Line) -> Result<(), NoMemory> {
         let boards = line.history();
-        if self.unplay_to_line(boards) && self.go_on(boards)? {
+        if self.unplay_to_line(boards) && self.play_to_line(boards)? {
             return Ok(());
         }
-        self.begin_anew(line)
+        self.reset_board(line)
     }
 
     /// Searches where the finder's board stands, with at most so many visits.
-    fn search(&mut self, mover: Colour, most: u32, visits: &mut Visits) -> ProofNumbers
+    fn search(&mut self, mover: Colour, most: u32, visits: &mut VisitsLeft) -> ProofNumbers
         ensures fewer { visits.new.left ≤ visits.old.left }
     {
         let before = visits.left;
-        let numbers = self.finder.search_here(mover, most, visits);
+        let numbers = self.finder.search_from_board(mover, most, visits);
         self.visited = self.visited.saturating_add(before - visits.left);
         numbers
     }
 
     /// Who wins at the line by a search, if that says so.
-    pub fn winner(&mut self, line: &Line, visits: &mut Visits) -> Result<Option<Side>, NoMemory>
+    pub fn search_winner(
+        &mut self,
+        line: &Line,
+        visits: &mut VisitsLeft,
+    ) -> Result<Option<Side>, NoMemory>
         ensures fewer { visits.new.left ≤ visits.old.left }
     {
         self.follow(line)?;
-        let mover = self.finder.colour(line.to_move());
+        let mover = self.finder.colour_of_side(line.to_move());
         let numbers = self.search(mover, u32::MAX, visits);
         if numbers.proof == 0 {
             return Ok(Some(line.to_move()));
@@ -137,12 +141,12 @@ impl Advisor {
     }
 
     /// Notes that the line is lost for its mover, and that the line before it is won by the other colour.
-    fn note_lost(&mut self, line: &Line, mover: Colour) {
-        let hashes = self.finder.hashes_here(mover);
-        self.finder.keep_line(hashes, LOST, NO_TURN);
+    fn note_line_lost(&mut self, line: &Line, mover: Colour) {
+        let hashes = self.finder.hashes_of_position(mover);
+        self.finder.keep_line_entry(hashes, LOST, NO_TURN);
         if line.passes() > 0 {
-            let hashes = self.finder.hashes_here(mover.other());
-            self.finder.keep_line(hashes, WON, PASS);
+            let hashes = self.finder.hashes_of_position(mover.other());
+            self.finder.keep_line_entry(hashes, WON, PASS);
             return;
         }
         let boards = line.history();
@@ -156,23 +160,23 @@ impl Advisor {
             None => NO_TURN,
         };
         let board = &self.finder.board;
-        let history = board.history().all_with(board.hash());
+        let history = board.history().combined_hash_with(board.hash());
         let hashes = hashes_of(board.zobrist_hash(before), mover.other(), history);
-        self.finder.keep_line(hashes, WON, turn);
+        self.finder.keep_line_entry(hashes, WON, turn);
     }
 
     /// Whether the targets live unconditionally behind the defender's play on the empty point; how many points the attacker has then.
-    fn points_behind(&mut self, p: u16) -> Option<usize> {
+    fn attacker_play_count_after(&mut self, p: u16) -> Option<usize> {
         let me = self.finder.region.defender;
-        let effect = self.finder.board.effect(me, p);
+        let effect = self.finder.board.preview_play(me, p);
         if effect.is_suicide || self.finder.board.history().has(effect.hash) {
             return None;
         }
         if self.finder.board.play(me, p).is_err() {
             return None;
         }
-        let points = if self.finder.region.is_alive(&self.finder.board) {
-            Some(self.points_of_attacker())
+        let points = if self.finder.region.are_targets_alive(&self.finder.board) {
+            Some(self.attacker_play_count())
         } else {
             None
         };
@@ -181,14 +185,14 @@ impl Advisor {
     }
 
     /// On how many points the attacker may play, at once or once they are open again.
-    fn points_of_attacker(&self) -> usize {
+    fn attacker_play_count(&self) -> usize {
         let me = self.finder.region.defender;
         let board = &self.finder.board;
         let mut count = 0usize;
         for p in &self.finder.region.points {
-            let counts = if board.is_empty(*p) {
-                let is_lone = !board.is_beside(me.other(), *p);
-                !(is_lone && board.effect(me.other(), *p).is_suicide)
+            let counts = if board.is_empty_point(*p) {
+                let is_lone = !board.has_stone_beside(me.other(), *p);
+                !(is_lone && board.preview_play(me.other(), *p).is_suicide)
             } else {
                 !board.holds(me, *p)
             };
@@ -199,7 +203,7 @@ impl Advisor {
 
     /// The turn of the defender, whose targets live unconditionally: of the plays in enclosed areas that leave them so the one that
     /// leaves the attacker the fewest points, or a pass where there is none. A play elsewhere only makes more positions.
-    fn turn_of_living(&mut self) -> u16 {
+    fn turn_of_living_defender(&mut self) -> u16 {
         let mut best = PASS;
         let mut fewest = usize::MAX;
         for k in 0..self.finder.region.points.len() {
@@ -208,10 +212,10 @@ impl Advisor {
             };
             let p = *point;
             let board = &self.finder.board;
-            if !board.is_empty(p) || !self.finder.region.is_enclosed(board, p) {
+            if !board.is_empty_point(p) || !self.finder.region.is_in_enclosed_area(board, p) {
                 continue;
             }
-            if let Some(points) = self.points_behind(p) {
+            if let Some(points) = self.attacker_play_count_after(p) {
                 if points < fewest {
                     fewest = points;
                     best = p;
@@ -222,16 +226,18 @@ impl Advisor {
     }
 
     /// The turn that is said first where the line stands, if one is known.
-    fn first_turn(&mut self, line: &Line, mover: Colour) -> Option<u16> {
+    fn known_turn(&mut self, line: &Line, mover: Colour) -> Option<u16> {
         if mover == self.finder.region.defender {
             if line.passes() > 0 {
                 return Some(PASS);
             }
-            if self.finder.region.is_alive(&self.finder.board) {
-                return Some(self.turn_of_living());
+            if self.finder.region.are_targets_alive(&self.finder.board) {
+                return Some(self.turn_of_living_defender());
             }
         }
-        let entry = self.finder.find(self.finder.hashes_here(mover))?;
+        let entry = self
+            .finder
+            .find_entry(self.finder.hashes_of_position(mover))?;
         if entry.numbers.proof == 0 && entry.best != NO_TURN {
             Some(entry.best)
         } else {
@@ -240,13 +246,16 @@ impl Advisor {
     }
 
     /// Another turn than the best one that wins by the numbers behind it, where so many were refused.
-    fn other_turn(&mut self, mover: Colour, refused: u16) -> Option<u16> {
-        let best = match self.finder.find(self.finder.hashes_here(mover)) {
+    fn other_winning_turn(&mut self, mover: Colour, refused: u16) -> Option<u16> {
+        let best = match self
+            .finder
+            .find_entry(self.finder.hashes_of_position(mover))
+        {
             Some(entry) => entry.best,
             None => NO_TURN,
         };
         let mut list = Vec::new(self.finder.alloc);
-        if let Some(turn) = self.finder.list_turns(mover, &mut list) {
+        if let Some(turn) = self.finder.list_turns_or_win(mover, &mut list) {
             return if refused == 0 { Some(turn) } else { None };
         }
         let mut left = refused;
@@ -262,26 +271,26 @@ impl Advisor {
     }
 
     /// The turn that a search where the line stands finds. Where turns were refused, it is one of the line's own.
-    fn found_turn(
+    fn search_for_turn(
         &mut self,
         line: &Line,
         mover: Colour,
         refused: u16,
-        visits: &mut Visits,
+        visits: &mut VisitsLeft,
     ) -> Option<u16>
         ensures fewer { visits.new.left ≤ visits.old.left }
     {
-        let hashes = self.finder.hashes_here(mover);
+        let hashes = self.finder.hashes_of_position(mover);
         if refused > 0 {
-            self.finder.keep_line(hashes, UNKNOWN, NO_TURN);
+            self.finder.keep_line_entry(hashes, UNKNOWN, NO_TURN);
         }
-        let numbers = self.search(mover, share_of(self.visited), visits);
+        let numbers = self.search(mover, advice_visit_limit(self.visited), visits);
         if numbers.proof == 0 {
-            if let Some(entry) = self.finder.find(hashes) {
+            if let Some(entry) = self.finder.find_entry(hashes) {
                 return Some(entry.best);
             }
         }
-        self.note_lost(line, mover);
+        self.note_line_lost(line, mover);
         None
     }
 }
@@ -291,21 +300,21 @@ impl Advice for Advisor {
         &mut self,
         line: &Line,
         refused: u16,
-        visits: &mut Visits,
+        visits: &mut VisitsLeft,
     ) -> Result<Option<Turn>, NoMemory>
         ensures fewer { visits.new.left ≤ visits.old.left }
     {
         self.follow(line)?;
-        let mover = self.finder.colour(line.to_move());
+        let mover = self.finder.colour_of_side(line.to_move());
         if refused == 0 {
-            if let Some(turn) = self.first_turn(line, mover) {
+            if let Some(turn) = self.known_turn(line, mover) {
                 return Ok(Some(turn_of(turn)));
             }
         }
-        if let Some(turn) = self.other_turn(mover, refused) {
+        if let Some(turn) = self.other_winning_turn(mover, refused) {
             return Ok(Some(turn_of(turn)));
         }
-        let found = self.found_turn(line, mover, refused, visits);
+        let found = self.search_for_turn(line, mover, refused, visits);
         Ok(found.map(turn_of))
     }
 }

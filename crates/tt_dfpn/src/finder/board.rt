@@ -32,7 +32,7 @@ pub(crate) fn index(p: u16) -> usize
 
 /// The number of a stone's colour.
 #[inline(always)]
-fn code(colour: Colour) -> u8 {
+fn code_of_colour(colour: Colour) -> u8 {
     match colour {
         Colour::Black => 1,
         Colour::White => 2,
@@ -41,7 +41,7 @@ fn code(colour: Colour) -> u8 {
 
 /// The number of the other colour.
 #[inline(always)]
-fn other(c: u8) -> u8 {
+fn other_code(c: u8) -> u8 {
     3u8.wrapping_sub(c)
 }
 
@@ -77,13 +77,13 @@ struct Undo {
 
 /// What the four places beside a point hold.
 #[derive(Clone, Copy)]
-struct Beside {
+struct NeighbourContents {
     contents: [u8; 4],
     chains: [u16; 4],
     liberties: [u16; 4],
 }
 
-impl Beside {
+impl NeighbourContents {
     /// How many stones of a colour there are.
     #[inline(always)]
     fn count(&self, c: u8) -> u16 {
@@ -96,7 +96,7 @@ impl Beside {
 
     /// How many stones of the k-th one's chain there are.
     #[inline(always)]
-    fn touches(&self, c: u8, k: usize) -> u16
+    fn chain_touch_count(&self, c: u8, k: usize) -> u16
         requires { k < 4 }
     {
         let mut count = 0u16;
@@ -109,7 +109,7 @@ impl Beside {
 
     /// Whether the k-th one is the first of its chain.
     #[inline(always)]
-    fn is_first(&self, c: u8, k: usize) -> bool
+    fn is_first_of_chain(&self, c: u8, k: usize) -> bool
         requires { k < 4 }
     {
         for j in 0..4 {
@@ -122,7 +122,7 @@ impl Beside {
 
     /// Whether a play here may take a chain of this colour.
     #[inline(always)]
-    fn may_capture(&self, c: u8) -> bool {
+    fn may_capture_chain(&self, c: u8) -> bool {
         let count = self.count(c);
         let mut may = false;
         for k in 0..4 {
@@ -140,14 +140,14 @@ impl Beside {
             has |= self.contents[k] == EMPTY;
             has |= self.contents[k] == c && self.liberties[k] > count;
         }
-        has || self.has_shared_liberty(c)
+        has || self.has_other_liberty(c)
     }
 
     /// Whether one of the chains of this colour has another liberty.
     #[inline(never)]
-    fn has_shared_liberty(&self, c: u8) -> bool {
+    fn has_other_liberty(&self, c: u8) -> bool {
         for k in 0..4 {
-            if self.contents[k] == c && self.liberties[k] > self.touches(c, k) {
+            if self.contents[k] == c && self.liberties[k] > self.chain_touch_count(c, k) {
                 return true;
             }
         }
@@ -178,7 +178,7 @@ pub(crate) struct SearchBoard {
 }
 
 /// The places beside each point.
-fn places_beside(size: Size) -> [[u16; 4]; 512] {
+fn neighbour_table(size: Size) -> [[u16; 4]; 512] {
     let mut places = [[OUTSIDE; 4]; 512];
     let columns = size.columns();
     let rows = size.rows();
@@ -209,7 +209,7 @@ impl SearchBoard {
     fn empty(alloc: Global, line: &Line) -> Result<SearchBoard, NoMemory> {
         let frame = line.frame();
         let mut board = SearchBoard {
-            beside: places_beside(frame.size),
+            beside: neighbour_table(frame.size),
             keys: stone_keys(),
             contents: [EDGE; 512],
             chain: [0; 512],
@@ -275,7 +275,7 @@ impl SearchBoard {
 
     /// Whether a place is an empty point.
     #[inline(always)]
-    pub(crate) fn is_empty(&self, p: u16) -> bool {
+    pub(crate) fn is_empty_point(&self, p: u16) -> bool {
         self.contents[index(p)] == EMPTY
     }
 
@@ -288,7 +288,7 @@ impl SearchBoard {
     /// Whether a place holds a stone of the colour.
     #[inline(always)]
     pub(crate) fn holds(&self, colour: Colour, p: u16) -> bool {
-        self.contents[index(p)] == code(colour)
+        self.contents[index(p)] == code_of_colour(colour)
     }
 
     /// The places beside a point.
@@ -299,24 +299,24 @@ impl SearchBoard {
 
     /// The stone that names a stone's chain.
     #[inline(always)]
-    pub(crate) fn chain(&self, stone: u16) -> u16 {
+    pub(crate) fn chain_name(&self, stone: u16) -> u16 {
         self.chain[index(stone)]
     }
 
     /// The stone behind another one in the circle of its chain.
     #[inline(always)]
-    pub(crate) fn next(&self, stone: u16) -> u16 {
+    pub(crate) fn next_in_chain(&self, stone: u16) -> u16 {
         self.next[index(stone)]
     }
 
     /// The key of a stone.
     #[inline(always)]
-    fn key(&self, c: u8, p: u16) -> u64 {
+    fn stone_key(&self, c: u8, p: u16) -> u64 {
         self.keys[index(p)][usize::from(c % 2)]
     }
 
     /// Whether a stone of the colour is beside a point.
-    pub(crate) fn is_beside(&self, colour: Colour, p: u16) -> bool {
+    pub(crate) fn has_stone_beside(&self, colour: Colour, p: u16) -> bool {
         let beside = self.beside(p);
         for k in 0..4 {
             if self.holds(colour, beside[k]) {
@@ -327,7 +327,7 @@ impl SearchBoard {
     }
 
     /// Whether one chain of the colour holds all that is beside a point.
-    pub(crate) fn is_eye(&self, colour: Colour, p: u16) -> bool {
+    pub(crate) fn is_eye_of_one_chain(&self, colour: Colour, p: u16) -> bool {
         let beside = self.beside(p);
         let mut chain = None;
         for k in 0..4 {
@@ -339,8 +339,8 @@ impl SearchBoard {
                 return false;
             }
             match chain {
-                Some(c) if c != self.chain(q) => return false,
-                _ => chain = Some(self.chain(q)),
+                Some(c) if c != self.chain_name(q) => return false,
+                _ => chain = Some(self.chain_name(q)),
             }
         }
         true
@@ -354,7 +354,7 @@ impl SearchBoard {
             let beside = self.beside(s);
             for k in 0..4 {
                 let q = beside[k];
-                if !self.is_empty(q) {
+                if !self.is_empty_point(q) {
                     continue;
                 }
                 match found {
@@ -362,7 +362,7 @@ impl SearchBoard {
                     _ => found = Some(q),
                 }
             }
-            s = self.next(s);
+            s = self.next_in_chain(s);
             if s == stone {
                 break;
             }
@@ -372,15 +372,15 @@ impl SearchBoard {
 
     /// What is beside a point.
     #[inline(always)]
-    fn look_beside(&self, p: u16) -> Beside {
+    fn contents_beside(&self, p: u16) -> NeighbourContents {
         let places = self.beside(p);
-        let mut beside = Beside {
+        let mut beside = NeighbourContents {
             contents: [0; 4],
             chains: [0; 4],
             liberties: [0; 4],
         };
         for k in 0..4 {
-            let chain = self.chain(places[k]);
+            let chain = self.chain_name(places[k]);
             beside.contents[k] = self.contents[index(places[k])];
             beside.chains[k] = chain;
             beside.liberties[k] = self.liberties[index(chain)];
@@ -390,83 +390,83 @@ impl SearchBoard {
 
     /// What a play of the colour on the empty point would do.
     #[inline]
-    pub(crate) fn effect(&self, colour: Colour, p: u16) -> PlayPreview {
-        let c = code(colour);
-        let beside = self.look_beside(p);
+    pub(crate) fn preview_play(&self, colour: Colour, p: u16) -> PlayPreview {
+        let c = code_of_colour(colour);
+        let beside = self.contents_beside(p);
         let mut effect = PlayPreview {
-            hash: self.hash ^ self.key(c, p),
+            hash: self.hash ^ self.stone_key(c, p),
             captures: 0,
             is_suicide: false,
             takes_target: false,
         };
-        if beside.may_capture(other(c)) {
-            self.add_captures(other(c), &beside, &mut effect);
+        if beside.may_capture_chain(other_code(c)) {
+            self.preview_captures(other_code(c), &beside, &mut effect);
         }
         if effect.captures == 0 && !beside.has_liberty(c) {
             effect.is_suicide = true;
-            effect.hash ^= self.key(c, p);
-            self.add_suicide(c, &beside, &mut effect);
+            effect.hash ^= self.stone_key(c, p);
+            self.preview_suicide(c, &beside, &mut effect);
         }
         effect
     }
 
     /// Adds what goes of the chains of the colour.
     #[inline(always)]
-    fn add_captures(&self, c: u8, beside: &Beside, effect: &mut PlayPreview) {
+    fn preview_captures(&self, c: u8, beside: &NeighbourContents, effect: &mut PlayPreview) {
         for k in 0..4 {
             if beside.contents[k] == c
-                && beside.is_first(c, k)
-                && beside.touches(c, k) == beside.liberties[k]
+                && beside.is_first_of_chain(c, k)
+                && beside.chain_touch_count(c, k) == beside.liberties[k]
             {
                 effect.captures = effect.captures.wrapping_add(1);
-                self.add_chain(beside.chains[k], effect);
+                self.preview_removal(beside.chains[k], effect);
             }
         }
     }
 
     /// Adds that the chains of the colour go, of which the play takes the last liberty.
     #[inline(never)]
-    fn add_suicide(&self, c: u8, beside: &Beside, effect: &mut PlayPreview) {
+    fn preview_suicide(&self, c: u8, beside: &NeighbourContents, effect: &mut PlayPreview) {
         for k in 0..4 {
-            if beside.contents[k] == c && beside.is_first(c, k) {
-                self.add_chain(beside.chains[k], effect);
+            if beside.contents[k] == c && beside.is_first_of_chain(c, k) {
+                self.preview_removal(beside.chains[k], effect);
             }
         }
     }
 
     /// Adds that a chain goes.
     #[inline(always)]
-    fn add_chain(&self, chain: u16, effect: &mut PlayPreview) {
+    fn preview_removal(&self, chain: u16, effect: &mut PlayPreview) {
         effect.hash ^= self.chain_hash[index(chain)];
         effect.takes_target |= self.targets[index(chain)] != 0;
     }
 
     /// Adds so many liberties, modulo 65,536, to each chain for each time that it is beside a place.
     #[inline]
-    fn add_liberties(&mut self, p: u16, count: u16) {
+    fn add_liberties_beside(&mut self, p: u16, count: u16) {
         let beside = self.beside(p);
         for k in 0..4 {
             let stands = self.contents[index(beside[k])];
             if stands != EMPTY && stands != EDGE {
-                let chain = index(self.chain(beside[k]));
+                let chain = index(self.chain_name(beside[k]));
                 self.liberties[chain] = self.liberties[chain].wrapping_add(count);
             }
         }
     }
 
     /// Takes a chain off.
-    fn take_off(&mut self, chain: u16) {
+    fn take_chain_off(&mut self, chain: u16) {
         let mut s = chain;
         for _ in 0..MOST_STONES {
             self.contents[index(s)] = EMPTY;
-            s = self.next(s);
+            s = self.next_in_chain(s);
             if s == chain {
                 break;
             }
         }
         for _ in 0..MOST_STONES {
-            self.add_liberties(s, 1);
-            s = self.next(s);
+            self.add_liberties_beside(s, 1);
+            s = self.next_in_chain(s);
             if s == chain {
                 break;
             }
@@ -474,18 +474,18 @@ impl SearchBoard {
     }
 
     /// Puts a chain back.
-    fn put_back(&mut self, chain: u16, c: u8) {
+    fn put_chain_back(&mut self, chain: u16, c: u8) {
         let mut s = chain;
         for _ in 0..MOST_STONES {
-            self.add_liberties(s, u16::MAX);
-            s = self.next(s);
+            self.add_liberties_beside(s, u16::MAX);
+            s = self.next_in_chain(s);
             if s == chain {
                 break;
             }
         }
         for _ in 0..MOST_STONES {
             self.contents[index(s)] = c;
-            s = self.next(s);
+            s = self.next_in_chain(s);
             if s == chain {
                 break;
             }
@@ -493,11 +493,11 @@ impl SearchBoard {
     }
 
     /// Gives all stones of a circle the name of their chain.
-    fn name(&mut self, stone: u16, chain: u16) {
+    fn set_chain_name(&mut self, stone: u16, chain: u16) {
         let mut s = stone;
         for _ in 0..MOST_STONES {
             self.chain[index(s)] = chain;
-            s = self.next(s);
+            s = self.next_in_chain(s);
             if s == stone {
                 break;
             }
@@ -506,16 +506,16 @@ impl SearchBoard {
 
     /// Makes one of the two circles of stones, or two of one.
     #[inline]
-    fn link(&mut self, one: u16, two: u16) {
+    fn splice_chains(&mut self, one: u16, two: u16) {
         let behind = self.next[index(one)];
         self.next[index(one)] = self.next[index(two)];
         self.next[index(two)] = behind;
     }
 
     /// Adds one chain to another.
-    fn join(&mut self, chain: u16, joined: u16) {
-        self.name(joined, chain);
-        self.link(chain, joined);
+    fn join_chains(&mut self, chain: u16, joined: u16) {
+        self.set_chain_name(joined, chain);
+        self.splice_chains(chain, joined);
         let (to, from) = (index(chain), index(joined));
         self.liberties[to] = self.liberties[to].wrapping_add(self.liberties[from]);
         self.size[to] = self.size[to].wrapping_add(self.size[from]);
@@ -524,30 +524,30 @@ impl SearchBoard {
     }
 
     /// Parts a chain from the one that was added to it last.
-    fn part(&mut self, chain: u16, joined: u16) {
-        self.link(chain, joined);
+    fn unjoin_chains(&mut self, chain: u16, joined: u16) {
+        self.splice_chains(chain, joined);
         let (to, from) = (index(chain), index(joined));
         self.liberties[to] = self.liberties[to].wrapping_sub(self.liberties[from]);
         self.size[to] = self.size[to].wrapping_sub(self.size[from]);
         self.targets[to] = self.targets[to].wrapping_sub(self.targets[from]);
         self.chain_hash[to] ^= self.chain_hash[from];
-        self.name(joined, joined);
+        self.set_chain_name(joined, joined);
     }
 
     /// Joins the stone on `p` with the chains of its colour beside it, the smaller to the larger; the name of what they make.
-    fn join_beside(&mut self, c: u8, p: u16, undo: &mut Undo) -> u16 {
+    fn join_chains_beside(&mut self, c: u8, p: u16, undo: &mut Undo) -> u16 {
         let beside = self.beside(p);
         let mut chain = p;
         for k in 0..4 {
             let q = beside[k];
-            if self.contents[index(q)] != c || self.chain(q) == chain {
+            if self.contents[index(q)] != c || self.chain_name(q) == chain {
                 continue;
             }
-            let mut joined = self.chain(q);
+            let mut joined = self.chain_name(q);
             if self.size[index(joined)] > self.size[index(chain)] {
                 (chain, joined) = (joined, chain);
             }
-            self.join(chain, joined);
+            self.join_chains(chain, joined);
             let n = usize::from(undo.joins % 4);
             undo.kept[n] = chain;
             undo.joined[n] = joined;
@@ -557,15 +557,15 @@ impl SearchBoard {
     }
 
     /// Takes off the chains of the colour beside `p` that have no liberty; the hash of what goes.
-    fn capture_beside(&mut self, c: u8, p: u16, undo: &mut Undo) -> u64 {
+    fn capture_chains_beside(&mut self, c: u8, p: u16, undo: &mut Undo) -> u64 {
         let beside = self.beside(p);
         let mut hash = 0u64;
         for k in 0..4 {
             let q = beside[k];
-            let chain = self.chain(q);
+            let chain = self.chain_name(q);
             if self.contents[index(q)] == c && self.liberties[index(chain)] == 0 {
                 hash ^= self.chain_hash[index(chain)];
-                self.take_off(chain);
+                self.take_chain_off(chain);
                 undo.captured[usize::from(undo.captures % 4)] = chain;
                 undo.captures = undo.captures.wrapping_add(1);
             }
@@ -574,7 +574,7 @@ impl SearchBoard {
     }
 
     /// How a play on an empty point is undone, before it takes or joins chains.
-    fn undo_of(&self, c: u8, p: u16) -> Undo {
+    fn undo_record(&self, c: u8, p: u16) -> Undo {
         let here = index(p);
         Undo {
             point: p,
@@ -596,32 +596,32 @@ impl SearchBoard {
     }
 
     /// Puts a stone on an empty point, as a chain of its own.
-    fn put(&mut self, c: u8, p: u16) {
+    fn put_stone(&mut self, c: u8, p: u16) {
         let here = index(p);
-        let empty = self.look_beside(p).count(EMPTY);
-        self.add_liberties(p, u16::MAX);
+        let empty = self.contents_beside(p).count(EMPTY);
+        self.add_liberties_beside(p, u16::MAX);
         self.contents[here] = c;
         self.chain[here] = p;
         self.next[here] = p;
         self.liberties[here] = empty;
         self.size[here] = 1;
         self.targets[here] = u16::from(self.is_target[here]);
-        self.chain_hash[here] = self.key(c, p);
+        self.chain_hash[here] = self.stone_key(c, p);
     }
 
     /// Plays on an empty point. Where memory is refused the board stays as it is.
     pub(crate) fn play(&mut self, colour: Colour, p: u16) -> Result<(), NoMemory> {
         self.undo.reserve(1)?;
         self.history.reserve()?;
-        let c = code(colour);
-        let mut undo = self.undo_of(c, p);
-        self.put(c, p);
-        self.hash ^= self.key(c, p);
-        let chain = self.join_beside(c, p, &mut undo);
-        self.hash ^= self.capture_beside(other(c), p, &mut undo);
+        let c = code_of_colour(colour);
+        let mut undo = self.undo_record(c, p);
+        self.put_stone(c, p);
+        self.hash ^= self.stone_key(c, p);
+        let chain = self.join_chains_beside(c, p, &mut undo);
+        self.hash ^= self.capture_chains_beside(other_code(c), p, &mut undo);
         if self.liberties[index(chain)] == 0 {
             self.hash ^= self.chain_hash[index(chain)];
-            self.take_off(chain);
+            self.take_chain_off(chain);
             undo.is_suicide = true;
         }
         self.undo.push(undo)?;
@@ -641,20 +641,20 @@ impl SearchBoard {
             } else {
                 undo.kept[usize::from(undo.joins.wrapping_sub(1) % 4)]
             };
-            self.put_back(chain, undo.colour);
+            self.put_chain_back(chain, undo.colour);
         }
         for k in (0..undo.captures).rev() {
-            self.put_back(undo.captured[usize::from(k % 4)], other(undo.colour));
+            self.put_chain_back(undo.captured[usize::from(k % 4)], other_code(undo.colour));
         }
         for k in (0..undo.joins).rev() {
             let n = usize::from(k % 4);
-            self.part(undo.kept[n], undo.joined[n]);
+            self.unjoin_chains(undo.kept[n], undo.joined[n]);
         }
-        self.take_back(&undo);
+        self.take_stone_back(&undo);
     }
 
     /// Takes back the stone of a play, which is a chain of its own.
-    fn take_back(&mut self, undo: &Undo) {
+    fn take_stone_back(&mut self, undo: &Undo) {
         let here = index(undo.point);
         self.contents[here] = EMPTY;
         self.chain[here] = undo.chain;
@@ -663,6 +663,6 @@ impl SearchBoard {
         self.size[here] = undo.size;
         self.targets[here] = undo.targets;
         self.chain_hash[here] = undo.chain_hash;
-        self.add_liberties(undo.point, 1);
+        self.add_liberties_beside(undo.point, 1);
     }
 }

@@ -31,13 +31,13 @@ impl HashHistory {
 
     /// One hash of all boards so far.
     #[inline(always)]
-    pub(crate) fn all(&self) -> u64 {
+    pub(crate) fn combined_hash(&self) -> u64 {
         self.all
     }
 
     /// One hash of all boards so far and one more.
     #[inline(always)]
-    pub(crate) fn all_with(&self, hash: u64) -> u64 {
+    pub(crate) fn combined_hash_with(&self, hash: u64) -> u64 {
         self.all ^ mixed(hash)
     }
 
@@ -73,12 +73,12 @@ impl HashHistory {
     pub(crate) fn has(&self, hash: u64) -> bool {
         match self.counts.get((hash >> 52) as usize) {
             Some(0) => false,
-            _ => self.is_among(hash),
+            _ => self.has_by_scan(hash),
         }
     }
 
     #[inline(never)]
-    fn is_among(&self, hash: u64) -> bool {
+    fn has_by_scan(&self, hash: u64) -> bool {
         for other in &self.hashes {
             if *other == hash {
                 return true;

@@ -44,34 +44,34 @@ impl Region {
                 region.targets.push(p)?;
             }
         }
-        region.look_outside(count, board);
+        region.note_open_points(count, board);
         Ok(region)
     }
 
     /// Notes what no eye may hold.
-    fn look_outside(&mut self, count: u16, board: &SearchBoard) {
+    fn note_open_points(&mut self, count: u16, board: &SearchBoard) {
         let attacker = self.defender.other();
         for p in 0..count {
-            let is_open = if board.is_empty(p) {
+            let is_open = if board.is_empty_point(p) {
                 !self.inside[index(p)]
             } else {
-                board.holds(attacker, p) && self.reaches_out(board, p)
+                board.holds(attacker, p) && self.has_liberty_outside(board, p)
             };
             self.open[index(p)] = is_open;
         }
     }
 
     /// Whether the chain of a stone has a liberty outside the region.
-    pub(crate) fn reaches_out(&self, board: &SearchBoard, stone: u16) -> bool {
+    pub(crate) fn has_liberty_outside(&self, board: &SearchBoard, stone: u16) -> bool {
         let mut s = stone;
         for _ in 0..512u16 {
             let beside = board.beside(s);
             for k in 0..4 {
-                if board.is_empty(beside[k]) && !self.inside[index(beside[k])] {
+                if board.is_empty_point(beside[k]) && !self.inside[index(beside[k])] {
                     return true;
                 }
             }
-            s = board.next(s);
+            s = board.next_in_chain(s);
             if s == stone {
                 break;
             }

@@ -5,12 +5,12 @@
 
 ghost use Rattle.std.specs.Prelude.{◌≡◌, ◌<◌, ◌≤◌, length, true, false, IfSome};
 
-use crate::advice::Visits;
+use crate::advice::VisitsLeft;
 use crate::finder::board::{SearchBoard, index};
 use crate::finder::region::Region;
 use crate::finder::transpositions::{
-    Entry, FIRST_LINE_ROWS, FIRST_ROWS, INFINITE, LOST, MOST_LINE_ROWS, MOST_ROWS, NO_TURN, PASS,
-    ProofNumbers, TranspositionTable, UNKNOWN, WON,
+    Entry, INFINITE, INITIAL_BUCKETS, INITIAL_LINE_BUCKETS, LOST, MOST_BUCKETS, MOST_LINE_BUCKETS,
+    NO_TURN, PASS, ProofNumbers, TranspositionTable, UNKNOWN, WON,
 };
 use crate::finder::zobrist::mover_key;
 use std::alloc::Global;
@@ -19,13 +19,13 @@ use tt_game::{Line, Side};
 use tt_sgf::NoMemory;
 
 /// How many turns deep the finder looks.
-const MOST_TURNS: u16 = 400;
+const MOST_FINDER_DEPTH: u16 = 400;
 
 /// One part of so many is epsilon.
-const EPSILON_PARTS: u32 = 4;
+const EPSILON_DIVISOR: u32 = 4;
 
 /// What a line that was found to differ has as its work, so that it is kept.
-const LINE_WORK: u32 = 0x1000_0000;
+const LINE_ENTRY_WORK: u32 = 0x1000_0000;
 
 /// The hashes of a position: without its history, and with it.
 #[derive(Clone, Copy)]
@@ -44,7 +44,7 @@ pub(crate) struct Child {
 
 /// What the children say of a position: its numbers, the best child, and the second least proof number.
 #[derive(Clone, Copy)]
-struct Choice {
+struct ChildrenSummary {
     numbers: ProofNumbers,
     best: Option<usize>,
     second: u32,
@@ -101,7 +101,7 @@ fn sum(one: u32, two: u32) -> u32 {
 
 /// What the children say of a position.
 #[inline]
-fn choice_of(list: &[Child]) -> Choice
+fn summary_of_children(list: &[Child]) -> ChildrenSummary
     ensures { IfSome result.best (λ k. k < length list.now) }
 {
     let mut numbers = LOST;
@@ -118,7 +118,7 @@ fn choice_of(list: &[Child]) -> Choice
         }
         numbers.disproof = sum(numbers.disproof, child.proof);
     }
-    Choice {
+    ChildrenSummary {
         numbers,
         best,
         second,
@@ -127,12 +127,16 @@ fn choice_of(list: &[Child]) -> Choice
 
 /// How far the best child is searched, where a position is searched until one of its numbers reaches its threshold.
 #[inline]
-fn thresholds_of(choice: &Choice, child: &ProofNumbers, most: ProofNumbers) -> ProofNumbers {
+fn thresholds_of(
+    choice: &ChildrenSummary,
+    child: &ProofNumbers,
+    most: ProofNumbers,
+) -> ProofNumbers {
     let others = choice.numbers.disproof.saturating_sub(child.proof);
     let next = choice
         .second
         .saturating_add(1)
-        .saturating_add(choice.second / EPSILON_PARTS)
+        .saturating_add(choice.second / EPSILON_DIVISOR)
         .min(INFINITE);
     let proof = if most.disproof >= INFINITE {
         INFINITE
@@ -147,16 +151,16 @@ fn thresholds_of(choice: &Choice, child: &ProofNumbers, most: ProofNumbers) -> P
 
 impl Finder {
     /// A finder for a line's problem, which stands where the line stands. Its table grows with the number of positions.
-    pub(crate) fn at(alloc: Global, line: &Line, positions: u32) -> Result<Finder, NoMemory> {
+    pub(crate) fn new(alloc: Global, line: &Line, positions: u32) -> Result<Finder, NoMemory> {
         let board = SearchBoard::of(alloc, line)?;
         let region = Region::of(alloc, line, &board)?;
-        let most = (positions as usize / 4).min(MOST_ROWS);
+        let most = (positions as usize / 4).min(MOST_BUCKETS);
         Ok(Finder {
             alloc,
             board,
             region,
-            positions: TranspositionTable::new(alloc, FIRST_ROWS, most)?,
-            lines: TranspositionTable::new(alloc, FIRST_LINE_ROWS, MOST_LINE_ROWS)?,
+            positions: TranspositionTable::new(alloc, INITIAL_BUCKETS, most)?,
+            lines: TranspositionTable::new(alloc, INITIAL_LINE_BUCKETS, MOST_LINE_BUCKETS)?,
             has_lines: false,
             wins: [[0; 512]; 2],
             lists: Vec::new(alloc),
@@ -166,7 +170,7 @@ impl Finder {
     }
 
     /// The colour of a side.
-    pub(crate) fn colour(&self, side: Side) -> Colour {
+    pub(crate) fn colour_of_side(&self, side: Side) -> Colour {
         match side {
             Side::Attacker => self.region.defender.other(),
             Side::Defender => self.region.defender,
@@ -174,13 +178,17 @@ impl Finder {
     }
 
     /// The hashes of the position where the board stands and a colour moves.
-    pub(crate) fn hashes_here(&self, mover: Colour) -> Hashes {
-        hashes_of(self.board.hash(), mover, self.board.history().all())
+    pub(crate) fn hashes_of_position(&self, mover: Colour) -> Hashes {
+        hashes_of(
+            self.board.hash(),
+            mover,
+            self.board.history().combined_hash(),
+        )
     }
 
     /// What is known of a position: what is known of its line, where that has an entry of its own.
     #[inline]
-    pub(crate) fn find(&self, hashes: Hashes) -> Option<Entry> {
+    pub(crate) fn find_entry(&self, hashes: Hashes) -> Option<Entry> {
         if self.has_lines {
             if let Some(entry) = self.lines.find(hashes.line) {
                 return Some(entry);
@@ -191,7 +199,7 @@ impl Finder {
 
     /// Keeps what is known of a position: as its line's own, where that has an entry.
     #[inline]
-    fn keep(&mut self, hashes: Hashes, numbers: ProofNumbers, best: u16, work: u32) {
+    fn keep_entry(&mut self, hashes: Hashes, numbers: ProofNumbers, best: u16, work: u32) {
         let mut entry = Entry {
             key: hashes.position,
             numbers,
@@ -207,19 +215,19 @@ impl Finder {
     }
 
     /// Gives a line an entry of its own.
-    pub(crate) fn keep_line(&mut self, hashes: Hashes, numbers: ProofNumbers, best: u16) {
+    pub(crate) fn keep_line_entry(&mut self, hashes: Hashes, numbers: ProofNumbers, best: u16) {
         self.has_lines = true;
-        self.lines.grow(self.alloc);
+        self.lines.grow_if_needed(self.alloc);
         self.lines.keep(Entry {
             key: hashes.line,
             numbers,
-            work: LINE_WORK,
+            work: LINE_ENTRY_WORK,
             best,
         });
     }
 
     /// Forgets all numbers, and leaves no turn out any more.
-    pub(crate) fn look_at_all(&mut self) {
+    pub(crate) fn restart_without_pruning(&mut self) {
         self.prunes = false;
         self.positions.clear();
         self.lines.clear();
@@ -228,8 +236,8 @@ impl Finder {
 
     /// Adds a turn to a list, behind those that won more often. Without memory the search ends.
     #[inline]
-    fn add(&mut self, list: &mut Vec<Child>, mover: Colour, turn: u16, hashes: Hashes) {
-        let numbers = match self.find(hashes) {
+    fn add_child(&mut self, list: &mut Vec<Child>, mover: Colour, turn: u16, hashes: Hashes) {
+        let numbers = match self.find_entry(hashes) {
             Some(entry) => entry.numbers,
             None => UNKNOWN,
         };
@@ -239,7 +247,7 @@ impl Finder {
             wins: self.wins[colour_index(mover)][index(turn)],
         };
         if list.push(child).is_err() {
-            self.end();
+            self.stop_search();
             return;
         }
         for k in (1..list.len()).rev() {
@@ -259,7 +267,7 @@ impl Finder {
         if !self.region.inside[index(p)] {
             return None;
         }
-        let effect = self.board.effect(mover, p);
+        let effect = self.board.preview_play(mover, p);
         if effect.takes_target && !effect.is_suicide && !self.board.history().has(effect.hash) {
             return Some(p);
         }
@@ -270,24 +278,32 @@ impl Finder {
     #[inline]
     fn add_play(&mut self, list: &mut Vec<Child>, mover: Colour, p: u16) -> bool {
         let attacks = mover != self.region.defender;
-        let effect = self.board.effect(mover, p);
+        let effect = self.board.preview_play(mover, p);
         if (effect.is_suicide && self.prunes) || self.board.history().has(effect.hash) {
             return false;
         }
         if effect.takes_target {
             return attacks;
         }
-        if !attacks && self.prunes && effect.captures == 0 && self.board.is_eye(mover, p) {
+        if !attacks
+            && self.prunes
+            && effect.captures == 0
+            && self.board.is_eye_of_one_chain(mover, p)
+        {
             return false;
         }
-        let history = self.board.history().all_with(effect.hash);
+        let history = self.board.history().combined_hash_with(effect.hash);
         let hashes = hashes_of(effect.hash, mover.other(), history);
-        self.add(list, mover, p, hashes);
+        self.add_child(list, mover, p, hashes);
         false
     }
 
     /// Lists the turns of a colour, without the attacker's pass; or the turn that wins at once, where there is one.
-    pub(crate) fn list_turns(&mut self, mover: Colour, list: &mut Vec<Child>) -> Option<u16> {
+    pub(crate) fn list_turns_or_win(
+        &mut self,
+        mover: Colour,
+        list: &mut Vec<Child>,
+    ) -> Option<u16> {
         let attacks = mover != self.region.defender;
         if attacks {
             if let Some(p) = self.winning_play(mover) {
@@ -299,38 +315,38 @@ impl Finder {
                 break;
             };
             let p = *point;
-            if self.board.is_empty(p) && self.add_play(list, mover, p) {
+            if self.board.is_empty_point(p) && self.add_play(list, mover, p) {
                 return Some(p);
             }
         }
         if !attacks {
-            let hashes = self.hashes_here(mover.other());
-            self.add(list, mover, PASS, hashes);
+            let hashes = self.hashes_of_position(mover.other());
+            self.add_child(list, mover, PASS, hashes);
         }
         None
     }
 
     /// Whether the targets live unconditionally, where the attacker moves and the position is new.
-    fn lives(&self, mover: Colour, hashes: Hashes) -> bool {
+    fn do_targets_live(&self, mover: Colour, hashes: Hashes) -> bool {
         if mover == self.region.defender {
             return false;
         }
-        if let Some(entry) = self.find(hashes) {
+        if let Some(entry) = self.find_entry(hashes) {
             if entry.best != NO_TURN {
                 return false;
             }
         }
-        self.region.is_alive(&self.board)
+        self.region.are_targets_alive(&self.board)
     }
 
     /// Ends the search that runs, where it has no memory.
-    fn end(&mut self) {
+    fn stop_search(&mut self) {
         self.reserve = u32::MAX;
     }
 
     /// Whether the search that runs is at its end.
     #[inline(always)]
-    fn is_over(&self, visits: &Visits) -> bool
+    fn is_out_of_visits(&self, visits: &VisitsLeft) -> bool
         ensures over { result ≡ true → visits.now.left ≤ self.now.reserve }
         ensures open { result ≡ false → self.now.reserve < visits.now.left }
     {
@@ -338,11 +354,11 @@ impl Finder {
     }
 
     /// Searches where the board stands and a colour moves, with at most so many visits; what is known then.
-    pub(crate) fn search_here(
+    pub(crate) fn search_from_board(
         &mut self,
         mover: Colour,
         visited: u32,
-        visits: &mut Visits,
+        visits: &mut VisitsLeft,
     ) -> ProofNumbers
         ensures fewer { visits.new.left ≤ visits.old.left }
     {
@@ -351,7 +367,7 @@ impl Finder {
             proof: INFINITE,
             disproof: INFINITE,
         };
-        self.search(mover, most, MOST_TURNS, visits)
+        self.search(mover, most, MOST_FINDER_DEPTH, visits)
     }
 
     /// Searches a position until one of its numbers reaches its threshold. It is a visit, where the search isn't over.
@@ -361,32 +377,32 @@ impl Finder {
         mover: Colour,
         most: ProofNumbers,
         room: u16,
-        visits: &mut Visits,
+        visits: &mut VisitsLeft,
     ) -> ProofNumbers
         ensures fewer { visits.new.left ≤ visits.old.left }
         ensures counts { self.old.reserve < visits.old.left → visits.new.left < visits.old.left }
     {
-        if self.is_over(visits) {
+        if self.is_out_of_visits(visits) {
             return UNKNOWN;
         }
         visits.left -= 1;
         if visits.left % 1024 == 0 {
-            self.positions.grow(self.alloc);
+            self.positions.grow_if_needed(self.alloc);
         }
         let mut list = match self.lists.pop() {
             Some(list) => list,
             None => Vec::new(self.alloc),
         };
         list.clear();
-        let hashes = self.hashes_here(mover);
-        let found = if let Some(turn) = self.list_turns(mover, &mut list) {
-            self.keep(hashes, WON, turn, 1);
+        let hashes = self.hashes_of_position(mover);
+        let found = if let Some(turn) = self.list_turns_or_win(mover, &mut list) {
+            self.keep_entry(hashes, WON, turn, 1);
             WON
-        } else if self.lives(mover, hashes) {
-            self.keep(hashes, LOST, NO_TURN, 1);
+        } else if self.do_targets_live(mover, hashes) {
+            self.keep_entry(hashes, LOST, NO_TURN, 1);
             LOST
         } else {
-            self.expand(mover, hashes, most, room, &mut list, visits)
+            self.search_best_children(mover, hashes, most, room, &mut list, visits)
         };
         let _ = self.lists.push(list);
         found
@@ -395,14 +411,14 @@ impl Finder {
     /// Visits the best child until one of the position's numbers reaches its threshold: each time a visit is spent, or the search
     /// ends. Nothing is known of the position where it ended before all its turns were listed.
     #[cycle(descent)]
-    fn expand(
+    fn search_best_children(
         &mut self,
         mover: Colour,
         hashes: Hashes,
         most: ProofNumbers,
         room: u16,
         list: &mut Vec<Child>,
-        visits: &mut Visits,
+        visits: &mut VisitsLeft,
     ) -> ProofNumbers
         ensures fewer { visits.new.left ≤ visits.old.left }
     {
@@ -411,7 +427,7 @@ impl Finder {
         }
         let start = visits.left;
         for _ in 0..=start {
-            let choice = choice_of(list.as_slice());
+            let choice = summary_of_children(list.as_slice());
             let numbers = choice.numbers;
             let k = match choice.best {
                 Some(k) if !self.is_done(numbers, most, visits) => k,
@@ -421,30 +437,30 @@ impl Finder {
                         Some(k) => list[k].turn,
                         None => NO_TURN,
                     };
-                    self.close(mover, hashes, numbers, turn, work);
+                    self.keep_result(mover, hashes, numbers, turn, work);
                     return numbers;
                 }
             };
             let child = list[k];
             let bounds = thresholds_of(&choice, &child.numbers, most);
-            list[k].numbers = self.visit(mover, child.turn, bounds, room, visits);
+            list[k].numbers = self.search_after_turn(mover, child.turn, bounds, room, visits);
         }
         UNKNOWN
     }
 
     /// Whether a search ends with these numbers.
     #[inline(always)]
-    fn is_done(&self, numbers: ProofNumbers, most: ProofNumbers, visits: &Visits) -> bool {
+    fn is_done(&self, numbers: ProofNumbers, most: ProofNumbers, visits: &VisitsLeft) -> bool {
         numbers.proof >= most.proof
             || numbers.disproof >= most.disproof
             || numbers.proof == 0
             || numbers.disproof == 0
-            || self.is_over(visits)
+            || self.is_out_of_visits(visits)
     }
 
     /// Keeps what a position's search came to.
     #[inline]
-    fn close(
+    fn keep_result(
         &mut self,
         mover: Colour,
         hashes: Hashes,
@@ -456,18 +472,18 @@ impl Finder {
             let count = &mut self.wins[colour_index(mover)][index(best)];
             *count = count.wrapping_add(1);
         }
-        self.keep(hashes, numbers, best, work);
+        self.keep_entry(hashes, numbers, best, work);
     }
 
     /// Searches the position behind a turn; one that is too deep counts as lost. Nothing is known of one that has no memory.
     #[cycle(descent)]
-    fn visit(
+    fn search_after_turn(
         &mut self,
         mover: Colour,
         turn: u16,
         most: ProofNumbers,
         room: u16,
-        visits: &mut Visits,
+        visits: &mut VisitsLeft,
     ) -> ProofNumbers
         ensures fewer { visits.new.left ≤ visits.old.left }
     {
@@ -478,7 +494,7 @@ impl Finder {
             return self.search(mover.other(), most, room - 1, visits);
         }
         if self.board.play(mover, turn).is_err() {
-            self.end();
+            self.stop_search();
             return UNKNOWN;
         }
         let numbers = self.search(mover.other(), most, room - 1, visits);

@@ -1,18 +1,18 @@
-//! The transposition table: what is known of positions, by a key of 64 bits, two slots to a row.
+//! The transposition table: what is known of positions, by a key of 64 bits, two slots to a bucket.
 
 use std::alloc::Global;
 use tt_game::Turn;
 use tt_sgf::{NoMemory, Point};
 
-/// How many rows the table of positions has at first, and at most.
-pub(crate) const FIRST_ROWS: usize = 4096;
+/// How many buckets the table of positions has at first, and at most.
+pub(crate) const INITIAL_BUCKETS: usize = 4096;
 
-pub(crate) const MOST_ROWS: usize = 16_777_216;
+pub(crate) const MOST_BUCKETS: usize = 16_777_216;
 
-/// How many rows the table of single lines has at first, and at most.
-pub(crate) const FIRST_LINE_ROWS: usize = 256;
+/// How many buckets the table of single lines has at first, and at most.
+pub(crate) const INITIAL_LINE_BUCKETS: usize = 256;
 
-pub(crate) const MOST_LINE_ROWS: usize = 262_144;
+pub(crate) const MOST_LINE_BUCKETS: usize = 262_144;
 
 /// Stands for infinity.
 pub(crate) const INFINITE: u32 = 1_000_000_000;
@@ -65,11 +65,11 @@ pub(crate) fn turn_of(number: u16) -> Turn {
     }
 }
 
-/// Two slots to a row, for the keys that end alike.
-type Row = [Entry; 2];
+/// Two slots to a bucket, for the keys that end alike.
+type Bucket = [Entry; 2];
 
-/// A row where nothing is known.
-fn no_row() -> Row {
+/// A bucket where nothing is known.
+fn unknown_bucket() -> Bucket {
     let nothing = Entry {
         key: 0,
         numbers: UNKNOWN,
@@ -79,10 +79,10 @@ fn no_row() -> Row {
     [nothing, nothing]
 }
 
-/// How many slots of a row are taken.
+/// How many slots of a bucket are taken.
 #[inline(always)]
-fn taken_of(row: &Row) -> usize {
-    usize::from(row[0].key != 0) + usize::from(row[1].key != 0)
+fn taken_slot_count(bucket: &Bucket) -> usize {
+    usize::from(bucket[0].key != 0) + usize::from(bucket[1].key != 0)
 }
 
 /// What an entry is worth: its work, and more where it is settled.
@@ -97,50 +97,53 @@ fn worth(entry: &Entry) -> u32 {
     entry.work.saturating_add(1)
 }
 
-/// A table whose rows are two to some power, 48 bytes each.
+/// A table whose buckets are two to some power, 48 bytes each.
 #[derive(Drop)]
 pub(crate) struct TranspositionTable {
-    rows: Vec<Row>,
+    buckets: Vec<Bucket>,
     taken: usize,
-    most_rows: usize,
+    most_buckets: usize,
 }
 
 impl TranspositionTable {
-    /// An empty table of so many rows, a power of two, which grows up to `most_rows`.
+    /// An empty table of so many buckets, a power of two, which grows up to `most_buckets`.
     pub(crate) fn new(
         alloc: Global,
-        rows: usize,
-        most_rows: usize,
+        buckets: usize,
+        most_buckets: usize,
     ) -> Result<TranspositionTable, NoMemory> {
         Ok(TranspositionTable {
-            rows: vec![in alloc; no_row(); rows]?,
+            buckets: vec![in alloc; unknown_bucket(); buckets]?,
             taken: 0,
-            most_rows,
+            most_buckets,
         })
     }
 
-    /// The row of a key.
+    /// The bucket of a key.
     #[inline(always)]
-    fn row_of(&self, key: u64) -> usize {
-        key as usize & self.rows.len().wrapping_sub(1)
+    fn bucket_index(&self, key: u64) -> usize {
+        key as usize & self.buckets.len().wrapping_sub(1)
     }
 
     /// Makes the table twice as large, where a quarter of its slots is taken and it may grow. Without memory for that it stays
     /// as it is.
-    pub(crate) fn grow(&mut self, alloc: Global) {
-        let rows = self.rows.len();
-        if self.taken <= rows / 2 || rows > self.most_rows / 2 {
+    pub(crate) fn grow_if_needed(&mut self, alloc: Global) {
+        let buckets = self.buckets.len();
+        if self.taken <= buckets / 2 || buckets > self.most_buckets / 2 {
             return;
         }
-        let Ok(mut larger) = TranspositionTable::new(alloc, rows.saturating_mul(2), self.most_rows)
-        else {
-            self.most_rows = rows;
+        let Ok(mut larger) = TranspositionTable::new(
+            alloc,
+            buckets.saturating_mul(2),
+            self.most_buckets,
+        ) else {
+            self.most_buckets = buckets;
             return;
         };
-        for row in &self.rows {
+        for bucket in &self.buckets {
             for k in 0..2 {
-                if row[k].key != 0 {
-                    larger.keep(row[k]);
+                if bucket[k].key != 0 {
+                    larger.keep(bucket[k]);
                 }
             }
         }
@@ -149,8 +152,8 @@ impl TranspositionTable {
 
     /// Forgets all.
     pub(crate) fn clear(&mut self) {
-        for row in &mut self.rows {
-            *row = no_row();
+        for bucket in &mut self.buckets {
+            *bucket = unknown_bucket();
         }
         self.taken = 0;
     }
@@ -158,12 +161,12 @@ impl TranspositionTable {
     /// What is known under a key.
     #[inline]
     pub(crate) fn find(&self, key: u64) -> Option<Entry> {
-        let row = self.rows.get(self.row_of(key))?;
-        if row[0].key == key {
-            return Some(row[0]);
+        let bucket = self.buckets.get(self.bucket_index(key))?;
+        if bucket[0].key == key {
+            return Some(bucket[0]);
         }
-        if row[1].key == key {
-            return Some(row[1]);
+        if bucket[1].key == key {
+            return Some(bucket[1]);
         }
         None
     }
@@ -171,18 +174,18 @@ impl TranspositionTable {
     /// Keeps an entry: in the slot of what was known under its key, else in the slot that is worth least.
     #[inline]
     pub(crate) fn keep(&mut self, entry: Entry) {
-        let row = self.row_of(entry.key);
-        let Some(row) = self.rows.get_mut(row) else {
+        let bucket = self.bucket_index(entry.key);
+        let Some(bucket) = self.buckets.get_mut(bucket) else {
             return;
         };
-        let before = taken_of(row);
-        let is_second = row[1].key == entry.key || worth(&row[1]) <= worth(&row[0]);
-        if row[0].key != entry.key && is_second {
-            row[1] = entry;
+        let before = taken_slot_count(bucket);
+        let is_second = bucket[1].key == entry.key || worth(&bucket[1]) <= worth(&bucket[0]);
+        if bucket[0].key != entry.key && is_second {
+            bucket[1] = entry;
         } else {
-            row[0] = entry;
+            bucket[0] = entry;
         }
-        let more = taken_of(row).saturating_sub(before);
+        let more = taken_slot_count(bucket).saturating_sub(before);
         self.taken = self.taken.saturating_add(more);
     }
 }

@@ -4,7 +4,7 @@ use Rattle.std.proofs.Common.{refl, ap, arith}
 use Rattle.std.proofs.lemmas.List.{append_cancel_left}
 use Rattle.tt_game.specs.declared.frame.Side.{Side}
 use Rattle.tt_game.specs.declared.frame.Side.TheVariants.{Attacker, Defender}
-use Rattle.tt_game.specs.Sides.{side_word}
+use Rattle.tt_game.specs.Sides.{verdict_word}
 
 -- the first byte, or 0
 abbrev first : List ℕ → ℕ
@@ -12,8 +12,8 @@ first [] = 0
 first (b ∷ bs) = b
 
 -- what begins with a side's word tells the side and what follows
-pub words_apart : (s t : Side) (x y : List ℕ) → side_word s ++ x ≡ side_word t ++ y → (s ≡ t) × (x ≡ y)
-words_apart Attacker Attacker x y e = (refl, append_cancel_left (side_word Attacker) x y e)
-words_apart Attacker Defender x y e = let other = ap first e in absurd (omega (arith, other))
-words_apart Defender Attacker x y e = let other = ap first e in absurd (omega (arith, other))
-words_apart Defender Defender x y e = (refl, append_cancel_left (side_word Defender) x y e)
+pub verdict_words_are_apart : (s t : Side) (x y : List ℕ) → verdict_word s ++ x ≡ verdict_word t ++ y → (s ≡ t) × (x ≡ y)
+verdict_words_are_apart Attacker Attacker x y e = (refl, append_cancel_left (verdict_word Attacker) x y e)
+verdict_words_are_apart Attacker Defender x y e = let other = ap first e in absurd (omega (arith, other))
+verdict_words_are_apart Defender Attacker x y e = let other = ap first e in absurd (omega (arith, other))
+verdict_words_are_apart Defender Defender x y e = (refl, append_cancel_left (verdict_word Defender) x y e)

@@ -8,14 +8,14 @@ use Rattle.std.proofs.lemmas.List.Elements.{All-contains, All-filter, All-contai
 use Rattle.std.proofs.lemmas.List.FromFn.{length-map-range_with_len, get_or-map-range_with_len, filter_of_map_range_with_len_more}
 use Rattle.std.proofs.lemmas.List.Sums.{length-filter, count_by-le-length}
 use Rattle.tt_sgf.specs.declared.size.Size.{Size}
-use Rattle.tt_sgf.specs.laws.SizeLaws.{few_points}
+use Rattle.tt_sgf.specs.laws.SizeLaws.{point_count_is_bounded}
 use Rattle.tt_sgf.specs.Sizes.{point_count}
 use Rattle.tt_game.specs.declared.frame.Frame.{Frame}
 use Rattle.tt_game.specs.declared.turns.Turn.{Turn}
 use Rattle.tt_game.specs.declared.turns.TheConstants.{MOST_LEGAL}
 use Rattle.tt_game.specs.declared.turns.Turn.TheVariants.{Play, Pass}
 use Rattle.tt_game.specs.Game.{State, IsLegal}
-use Rattle.tt_game.specs.Turns.{IsOnBoard, number_on, turn_number, IsRising, plays, all_turns, is_legal, is_legal_is, legal_turns, turn_with_winner, turns_with_winners, turns_with_winners_from}
+use Rattle.tt_game.specs.Turns.{IsOnBoard, number_on, turn_number, IsRising, plays, all_turns, is_legal, is_legal_is_exact, legal_turns, turn_with_winner, turns_with_winners, turns_with_winners_from}
 
 -- what is in a list and passes a test is among those that pass
 contains_filter : {X : Type 0} (p : X → Bool) (xs : List X) (x : X) → Contains xs x → p x ≡ true → Contains (filter p xs) x
@@ -52,8 +52,8 @@ contains_all f s (Play p) l = Contains-append_left (plays (point_count f.size)) 
 pub contains-legal_turns : (f : Frame) (s : State) (t : Turn) → Contains (legal_turns f s) t ↔ IsLegal f s t
 unfolding legal_turns
 contains-legal_turns f s t = (
-  λ has. (is_legal_is f s t).0 (filter_contains (is_legal f s) (all_turns f) t has).1,
-  λ l. contains_filter (is_legal f s) (all_turns f) t (contains_all f s t l) ((is_legal_is f s t).1 l),
+  λ has. (is_legal_is_exact f s t).0 (filter_contains (is_legal f s) (all_turns f) t has).1,
+  λ l. contains_filter (is_legal f s) (all_turns f) t (contains_all f s t l) ((is_legal_is_exact f s t).1 l),
 )
 
 -- a turn behind others that rise, with a greater number than all of them
@@ -72,12 +72,12 @@ rising_push f ts t up below i j d before in' =
     ]
 
 -- plays on points below n, rising
-pub record Rises (f : Frame) (n : ℕ) (ts : List Turn) : Type 0 where
+pub record RisesBelow (f : Frame) (n : ℕ) (ts : List Turn) : Type 0 where
   pub below : (t : Turn) → Contains ts t → turn_number f t < n
   pub rising : IsRising f ts
 
 -- one more point: its play comes last, or stays out
-rises_more : (f : Frame) (n : ℕ) (ts : List Turn) (b : Bool) → Rises f n ts → Rises f (n + 1) (ts ++ cond b (Play n ∷ []) [])
+rises_more : (f : Frame) (n : ℕ) (ts : List Turn) (b : Bool) → RisesBelow f n ts → RisesBelow f (n + 1) (ts ++ cond b (Play n ∷ []) [])
 rises_more f n ts true h = record {
   below = λ t has. elim (Contains-push_cases ts (Play n) t has) [
     | inl old ↦ omega (arith, h.below t old)
@@ -85,15 +85,15 @@ rises_more f n ts true h = record {
   ];
   rising = rising_push f ts (Play n) h.rising h.below;
 }
-rises_more f n ts false h = rw Rattle.std.proofs.lemmas.List.append-nil (let r : Rises f (n + 1) ts = record { below = λ t has. omega (arith, h.below t has); rising = h.rising } in r)
+rises_more f n ts false h = rw Rattle.std.proofs.lemmas.List.append-nil (let r : RisesBelow f (n + 1) ts = record { below = λ t has. omega (arith, h.below t has); rising = h.rising } in r)
 
 -- plays that pass a test rise as their points do
-rises_plays : (f : Frame) (p : Turn → Bool) (n : ℕ) → Rises f n (filter p (plays n))
+rises_plays : (f : Frame) (p : Turn → Bool) (n : ℕ) → RisesBelow f n (filter p (plays n))
 rises_plays f p zero = record { below = λ t has. absurd (omega (arith, has.1)); rising = λ i j d before in'. absurd (omega arith) }
 rises_plays f p (suc n) =
     let e : suc n ≡ n + 1 = sym (add-one n) in
     let more = filter_of_map_range_with_len_more p (λ q. Play q) 0 n n (omega arith) in
-    subst (λ m. Rises f m (filter p (plays m))) (sym e) (subst (λ ts. Rises f (n + 1) ts) (sym more) (rises_more f n (filter p (plays n)) (p (Play n)) (rises_plays f p n)))
+    subst (λ m. RisesBelow f m (filter p (plays m))) (sym e) (subst (λ ts. RisesBelow f (n + 1) ts) (sym more) (rises_more f n (filter p (plays n)) (p (Play n)) (rises_plays f p n)))
 
 -- the list rises
 pub rising-legal_turns : (f : Frame) (s : State) → IsRising f (legal_turns f s)
@@ -103,7 +103,7 @@ rising-legal_turns f s =
     let p = is_legal f s in
     subst (λ ts. IsRising f ts) (sym (filter-append p (plays n) (Pass ∷ []))) (last (p Pass) (rises_plays f p n))
   where
-    last : (b : Bool) → Rises f (point_count f.size) (filter (is_legal f s) (plays (point_count f.size))) → IsRising f (filter (is_legal f s) (plays (point_count f.size)) ++ cond b (Pass ∷ []) [])
+    last : (b : Bool) → RisesBelow f (point_count f.size) (filter (is_legal f s) (plays (point_count f.size))) → IsRising f (filter (is_legal f s) (plays (point_count f.size)) ++ cond b (Pass ∷ []) [])
     last true h = rising_push f _ Pass h.rising h.below
     last false h = rw Rattle.std.proofs.lemmas.List.append-nil h.rising
 
@@ -113,7 +113,7 @@ unfolding legal_turns all_turns
 length-legal_turns f s =
     let n = point_count f.size in
     let all : length (plays n ++ Pass ∷ []) ≡ length (plays n) + 1 = length_push (plays n) Pass in
-    omega (arith, length-filter (is_legal f s) (plays n ++ Pass ∷ []), count_by-le-length (is_legal f s) (plays n ++ Pass ∷ []), all, length-map-range_with_len (λ q. Play q) 0 n, few_points f.size)
+    omega (arith, length-filter (is_legal f s) (plays n ++ Pass ∷ []), count_by-le-length (is_legal f s) (plays n ++ Pass ∷ []), all, length-map-range_with_len (λ q. Play q) 0 n, point_count_is_bounded f.size)
 
 -- ---- the legal turns, turn by turn
 
@@ -138,8 +138,8 @@ each_legal f s [] h = tt
 each_legal f s (t ∷ ts) h = (h 0 (omega arith), each_legal f s ts (λ i l. h (suc i) (omega (arith, l))))
 
 -- the list has legal turns only
-pub are_legal : (f : Frame) (s : State) → EachIsLegal f s (legal_turns f s)
-are_legal f s = each_legal f s (legal_turns f s) (λ i l. (contains-legal_turns f s (get_or (legal_turns f s) i Pass)).0 (Contains-get_or (legal_turns f s) i Pass l))
+pub legal_turns_are_legal : (f : Frame) (s : State) → EachIsLegal f s (legal_turns f s)
+legal_turns_are_legal f s = each_legal f s (legal_turns f s) (λ i l. (contains-legal_turns f s (get_or (legal_turns f s) i Pass)).0 (Contains-get_or (legal_turns f s) i Pass l))
 
 -- legal turns in rising order rise from any number on that the first isn't below
 rises_on : (f : Frame) (s : State) (n : ℕ) (ts : List Turn) → EachIsLegal f s ts → IsRising f ts → (0 < length ts → n ≤ turn_number f (get_or ts 0 Pass))
@@ -153,12 +153,12 @@ rises_on f s n (t ∷ ts) l up from = (
 )
 
 -- the list rises from 0 on
-pub rises_from_0 : (f : Frame) (s : State) → RisesFrom f.size 0 (legal_turns f s)
-rises_from_0 f s = rises_on f s 0 (legal_turns f s) (are_legal f s) (rising-legal_turns f s) (λ h. omega arith)
+pub legal_turns_rise_from_0 : (f : Frame) (s : State) → RisesFrom f.size 0 (legal_turns f s)
+legal_turns_rise_from_0 f s = rises_on f s 0 (legal_turns f s) (legal_turns_are_legal f s) (rising-legal_turns f s) (λ h. omega arith)
 
 -- from the first number on the successors are all
-pub from_all : (f : Frame) (s : State) → turns_with_winners_from f s 0 ≡ turns_with_winners f s
+pub turns_from_0_are_all : (f : Frame) (s : State) → turns_with_winners_from f s 0 ≡ turns_with_winners f s
 unfolding turns_with_winners_from turns_with_winners legal_turns all_turns
-from_all f s =
+turns_from_0_are_all f s =
     let e : point_count f.size - 0 ≡ point_count f.size = omega arith in
     ap (λ k. map (turn_with_winner f s) (filter (is_legal f s) (map (λ p. Play p) (range_with_len 0 k) ++ Pass ∷ []))) e

@@ -21,10 +21,10 @@ const FILTER_BITS: usize = 49_152;
 pub(crate) const MIXER: u64 = 0x9e37_79b9_7f4a_7c15;
 
 /// The lowest bits of a product say little of its factors, so a hash is taken from those above.
-const LOW: u64 = 0x100_0000_0000;
+const FILTER_HASH_DIVISOR: u64 = 0x100_0000_0000;
 
 /// The powers of `MIXER` by which words count, that of the last one first.
-const WEIGHTS: [u64; 12] = [
+const MIXER_POWERS: [u64; 12] = [
     0x0000_0000_0000_0001,
     0x9e37_79b9_7f4a_7c15,
     0xdf44_2d22_ce48_59b9,
@@ -73,10 +73,10 @@ pub fn board_hash(board: &Board) -> u64
 }
 
 /// The hash by what both colours' words make: its highest bits, since the last word was only added.
-fn hash_by(sum: u64) -> usize
-    ensures { result ≡ sum * MIXER % 2 ^ 64 / LOW % FILTER_BITS }
+fn filter_index_of_sum(sum: u64) -> usize
+    ensures { result ≡ sum * MIXER % 2 ^ 64 / FILTER_HASH_DIVISOR % FILTER_BITS }
 {
-    (sum.wrapping_mul(MIXER) / LOW) as usize % FILTER_BITS
+    (sum.wrapping_mul(MIXER) / FILTER_HASH_DIVISOR) as usize % FILTER_BITS
 }
 
 /// The hash of a colouring with one stone more, which a play of `colour` puts on `p`, by what the words make without it. No board is
@@ -91,15 +91,15 @@ pub(crate) fn filter_index_with_stone(sum: u64, colour: Colour, p: Point) -> usi
         Colour::Black => 11,
         Colour::White => 5,
     };
-    let added = (1u64 << (n % 64)).wrapping_mul(WEIGHTS[first - n / 64]);
-    hash_by(sum.wrapping_add(added))
+    let added = (1u64 << (n % 64)).wrapping_mul(MIXER_POWERS[first - n / 64]);
+    filter_index_of_sum(sum.wrapping_add(added))
 }
 
 /// The hash of a colouring: a number that others mostly haven't.
 pub(crate) fn filter_index(board: &Board) -> usize
     ensures { result ≡ filter_index board.now.size board.now.points }
 {
-    hash_by(mix_board(board))
+    filter_index_of_sum(mix_board(board))
 }
 
 impl BloomFilter {
@@ -123,7 +123,7 @@ impl BloomFilter {
     }
 
     /// The colourings of these boards, which have one size.
-    pub(crate) fn of_all(alloc: Global, boards: &[Board]) -> BloomFilter
+    pub(crate) fn of_boards(alloc: Global, boards: &[Board]) -> BloomFilter
         ensures { (g : Size) → All (λ b. b.size ≡ g) boards.now → MayHoldAll result g (colourings boards.now) }
     {
         let mut filter = BloomFilter::empty(alloc, FILTER_BITS);

@@ -61,7 +61,7 @@ fn write_over(first: &CountedBoard, later: &mut [CountedBoard], k: usize, colour
 }
 
 /// Adds a board and a play; without memory there are none more.
-fn grow(
+fn push_board(
     board: CountedBoard,
     later: &mut Vec<CountedBoard>,
     plays: &mut Vec<(Colour, Point)>,
@@ -95,7 +95,7 @@ impl BoardStack {
     }
 
     /// The present board, to be shared.
-    fn shared(&self, alloc: Global) -> Result<Arc<CountedBoard>, NoMemory>
+    fn shared_present(&self, alloc: Global) -> Result<Arc<CountedBoard>, NoMemory>
         ensures { IfOk result (λ b. arc_value b ≡ self.now.present) }
     {
         if self.count > 0 {
@@ -109,7 +109,7 @@ impl BoardStack {
         ensures { IfOk result (λ s. s ≡ record { present = self.now.present; below = [] }) }
     {
         Ok(BoardStack {
-            first: self.shared(alloc)?,
+            first: self.shared_present(alloc)?,
             later: Vec::new(alloc),
             plays: Vec::new(alloc),
             count: 0,
@@ -128,7 +128,7 @@ impl BoardStack {
     }
 
     /// Writes over the board above, or adds one, what a play of `colour` on `p`, an empty point, makes; without memory it is as it was.
-    fn write(&mut self, colour: Colour, p: Point) -> Result<(), NoMemory>
+    fn write_play(&mut self, colour: Colour, p: Point) -> Result<(), NoMemory>
         requires on_board { p < point_count self.old.present.size }
         requires free { entry_at self.old.present.points p ≡ None }
         ensures below { OnOk result (self.new.below ≡ self.old.present ∷ self.old.below) }
@@ -138,7 +138,7 @@ impl BoardStack {
     {
         if self.count == self.later.len() {
             let above = self.first.copy();
-            grow(above, &mut self.later, &mut self.plays, colour, p)?;
+            push_board(above, &mut self.later, &mut self.plays, colour, p)?;
         }
         write_over(&*self.first, &mut self.later, self.count, colour, p);
         self.plays[self.count] = (colour, p);
@@ -160,7 +160,7 @@ impl BoardStack {
             self.count += 1;
             return Ok(());
         }
-        self.write(colour, p)
+        self.write_play(colour, p)
     }
 
     /// Goes back to the board before the last play.

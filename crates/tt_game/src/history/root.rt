@@ -19,13 +19,13 @@ use tt_board::{Board, BoardDeltas, Colour};
 use tt_sgf::{Bits, NoMemory, Point};
 
 /// To compare a colouring with so many boards costs about what its hash costs.
-const FEW: usize = 8;
+const FEW_BOARDS: usize = 8;
 
 /// How many places are noted of a beginning of many boards.
-const PLACES: usize = 8_192;
+const HASH_PLACES: usize = 8_192;
 
 /// From so many points of the region on it pays to look at all of them at once, and with fewer one by one.
-pub(crate) const MANY: u16 = 20;
+pub(crate) const MANY_POINTS: u16 = 20;
 
 /// A frame, and the boards that lines had when the first of them began. Contracts see it as `Rooted`.
 ///
@@ -86,13 +86,13 @@ pub(crate) fn stones_of(boards: &[Board], colour: Colour) -> Bits
 
 /// For each remainder of a hash the place of the last board that has it, and 0 where none has; no places without memory. Nothing goes by
 /// it but time.
-fn places_of(alloc: Global, boards: &[Board]) -> Vec<usize> {
+fn places_by_hash(alloc: Global, boards: &[Board]) -> Vec<usize> {
     let mut places = Vec::new(alloc);
-    if places.resize(PLACES, 0).is_err() {
+    if places.resize(HASH_PLACES, 0).is_err() {
         return Vec::new(alloc);
     }
     for k in 0..boards.len() {
-        let index = filter_index(&boards[k]) % PLACES;
+        let index = filter_index(&boards[k]) % HASH_PLACES;
         if index < places.len() {
             places[index] = k;
         }
@@ -108,15 +108,18 @@ impl Root {
     {
         let alloc = history.alloc();
         let boards = history.boards();
-        let (filter, places) = if boards.len() <= FEW {
+        let (filter, places) = if boards.len() <= FEW_BOARDS {
             (BloomFilter::saturated(alloc), Vec::new(alloc))
         } else {
-            (BloomFilter::of_all(alloc, boards), places_of(alloc, boards))
+            (
+                BloomFilter::of_boards(alloc, boards),
+                places_by_hash(alloc, boards),
+            )
         };
         let base = Arc::new(alloc, boards[boards.len() - 1].copy())?;
         Ok(Root {
             frame: frame.copy(),
-            many: frame.region.count() >= MANY,
+            many: frame.region.count() >= MANY_POINTS,
             boards: BoardDeltas::of(alloc, &base, boards)?,
             count: boards.len(),
             base,
@@ -140,7 +143,7 @@ impl Root {
     }
 
     /// How many boards there were.
-    pub(crate) fn count(&self) -> usize
+    pub(crate) fn board_count(&self) -> usize
         ensures value { result ≡ length self.now.begun }
         ensures some { 0 < length self.now.begun }
         ensures sizes { All (λ b. b.size ≡ self.now.frame.size) self.now.begun }
@@ -156,7 +159,7 @@ impl Root {
     }
 
     /// The stones of a colour on all boards of the beginning.
-    pub(crate) fn stones(&self, colour: Colour) -> &Bits
+    pub(crate) fn stones_on_any_board(&self, colour: Colour) -> &Bits
         ensures { AreStonesOf colour self.now.begun result.now.words }
     {
         match colour {
@@ -179,30 +182,30 @@ impl Root {
 
     /// Where a board of the frame's size is looked for first; none where its hash tells its colouring from those of all boards of the
     /// beginning. Where those are few, no hash is made.
-    pub(crate) fn search_start(&self, board: &Board) -> Option<usize>
+    pub(crate) fn likely_place(&self, board: &Board) -> Option<usize>
         requires { board.now.size ≡ self.now.frame.size }
         ensures { result ≡ None → HasBeen (colourings self.now.begun) board.now.points → ⊥ }
     {
-        if self.count <= FEW {
+        if self.count <= FEW_BOARDS {
             return Some(0);
         }
         let hash = filter_index(board);
         if !self.filter.has(hash) {
             return None;
         }
-        match self.places.get(hash % PLACES) {
+        match self.places.get(hash % HASH_PLACES) {
             Some(place) => Some(*place),
             None => Some(0),
         }
     }
 
     /// Whether the boards of the beginning are so many that hashes were noted of them. Nothing goes by it but time.
-    pub(crate) fn has_hashes(&self) -> bool {
-        self.count > FEW
+    pub(crate) fn keeps_hashes(&self) -> bool {
+        self.count > FEW_BOARDS
     }
 
     /// Whether some board of the beginning may have this hash. Where none has, no colouring of theirs has it.
-    pub(crate) fn has_hash(&self, hash: usize) -> bool
+    pub(crate) fn may_have_hash(&self, hash: usize) -> bool
         ensures { result ≡ false → (c : Colouring) → filter_index self.now.frame.size c ≡ hash → HasBeen (colourings self.now.begun) c → ⊥ }
     {
         self.filter.has(hash)
@@ -217,10 +220,10 @@ impl Root {
     }
 
     /// Whether these are exactly the boards of the beginning. It takes no memory.
-    pub(crate) fn began_with(&self, boards: &[Board]) -> bool
+    pub(crate) fn is_beginning(&self, boards: &[Board]) -> bool
         ensures { IsTrue result ↔ (self.now.begun ≡ boards.now) }
     {
-        self.boards.are(boards)
+        self.boards.equals_boards(boards)
     }
 
     /// The last board of the beginning.

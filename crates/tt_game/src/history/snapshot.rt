@@ -5,7 +5,7 @@ ghost use Rattle.std.specs.Arc.{arc_value};
 ghost use Rattle.tt_game.specs.Game.{history};
 ghost use Rattle.tt_game.specs.Keys.{key_of};
 ghost use Rattle.tt_game.specs.KeyHash.{hash_of_key};
-ghost use Rattle.tt_game.specs.Line.{IsPosition};
+ghost use Rattle.tt_game.specs.Line.{IsPositionOf};
 ghost use Rattle.tt_game.specs.inside.Undoing.{state_at};
 ghost use Rattle.tt_game.specs.GameHistory.{so_far, colourings};
 ghost use Rattle.tt_game.specs.inside.Roots.{BoardsBegin};
@@ -69,11 +69,11 @@ fn begins_with_root(root: &Root, boards: &[Board], other: &Root) -> bool
     if other.same_beginning(root) {
         return true;
     }
-    let begun = root.count();
+    let begun = root.board_count();
     if boards.len() < begun {
         return false;
     }
-    root.began_with(&boards[..begun])
+    root.is_beginning(&boards[..begun])
 }
 
 impl Snapshot {
@@ -92,7 +92,7 @@ impl Snapshot {
         let later = BoardDeltas::of(
             history.alloc(),
             root.base(),
-            &history.boards()[root.count()..],
+            &history.boards()[root.board_count()..],
         )?;
         Ok(Snapshot {
             root: Arc::try_clone(root)?,
@@ -108,12 +108,12 @@ impl Snapshot {
         requires { line.now.frame.size ≡ self.now.frame.size }
         ensures { IsTrue result ↔ (history self.now.state ≡ history line.now.state) }
     {
-        let begun = self.root.count();
+        let begun = self.root.board_count();
         let boards = line.history();
         if boards.len() < begun {
             return false;
         }
-        if !self.later.are(&boards[begun..]) {
+        if !self.later.equals_boards(&boards[begun..]) {
             return false;
         }
         begins_with_root(&self.root, boards, line.root())
@@ -121,28 +121,28 @@ impl Snapshot {
 
     /// With how many boards the history there and the line's begin alike: with all those of the beginning, where the line has them,
     /// too, and with none else. It takes no memory.
-    pub fn begun_with(&self, line: &Line) -> usize
+    pub fn common_beginning_length(&self, line: &Line) -> usize
         ensures within { result ≤ length (history line.now.state) }
         ensures alike { take result (history line.now.state) ≡ take result (history self.now.state) }
     {
         if !begins_with_root(&self.root, line.history(), line.root()) {
             return 0;
         }
-        self.root.count()
+        self.root.board_count()
     }
 
     /// Whether the board was made there behind the beginning. It takes no memory.
-    pub fn has_made(&self, board: &Board) -> bool
+    pub fn has_later_board(&self, board: &Board) -> bool
         ensures { IsTrue result → Contains (history self.now.state) board.now.points }
     {
         self.later.has(board)
     }
 
     /// Whether the line stands there: with the same frame, history, side to move and passes. It takes no memory.
-    pub fn stands_with(&self, line: &Line) -> bool
+    pub fn is_state_of(&self, line: &Line) -> bool
         ensures { IsTrue result ↔ ((self.now.frame ≡ line.now.frame) × (self.now.state ≡ line.now.state)) }
     {
-        if !self.has_turn_of(line) {
+        if !self.has_frame_and_turn_of(line) {
             return false;
         }
         self.has_history(line)
@@ -162,9 +162,9 @@ impl Snapshot {
     /// Whether the line stands in the same position: with the same frame, present board, side to move and passes, whatever
     /// came before. It takes no memory.
     pub fn is_position_of(&self, line: &Line) -> bool
-        ensures { IsTrue result ↔ IsPosition self.now line.now.frame line.now.state }
+        ensures { IsTrue result ↔ IsPositionOf self.now line.now.frame line.now.state }
     {
-        if !self.has_turn_of(line) {
+        if !self.has_frame_and_turn_of(line) {
             return false;
         }
         self.present().same(line.present())
@@ -182,7 +182,7 @@ impl Snapshot {
     }
 
     /// Whether the line has the same frame, side to move and passes.
-    fn has_turn_of(&self, line: &Line) -> bool
+    fn has_frame_and_turn_of(&self, line: &Line) -> bool
         ensures { IsTrue result ↔ ((self.now.frame ≡ line.now.frame) × (self.now.state.to_move ≡ line.now.state.to_move) × (self.now.state.passes ≡ line.now.state.passes)) }
     {
         if self.to_move != line.to_move() {

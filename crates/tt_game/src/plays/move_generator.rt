@@ -6,7 +6,7 @@ ghost use Rattle.tt_sgf.specs.Sizes.{point_count};
 ghost use Rattle.tt_sgf.specs.MachineWords.{bit_in};
 
 use crate::frame::Side;
-use crate::history::root::MANY;
+use crate::history::root::MANY_POINTS;
 use crate::line::Line;
 use tt_board::{Colour, PlayKind};
 use tt_sgf::{BITS, Bits, Point};
@@ -24,9 +24,9 @@ pub(crate) struct MoveGenerator {
     sum: Option<u64>,
 }
 
-/// Whether at least `MANY` bits are 1. Nothing goes by it but time.
+/// Whether at least `MANY_POINTS` bits are 1. Nothing goes by it but time.
 fn are_many(points: &Bits) -> bool {
-    let mut wanted = u32::from(MANY);
+    let mut wanted = u32::from(MANY_POINTS);
     for word in points.words() {
         if word != 0 {
             wanted = wanted.saturating_sub(word.count_ones());
@@ -39,18 +39,18 @@ impl Line {
     ghost use Rattle.std.specs.Prelude.{ℕ, Some, None, slice_set};
     ghost use Rattle.tt_game.specs.GameHistory.{HasBeen};
     ghost use Rattle.tt_board.specs.Reach.{entry_at};
-    ghost use Rattle.tt_board.specs.PlayKind.{IsKind};
+    ghost use Rattle.tt_board.specs.PlayKind.{IsPlayOfKind};
     ghost use Rattle.tt_board.specs.declared.counted.play_kind.PlayKind.TheVariants.{NoCapture};
     ghost use Rattle.tt_game.specs.Game.{IsLegal, after, history, side_colour, made, winner_of};
-    ghost use Rattle.tt_game.specs.MoveGenerators.{IsMoveGenerator, HaveStood, IsKindAt};
+    ghost use Rattle.tt_game.specs.MoveGenerators.{IsMoveGenerator, HaveStood, IsForetoldKind};
     ghost use Rattle.tt_game.specs.declared.turns.Turn.{Turn};
 
     /// What is the same for all plays of the side to move.
     #[inline(always)]
-    pub(crate) fn moves(&self) -> MoveGenerator
+    pub(crate) fn move_generator(&self) -> MoveGenerator
         ensures { IsMoveGenerator result self.now.frame self.now.state }
     {
-        let colour = self.mover();
+        let colour = self.colour_to_move();
         let empty = self.present().empty_among(&self.frame().region);
         let stood = self.stones_so_far(colour);
         let no_capture = self.no_capture_if_many(colour, &empty);
@@ -58,9 +58,9 @@ impl Line {
             colour,
             empty,
             no_capture,
-            new_colouring: self.no_capture_among(colour, &no_capture, &stood),
+            new_colouring: self.new_colourings_among(colour, &no_capture, &stood),
             stood,
-            sum: self.sum_here(),
+            sum: self.present_board_sum(),
         }
     }
 
@@ -70,7 +70,7 @@ impl Line {
         requires colour { colour ≡ side_colour self.now.frame self.now.state.to_move }
         requires free { (p : ℕ) → p < point_count self.now.frame.size → bit_in empty.now.words p ≡ true → entry_at self.now.state.present p ≡ None }
         ensures { (p : ℕ) → p < point_count self.now.frame.size → bit_in result.words p ≡ true
-            → IsKind NoCapture self.now.frame.size self.now.state.present (side_colour self.now.frame self.now.state.to_move) p }
+            → IsPlayOfKind NoCapture self.now.frame.size self.now.state.present (side_colour self.now.frame self.now.state.to_move) p }
     {
         if !self.has_large_region() {
             return Bits::none();
@@ -78,16 +78,16 @@ impl Line {
         if !are_many(empty) {
             return Bits::none();
         }
-        self.counted().no_capture_among(colour, empty)
+        self.counted_board().no_capture_among(colour, empty)
     }
 
     /// Those of these points on which a play of the side to move is quiet, since its stones never stood there.
-    fn no_capture_among(&self, colour: Colour, no_capture: &Bits, stood: &Bits) -> Bits
+    fn new_colourings_among(&self, colour: Colour, no_capture: &Bits, stood: &Bits) -> Bits
         requires colour { colour ≡ side_colour self.now.frame self.now.state.to_move }
         requires no_capture { (p : ℕ) → p < point_count self.now.frame.size → bit_in no_capture.now.words p ≡ true
-            → IsKind NoCapture self.now.frame.size self.now.state.present (side_colour self.now.frame self.now.state.to_move) p }
+            → IsPlayOfKind NoCapture self.now.frame.size self.now.state.present (side_colour self.now.frame self.now.state.to_move) p }
         requires stood { HaveStood colour self.now.frame.size (history self.now.state) stood.now.words }
-        ensures { (p : ℕ) → p < point_count self.now.frame.size → bit_in result.words p ≡ true → IsKindAt NoCapture self.now.frame self.now.state p }
+        ensures { (p : ℕ) → p < point_count self.now.frame.size → bit_in result.words p ≡ true → IsForetoldKind NoCapture self.now.frame self.now.state p }
     {
         no_capture.minus(stood)
     }
@@ -122,12 +122,12 @@ impl Line {
     /// What is foretold of a play of the side to move on an empty point, by the points beside it and by the stones that stood there, and
     /// what is told by the points beside it alone. It captures nothing where it takes nothing off and makes a colouring that hasn't been, and is
     /// a suicide of one stone where its colouring is the present one.
-    fn kind_by(&self, moves: &MoveGenerator, p: Point) -> (PlayKind, PlayKind)
+    fn foretold_kinds(&self, moves: &MoveGenerator, p: Point) -> (PlayKind, PlayKind)
         requires moves { IsMoveGenerator moves.now self.now.frame self.now.state }
         requires on_board { p < point_count self.now.frame.size }
         requires free { entry_at self.now.state.present p ≡ None }
-        ensures kind_here { IsKindAt result.0 self.now.frame self.now.state p }
-        ensures kind { IsKind result.1 self.now.frame.size self.now.state.present (side_colour self.now.frame self.now.state.to_move) p }
+        ensures kind_here { IsForetoldKind result.0 self.now.frame self.now.state p }
+        ensures kind { IsPlayOfKind result.1 self.now.frame.size self.now.state.present (side_colour self.now.frame self.now.state.to_move) p }
     {
         if moves.new_colouring.has(usize::from(p.number())) {
             return (PlayKind::NoCapture, PlayKind::NoCapture);
@@ -135,7 +135,7 @@ impl Line {
         if moves.no_capture.has(usize::from(p.number())) {
             return (PlayKind::NeedsBoard, PlayKind::NoCapture);
         }
-        let kind = self.counted().play_kind(moves.colour, p);
+        let kind = self.counted_board().play_kind(moves.colour, p);
         match kind {
             PlayKind::SingleStoneSuicide => (PlayKind::SingleStoneSuicide, kind),
             PlayKind::NeedsBoard => (PlayKind::NeedsBoard, kind),
@@ -152,16 +152,18 @@ impl Line {
     /// Who has won after a play on an empty point of the region, where it is legal, by the board that it makes. This is told of it by
     /// the points beside it.
     #[inline(never)]
-    fn winner_made(&self, p: Point, kind: PlayKind) -> Option<Option<Side>>
+    fn winner_by_board(&self, p: Point, kind: PlayKind) -> Option<Option<Side>>
         requires on_board { p < point_count self.now.frame.size }
         requires inside { IsTrue (set.contains self.now.frame.region p) }
         requires free { entry_at self.now.state.present p ≡ None }
         requires open { winner_of self.now.frame self.now.state ≡ None }
-        requires kind { IsKind kind self.now.frame.size self.now.state.present (side_colour self.now.frame self.now.state.to_move) p }
+        requires kind { IsPlayOfKind kind self.now.frame.size self.now.state.present (side_colour self.now.frame self.now.state.to_move) p }
         ensures { MatchOption result (IsLegal self.now.frame self.now.state (Turn.Play p) → ⊥)
             (λ w. IsLegal self.now.frame self.now.state (Turn.Play p) × (w ≡ winner_of self.now.frame (after self.now.frame self.now.state (Turn.Play p)))) }
     {
-        let next = self.counted().after_of_kind(self.mover(), p, kind);
+        let next = self
+            .counted_board()
+            .after_of_kind(self.colour_to_move(), p, kind);
         if self.has_been(p, &next) {
             return None;
         }
@@ -171,7 +173,7 @@ impl Line {
     /// Who has won after a play on an empty point of the region by which nothing goes, where it is legal: nobody. Its stone stood there
     /// before, so the board that it makes is looked for.
     #[inline(never)]
-    fn winner_put(&self, p: Point) -> Option<Option<Side>>
+    fn winner_without_capture(&self, p: Point) -> Option<Option<Side>>
         requires on_board { p < point_count self.now.frame.size }
         requires inside { IsTrue (set.contains self.now.frame.region p) }
         requires free { entry_at self.now.state.present p ≡ None }
@@ -181,8 +183,8 @@ impl Line {
             (λ w. IsLegal self.now.frame self.now.state (Turn.Play p) × (w ≡ winner_of self.now.frame (after self.now.frame self.now.state (Turn.Play p)))) }
     {
         let mut next = self.present().copy();
-        next.put_stone(self.mover(), p);
-        if self.is_among(&next) {
+        next.put_stone(self.colour_to_move(), p);
+        if self.has_colouring_of(&next) {
             return None;
         }
         Some(None)
@@ -200,18 +202,18 @@ impl Line {
         ensures { MatchOption result (IsLegal self.now.frame self.now.state (Turn.Play p) → ⊥)
             (λ w. IsLegal self.now.frame self.now.state (Turn.Play p) × (w ≡ winner_of self.now.frame (after self.now.frame self.now.state (Turn.Play p)))) }
     {
-        let (kind_here, kind) = self.kind_by(moves, p);
+        let (kind_here, kind) = self.foretold_kinds(moves, p);
         match kind_here {
             PlayKind::NoCapture => Some(None),
             PlayKind::SingleStoneSuicide => None,
             PlayKind::NeedsBoard => {
                 if kind != PlayKind::NoCapture {
-                    return self.winner_made(p, kind);
+                    return self.winner_by_board(p, kind);
                 }
                 if self.is_new(moves, p) {
                     return Some(None);
                 }
-                self.winner_put(p)
+                self.winner_without_capture(p)
             }
         }
     }

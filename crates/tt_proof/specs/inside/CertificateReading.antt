@@ -4,7 +4,7 @@ use Rattle.tt_sgf.specs.declared.size.Size.{Size}
 use Rattle.tt_proof.specs.declared.certificate_read.CertFault.{CertFault}
 use Rattle.tt_proof.specs.declared.certificate_read.CertFault.TheVariants.{Syntax, TooDeep, NoMemory}
 use Rattle.tt_proof.specs.Strategy.{Strategy, Entries, depth, depth_of_entries, IsInOrder, AreInOrder}
-use Rattle.tt_proof.specs.CertificateText.{tree_text, entries_text, EndsBelow, EndsInEntries}
+use Rattle.tt_proof.specs.CertificateText.{tree_text, entries_text, IsTreeTextDownTo, IsEntriesTextDownTo}
 
 module _ (size : Size) where
   -- r begins with the text of u, of a depth of at most d, and y follows
@@ -19,7 +19,7 @@ module _ (size : Size) where
     pub beginning : List ℕ
     pub follows : List ℕ
     pub in_order : IsInOrder size tree
-    pub ends : EndsBelow size tree d beginning
+    pub ends : IsTreeTextDownTo size tree d beginning
     pub text : r ≡ beginning ++ follows
 
   pub record EntriesAt (d least : ℕ) (es : Entries) (r y : List ℕ) : Type 0 where
@@ -32,7 +32,7 @@ module _ (size : Size) where
     pub beginning : List ℕ
     pub follows : List ℕ
     pub in_order : AreInOrder size least entries
-    pub ends : EndsInEntries size entries d beginning
+    pub ends : IsEntriesTextDownTo size entries d beginning
     pub text : r ≡ beginning ++ follows
 
   abbrev pub FaultAt : ℕ → List ℕ → CertFault → Type 0

@@ -6,9 +6,9 @@ use Rattle.tt_game.specs.Line.{IsBarredBySuperko}
 use Rattle.tt_game.specs.declared.frame.Frame.{Frame}
 use Rattle.tt_game.specs.declared.turns.Turn.{Turn}
 use Rattle.tt_game.specs.declared.turns.Turn.TheVariants.{Play, Pass}
-use Rattle.tt_proof.specs.declared.bounds.Bound.{Bound}
+use Rattle.tt_proof.specs.declared.board_bounds.BoardBound.{BoardBound}
 use Rattle.tt_proof.specs.declared.footprints.Footprint.{Footprint}
-use Rattle.tt_proof.specs.Bounds.{IsWithin}
+use Rattle.tt_proof.specs.BoardBounds.{IsWithin}
 
 -- superko bars a play on a point below the number, which would make the colouring
 abbrev pub RepeatsBelow : Frame → State → ℕ → Colouring → Type 0
@@ -31,7 +31,7 @@ pub record IsPicked (t : Turn) (board : Position) (behind x : Footprint) : Type 
   pub met : x.met ≡ behind.met
 
 -- where the turn is a play, the board that it made lies within the bound
-abbrev pub IsMadeWithin : Turn → Position → Option Bound → Type 0
+abbrev pub IsMadeWithin : Turn → Position → Option BoardBound → Type 0
 IsMadeWithin Pass b bound = Unit {0}
 IsMadeWithin (Play p) b bound = IsWithin bound b
 

@@ -5,9 +5,9 @@ use Rattle.tt_sgf.specs.declared.size.Size.{Size}
 use Rattle.tt_proof.specs.declared.certificate_read.CertFault.{CertFault}
 use Rattle.tt_proof.specs.declared.certificate_read.CertFault.TheVariants.{Syntax, TooDeep, NoMemory}
 use Rattle.tt_proof.specs.Strategy.{Strategy, depth, depth_of_entries}
-use Rattle.tt_proof.specs.Outlines.{Outline, Branches, ended, picked, replied, part, unfolded, entries_with, names_behind, names_behind_all, RefersBack, BranchesReferBack, IsOrderly, AreOrderly}
-use Rattle.tt_proof.specs.Outlines.{outline_text, branches_text, GoesDeep, GoDeep}
-pub use Rattle.tt_proof.specs.Outlines.{NoDigit}
+use Rattle.tt_proof.specs.Outlines.{Outline, Branches, ended, picked, replied, part, unfolded, unfolded_entries, named_trees_after, named_trees_after_branches, RefersBack, BranchesReferBack, IsOrderly, AreOrderly}
+use Rattle.tt_proof.specs.Outlines.{outline_text, branches_text, OutlineGoesDeep, BranchesGoDeep}
+pub use Rattle.tt_proof.specs.Outlines.{HasNoDigitInFront}
 
 -- the depths of all named trees, with one more where the tree has a name
 abbrev pub with_depth : Bool → ℕ → List ℕ → List ℕ
@@ -20,14 +20,14 @@ pub record DigitsAt (n : ℕ) (r y : List ℕ) : Type 0 where
   pub all : AllDigits 10 digits
   pub value : n ≡ min (digits_value 10 digits) (2 ^ 32 - 1)
   pub text : r ≡ digits ++ y
-  pub ends : NoDigit y
+  pub ends : HasNoDigitInFront y
 
 -- where an outline ends with a name, no digit follows
 abbrev pub EndsBefore : Outline → List ℕ → Type 0
 EndsBefore ended y = Unit {0}
 EndsBefore (picked n t o) y = EndsBefore o y
 EndsBefore (replied n bs) y = Unit {0}
-EndsBefore (part k) y = NoDigit y
+EndsBefore (part k) y = HasNoDigitInFront y
 
 module _ (size : Size) where
   -- r begins with the text of o, whose tree has the depth d, and y follows; the names so far stand for us
@@ -41,32 +41,32 @@ module _ (size : Size) where
   pub record BranchesAt (us : List Strategy) (least : ℕ) (bs : Branches) (d : ℕ) (r y : List ℕ) : Type 0 where
     pub closed : BranchesReferBack us bs
     pub orderly : AreOrderly size least bs
-    pub deep : depth_of_entries (entries_with us bs) ≡ d
+    pub deep : depth_of_entries (unfolded_entries us bs) ≡ d
     pub text : r ≡ branches_text size bs ++ y
 
   -- so it is whatever trees of the old depths the names stand for; behind the outline all names stand for trees of the new depths
   pub record ReadsOutline (left : ℕ) (old new : List ℕ) (o : Outline) (d : ℕ) (r y : List ℕ) : Type 0 where
     pub shallow : d ≤ left
     pub at : (us : List Strategy) → map depth us ≡ old → OutlineAt us o d r y
-    pub names : (us : List Strategy) → map depth us ≡ old → map depth (names_behind us o) ≡ new
+    pub names : (us : List Strategy) → map depth us ≡ old → map depth (named_trees_after us o) ≡ new
 
   pub record ReadsBranches (left : ℕ) (old new : List ℕ) (least : ℕ) (bs : Branches) (d : ℕ) (r y : List ℕ) : Type 0 where
     pub shallow : d ≤ left
     pub at : (us : List Strategy) → map depth us ≡ old → BranchesAt us least bs d r y
-    pub names : (us : List Strategy) → map depth us ≡ old → map depth (names_behind_all us bs) ≡ new
+    pub names : (us : List Strategy) → map depth us ≡ old → map depth (named_trees_after_branches us bs) ≡ new
 
   -- r begins as an outline does that goes deeper
   pub record OutlineDeepAt (us : List Strategy) (left : ℕ) (r : List ℕ) : Type 0 where
     pub outline : Outline
     pub closed : RefersBack us outline
     pub orderly : IsOrderly size outline
-    pub deep : GoesDeep size us left outline r
+    pub deep : OutlineGoesDeep size us left outline r
 
   pub record BranchesDeepAt (us : List Strategy) (left least : ℕ) (r : List ℕ) : Type 0 where
     pub branches : Branches
     pub closed : BranchesReferBack us branches
     pub orderly : AreOrderly size least branches
-    pub deep : GoDeep size us left branches r
+    pub deep : BranchesGoDeep size us left branches r
 
   -- no outline is at the front of r, or only deeper ones
   abbrev pub OutlineFaultAt : ℕ → List ℕ → List ℕ → CertFault → Type 0

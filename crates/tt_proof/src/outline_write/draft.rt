@@ -3,10 +3,10 @@
 
 ghost use Rattle.std.specs.Prelude.{◌≡◌, OnOk};
 ghost use Rattle.tt_proof.specs.KeptFootprints.{IsBoardAfter};
-ghost use Rattle.tt_proof.specs.Strategy.{strategy_of, entries_of_list, IsInOrder, AreInOrder, IsOnBoard};
+ghost use Rattle.tt_proof.specs.Strategy.{strategy_of, entries_of_reply, IsInOrder, AreInOrder, IsOnBoard};
 
 use crate::certificate_write::put_turn;
-use crate::outline_write::kept_trees::{KeptTrees, Written};
+use crate::outline_write::kept_trees::{KeptTrees, WrittenTree};
 use crate::position_footprint::PositionFootprint;
 use crate::tree::Tree;
 use std::alloc::Global;
@@ -48,28 +48,28 @@ impl Draft {
     }
 
     /// Whether the text is too long, even if no tree has a name.
-    fn is_long(&self) -> bool {
+    fn is_too_long(&self) -> bool {
         self.text.len().saturating_sub(self.marked.len()) > self.most_bytes
     }
 
     /// Writes a leaf, where somebody has won.
-    fn put_done(&mut self, alloc: Global, line: &Line) -> Result<Option<Written>, NoMemory> {
+    fn put_done(&mut self, alloc: Global, line: &Line) -> Result<Option<WrittenTree>, NoMemory> {
         self.text.push(b'.')?;
-        Ok(Some(Written {
+        Ok(Some(WrittenTree {
             basis: PositionFootprint::of(alloc, line),
             depth: 0,
         }))
     }
 
     /// Writes the part that stands for the tree at the index.
-    fn put_part(&mut self, alloc: Global, index: usize) -> Result<Option<Written>, NoMemory> {
+    fn put_part(&mut self, alloc: Global, index: usize) -> Result<Option<WrittenTree>, NoMemory> {
         self.text.push(b'*')?;
         self.marked.push(index)?;
-        self.kept.part(alloc, index)
+        self.kept.use_part(alloc, index)
     }
 
     /// Begins a tree, and answers the place of its mark.
-    fn begin(&mut self, byte: u8) -> Result<usize, NoMemory> {
+    fn begin_tree(&mut self, byte: u8) -> Result<usize, NoMemory> {
         let place = self.marked.len();
         self.text.push(b'=')?;
         self.marked.push(0)?;
@@ -78,13 +78,13 @@ impl Draft {
     }
 
     /// Ends the tree whose mark has this place. The line stands where the tree begins.
-    fn end(
+    fn end_tree(
         &mut self,
         alloc: Global,
         place: usize,
         line: &Line,
-        written: Option<Written>,
-    ) -> Result<Option<Written>, NoMemory> {
+        written: Option<WrittenTree>,
+    ) -> Result<Option<WrittenTree>, NoMemory> {
         let Some(written) = written else {
             return Ok(None);
         };
@@ -96,7 +96,7 @@ impl Draft {
     }
 
     /// Writes the name of a part, or `=` in front of a tree that a part stands for.
-    fn put_mark(
+    fn put_name_sign(
         &self,
         alloc: Global,
         out: &mut Vec<u8>,
@@ -119,16 +119,16 @@ impl Draft {
 
     /// The text for the side, in which the trees have names that parts stand for.
     pub(crate) fn text(&self, alloc: Global, s: Side) -> Result<Vec<u8>, NoMemory> {
-        let names = self.kept.names(alloc)?;
+        let names = self.kept.part_names(alloc)?;
         let mut out = Vec::new(alloc);
-        out.extend_from_slice(s.word())?;
+        out.extend_from_slice(s.verdict_word())?;
         out.push(b' ')?;
         let mut place = 0usize;
         for byte in &self.text {
             if *byte != b'=' && *byte != b'*' {
                 out.push(*byte)?;
             } else if let Some(index) = self.marked.get(place) {
-                self.put_mark(alloc, &mut out, *byte, *index, &names)?;
+                self.put_name_sign(alloc, &mut out, *byte, *index, &names)?;
                 place = place.saturating_add(1);
             }
         }
@@ -137,39 +137,39 @@ impl Draft {
 }
 
 /// What is known of the pick of the turn, which leads to the board, by what is known behind it.
-fn picked(
+fn written_before_pick(
     alloc: Global,
     line: &Line,
     turn: &Turn,
     board: &Board,
-    behind: Written,
-) -> Result<Written, NoMemory>
+    behind: WrittenTree,
+) -> Result<WrittenTree, NoMemory>
     requires { IsBoardAfter line.now.frame line.now.state turn.now board.now }
 {
-    let Written { basis, depth } = behind;
-    Ok(Written {
+    let WrittenTree { basis, depth } = behind;
+    Ok(WrittenTree {
         basis: basis.picked(alloc, line, turn, board)?,
         depth: depth.saturating_add(1),
     })
 }
 
 /// What is known of a reply with one branch more, whose turn leads to the board.
-fn joined(
+fn written_with_branch(
     line: &Line,
     turn: &Turn,
     board: &Board,
-    before: Written,
-    behind: Written,
-) -> Result<Written, NoMemory>
+    before: WrittenTree,
+    behind: WrittenTree,
+) -> Result<WrittenTree, NoMemory>
     requires { IsBoardAfter line.now.frame line.now.state turn.now board.now }
 {
-    let Written { basis, depth } = behind;
-    let Written {
+    let WrittenTree { basis, depth } = behind;
+    let WrittenTree {
         basis: others,
         depth: most,
     } = before;
-    Ok(Written {
-        basis: others.joined(basis.passed(line, turn, board))?,
+    Ok(WrittenTree {
+        basis: others.joined(basis.before_opposing_turn(line, turn, board))?,
         depth: most.max(depth.saturating_add(1)),
     })
 }
@@ -183,13 +183,13 @@ fn walk_branch(
     left: u16,
     line: &mut Line,
     draft: &mut Draft,
-    before: Written,
-) -> Result<Option<Written>, NoMemory>
+    before: WrittenTree,
+) -> Result<Option<WrittenTree>, NoMemory>
     requires on_board { IsOnBoard line.old.frame.size turn }
     requires in_order { IsInOrder line.old.frame.size (strategy_of child.now) }
     ensures same { OnOk result (line.new ≡ line.old) }
 {
-    if left == 0 || draft.is_long() {
+    if left == 0 || draft.is_too_long() {
         return Ok(None);
     }
     put_turn(&mut draft.text, turn, line.frame().size)?;
@@ -199,7 +199,7 @@ fn walk_branch(
             let behind = walk(alloc, child, left - 1, line, draft)?;
             line.pop();
             match behind {
-                Some(behind) => Ok(Some(joined(line, &turn, &board, before, behind)?)),
+                Some(behind) => Ok(Some(written_with_branch(line, &turn, &board, before, behind)?)),
                 None => Ok(None),
             }
         }
@@ -219,12 +219,12 @@ fn walk_reply(
     left: u16,
     line: &mut Line,
     draft: &mut Draft,
-) -> Result<Option<Written>, NoMemory>
-    requires in_order { AreInOrder line.old.frame.size 0 (entries_of_list list.now) }
+) -> Result<Option<WrittenTree>, NoMemory>
+    requires in_order { AreInOrder line.old.frame.size 0 (entries_of_reply list.now) }
     ensures same { OnOk result (line.new ≡ line.old) }
 {
-    let mut written = Written {
-        basis: PositionFootprint::of_repeats(alloc, line)?,
+    let mut written = WrittenTree {
+        basis: PositionFootprint::of_empty_reply(alloc, line)?,
         depth: 0,
     };
     for (turn, child) in list {
@@ -245,12 +245,12 @@ fn walk_pick(
     left: u16,
     line: &mut Line,
     draft: &mut Draft,
-) -> Result<Option<Written>, NoMemory>
+) -> Result<Option<WrittenTree>, NoMemory>
     requires on_board { IsOnBoard line.old.frame.size turn }
     requires in_order { IsInOrder line.old.frame.size (strategy_of child.now) }
     ensures same { OnOk result (line.new ≡ line.old) }
 {
-    if left == 0 || draft.is_long() {
+    if left == 0 || draft.is_too_long() {
         return Ok(None);
     }
     put_turn(&mut draft.text, turn, line.frame().size)?;
@@ -260,7 +260,7 @@ fn walk_pick(
             let behind = walk(alloc, child, left - 1, line, draft)?;
             line.pop();
             match behind {
-                Some(behind) => Ok(Some(picked(alloc, line, &turn, &board, behind)?)),
+                Some(behind) => Ok(Some(written_before_pick(alloc, line, &turn, &board, behind)?)),
                 None => Ok(None),
             }
         }
@@ -278,24 +278,24 @@ fn walk(
     left: u16,
     line: &mut Line,
     draft: &mut Draft,
-) -> Result<Option<Written>, NoMemory>
+) -> Result<Option<WrittenTree>, NoMemory>
     requires in_order { IsInOrder line.old.frame.size (strategy_of t.now) }
     ensures same { OnOk result (line.new ≡ line.old) }
 {
-    if let Some(index) = draft.kept.find(line, left) {
+    if let Some(index) = draft.kept.find_winning(line, left) {
         return draft.put_part(alloc, index);
     }
     match t {
         Tree::Done => draft.put_done(alloc, line),
         Tree::Pick(turn, child) => {
-            let place = draft.begin(b'!')?;
+            let place = draft.begin_tree(b'!')?;
             let written = walk_pick(alloc, *turn, child, left, line, draft)?;
-            draft.end(alloc, place, line, written)
+            draft.end_tree(alloc, place, line, written)
         }
         Tree::Reply(list) => {
-            let place = draft.begin(b'?')?;
+            let place = draft.begin_tree(b'?')?;
             let written = walk_reply(alloc, list, left, line, draft)?;
-            draft.end(alloc, place, line, written)
+            draft.end_tree(alloc, place, line, written)
         }
     }
 }

@@ -9,19 +9,19 @@ use tt_sgf::NoMemory;
 const BUCKETS: usize = 65_536;
 
 /// No index at all.
-const NONE: usize = usize::MAX;
+const NO_TREE: usize = usize::MAX;
 
 /// What is known of a tree that is written: on what it rests, and how many turns its longest way down has.
 #[derive(Drop)]
-pub(crate) struct Written {
+pub(crate) struct WrittenTree {
     pub(crate) basis: PositionFootprint,
     pub(crate) depth: u16,
 }
 
-impl Written {
+impl WrittenTree {
     /// The same once more.
-    fn try_clone(&self, alloc: Global) -> Result<Written, NoMemory> {
-        Ok(Written {
+    fn try_clone(&self, alloc: Global) -> Result<WrittenTree, NoMemory> {
+        Ok(WrittenTree {
             basis: self.basis.try_clone(alloc)?,
             depth: self.depth,
         })
@@ -31,7 +31,7 @@ impl Written {
 /// A kept tree, the hash of its board, the tree before it in its chain, and whether a part stands for it.
 #[derive(Drop)]
 struct KeptTree {
-    written: Written,
+    written: WrittenTree,
     hash: u64,
     before: usize,
     is_used: bool,
@@ -54,7 +54,7 @@ impl KeptTrees {
     pub(crate) fn new(alloc: Global) -> Result<KeptTrees, NoMemory> {
         Ok(KeptTrees {
             trees: Vec::new(alloc),
-            last: vec![in alloc; NONE; BUCKETS]?,
+            last: vec![in alloc; NO_TREE; BUCKETS]?,
         })
     }
 
@@ -62,19 +62,19 @@ impl KeptTrees {
     fn newest_in_bucket(&self, hash: u64) -> usize {
         match self.last.get(hash_bucket(hash)) {
             Some(last) => *last,
-            None => NONE,
+            None => NO_TREE,
         }
     }
 
     /// The youngest tree that wins at the line and is at most so deep.
-    pub(crate) fn find(&self, line: &Line, most_depth: u16) -> Option<usize> {
+    pub(crate) fn find_winning(&self, line: &Line, most_depth: u16) -> Option<usize> {
         let hash = board_hash(line.present());
         let mut next = self.newest_in_bucket(hash);
         for _ in 0..self.trees.len() {
             let tree = self.trees.get(next)?;
             if tree.hash == hash
                 && tree.written.depth <= most_depth
-                && tree.written.basis.is_met(line)
+                && tree.written.basis.fits_line(line)
             {
                 return Some(next);
             }
@@ -88,7 +88,7 @@ impl KeptTrees {
         &mut self,
         alloc: Global,
         line: &Line,
-        written: &Written,
+        written: &WrittenTree,
     ) -> Result<usize, NoMemory> {
         let hash = board_hash(line.present());
         let index = self.trees.len();
@@ -106,11 +106,11 @@ impl KeptTrees {
     }
 
     /// What is known of the tree at the index, for which a part stands from now on.
-    pub(crate) fn part(
+    pub(crate) fn use_part(
         &mut self,
         alloc: Global,
         index: usize,
-    ) -> Result<Option<Written>, NoMemory> {
+    ) -> Result<Option<WrittenTree>, NoMemory> {
         let Some(tree) = self.trees.get_mut(index) else {
             return Ok(None);
         };
@@ -127,7 +127,7 @@ impl KeptTrees {
     }
 
     /// The name of each tree: how many before it have parts that stand for them.
-    pub(crate) fn names(&self, alloc: Global) -> Result<Vec<usize>, NoMemory> {
+    pub(crate) fn part_names(&self, alloc: Global) -> Result<Vec<usize>, NoMemory> {
         let mut names = Vec::with_capacity(alloc, self.trees.len())?;
         let mut count = 0usize;
         for tree in &self.trees {

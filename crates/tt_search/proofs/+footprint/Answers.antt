@@ -4,7 +4,7 @@ use Rattle.tt_game.specs.declared.frame.Frame.{Frame}
 use Rattle.tt_game.specs.declared.frame.Side.{Side}
 use Rattle.tt_game.specs.Game.{State, IsLegal, after}
 use Rattle.tt_game.specs.Line.{LineWithUndo}
-use Rattle.tt_proof.specs.Proven.{Proven, IsWon}
+use Rattle.tt_proof.specs.ProofClaim.{ProofClaim, IsWinningTree}
 use Rattle.tt_proof.specs.declared.footprints.Footprint.{Footprint}
 use Rattle.tt_proof.specs.Strategy.{Entries, done, pick}
 use Rattle.tt_proof.specs.KeptFootprints.{IsFootprint, IsEntryJoined}
@@ -15,7 +15,7 @@ use Rattle.tt_search.specs.inside.Children.{children_of}
 use Rattle.tt_search.specs.inside.Child.{child_tree}
 use Rattle.tt_search.specs.inside.Edges.{edge_turn, edge_turns, edge_trees}
 use Rattle.tt_search.specs.inside.ChildNodes.{children_in}
-use Rattle.tt_search.specs.Settled.{strategy_for, first_settled, pick_at}
+use Rattle.tt_search.specs.Settled.{strategy_for, first_settled_index, pick_at}
 use Rattle.tt_search.specs.inside.Weight.{weight, weight_all}
 use Rattle.tt_search.specs.inside.Joining.{IsSettledAt, AreSettledAt}
 use Rattle.tt_search.specs.declared.tree.edges.Edge.{Edge}
@@ -44,8 +44,8 @@ by_nothing side f s x child (inr (winner, e)) foot = subst (λ k. IsFootprint f 
 
 -- ---- a node, and its children
 
-pub tree::children::Child::footprint_behind-returns-in-Fresh-clause-exact : goal.tree::children::Child::footprint_behind-returns-in-Fresh-clause-exact
-tree::children::Child::footprint_behind-returns-in-Fresh-clause-exact t c =
+pub tree::children::Child::footprint_after-returns-in-Fresh-clause-exact : goal.tree::children::Child::footprint_after-returns-in-Fresh-clause-exact
+tree::children::Child::footprint_after-returns-in-Fresh-clause-exact t c =
     let f = c.args.line.now.frame in
     let s = after c.args.line.now.frame c.args.line.now.state c.args.turn in
     by_nothing c.args.side f s c.empty.result c.args.self c.in-Fresh.is (c.empty.ensures f s)
@@ -65,7 +65,7 @@ tree::node::Node::footprint-footprint_at-requires-in-Offered t c =
     let is = sym (ap shape c.in-Offered.is) ∙ c.self.view_is in
     let offered = offered_for c.in-Offered.field-0 c.in-Offered.field-1 p c.args.side c.args.self.now holds is c.requires.settled in
     let won = makes_proof c.args.side f s c.args.self.now p.tree offered.1 c.requires.settled c.requires.partial c.requires.stays in
-    record { wins = subst (λ (q : Proven). IsWon q.side f s q.tree) (sym c.deref-in-Offered.ensures) (subst (λ side. IsWon side f s p.tree) (sym offered.0) won) }
+    record { wins = subst (λ (q : ProofClaim). IsWinningTree q.side f s q.tree) (sym c.deref-in-Offered.ensures) (subst (λ side. IsWinningTree side f s p.tree) (sym offered.0) won) }
 
 pub tree::node::Node::footprint-returns-in-Offered-clause-exact : goal.tree::node::Node::footprint-returns-in-Offered-clause-exact
 tree::node::Node::footprint-returns-in-Offered-clause-exact t c =
@@ -75,101 +75,101 @@ tree::node::Node::footprint-returns-in-Offered-clause-exact t c =
     let holds = subst HoldsItsOwn c.in-Offered.is c.self.invariant.1 in
     let is = sym (ap shape c.in-Offered.is) ∙ c.self.view_is in
     let offered = offered_for c.in-Offered.field-0 c.in-Offered.field-1 p c.args.side c.args.self.now holds is c.requires.settled in
-    let tree : c.deref-in-Offered.result.now.tree ≡ strategy_for c.args.side c.args.self.now = ap (λ (q : Proven). q.tree) c.deref-in-Offered.ensures ∙ offered.1 in
+    let tree : c.deref-in-Offered.result.now.tree ≡ strategy_for c.args.side c.args.self.now = ap (λ (q : ProofClaim). q.tree) c.deref-in-Offered.ensures ∙ offered.1 in
     subst (λ u. IfOk c.footprint_at-in-Offered.result (λ x. IsFootprint f s u x)) tree c.footprint_at-in-Offered.ensures.exact
 
-pub tree::children::ChildNodes::footprint-replied-requires : goal.tree::children::ChildNodes::footprint-replied-requires
-tree::children::ChildNodes::footprint-replied-requires t c =
+pub tree::children::ChildNodes::footprint-reply_footprint-requires : goal.tree::children::ChildNodes::footprint-reply_footprint-requires
+tree::children::ChildNodes::footprint-reply_footprint-requires t c =
     let x = c.args.self.now in
     let edges = c.as_slice.ensures in
-    let grown = c.as_slice-else-is_same.ensures.value in (
+    let grown = c.as_slice-else-is_same_side.ensures.value in (
       omega (
         arith,
         c.decreases,
-        ap (λ es. weight_all (children_of (edge_trees es c.as_slice-else-is_same.result.now))) edges,
+        ap (λ es. weight_all (children_of (edge_trees es c.as_slice-else-is_same_side.result.now))) edges,
         ap (λ us. weight_all (children_of (edge_trees x.edges us))) grown,
       ),
       rw (edges, grown)
           (replied_children c.args.side c.args.line.now.frame c.args.line.now.state c.args.mover x.edges x.grown.items
-          (sym c.is_same.ensures ∙ c.if-is_same.false) c.requires.whole c.requires.settled),
+          (sym c.is_same_side.ensures ∙ c.if-is_same_side.false) c.requires.whole c.requires.settled),
     )
 
 -- ---- the child that is picked
 
-pub footprints::picked-at-requires : goal.footprints::picked-at-requires
-footprints::picked-at-requires t c =
+pub footprints::pick_footprint-at-requires : goal.footprints::pick_footprint-at-requires
+footprints::pick_footprint-at-requires t c =
     let x = c.args.children.now in
     omega (
       arith,
-      picked_there c.args.side c.args.line.now.frame c.args.line.now.state x c.first_settled-index.result.0 c.requires.settled c.first_settled-index.ensures.index,
+      picked_there c.args.side c.args.line.now.frame c.args.line.now.state x c.first_settled_index-index.result.0 c.requires.settled c.first_settled_index-index.ensures.index,
     )
 
-pub footprints::picked-child-child-requires-clause-there : goal.footprints::picked-child-child-requires-clause-there
-footprints::picked-child-child-requires-clause-there t c =
-    picked_there c.args.side c.args.line.now.frame c.args.line.now.state c.args.children.now c.first_settled-index.result.0 c.requires.settled c.first_settled-index.ensures.index
+pub footprints::pick_footprint-child-child-requires-clause-there : goal.footprints::pick_footprint-child-child-requires-clause-there
+footprints::pick_footprint-child-child-requires-clause-there t c =
+    picked_there c.args.side c.args.line.now.frame c.args.line.now.state c.args.children.now c.first_settled_index-index.result.0 c.requires.settled c.first_settled_index-index.ensures.index
 
-pub footprints::picked-footprint_behind-requires : goal.footprints::picked-footprint_behind-requires
-footprints::picked-footprint_behind-requires t c =
+pub footprints::pick_footprint-footprint_after-requires : goal.footprints::pick_footprint-footprint_after-requires
+footprints::pick_footprint-footprint_after-requires t c =
     let x = c.args.children.now in
-    let i : ℕ = c.first_settled-index.result.0 in
+    let i : ℕ = c.first_settled_index-index.result.0 in
     let f = c.args.line.now.frame in
     let s = c.args.line.now.state in
-    let there = picked_there c.args.side f s x i c.requires.settled c.first_settled-index.ensures.index in
+    let there = picked_there c.args.side f s x i c.requires.settled c.first_settled_index-index.ensures.index in
     let w = weight_at (edge_trees x.edges x.grown.items) i fresh (omega (arith, there, length-trees_by_turn x.edges x.grown.items)) in (
       omega (arith, c.decreases, w, ap weight c.child-child.ensures),
       picked_here c.args.side f s x i c.at.result c.turn-turn.result (child_tree c.child-child.result)
-          c.requires.settled c.first_settled-index.ensures.index c.at.ensures c.turn-turn.ensures c.child-child.ensures,
+          c.requires.settled c.first_settled_index-index.ensures.index c.at.ensures c.turn-turn.ensures c.child-child.ensures,
     )
 
-pub footprints::picked-picked-requires-clause-legal : goal.footprints::picked-picked-requires-clause-legal
-footprints::picked-picked-requires-clause-legal t c =
+pub footprints::pick_footprint-picked-requires-clause-legal : goal.footprints::pick_footprint-picked-requires-clause-legal
+footprints::pick_footprint-picked-requires-clause-legal t c =
     let line = c.args.line.now in
-    let here = picked_here c.args.side line.frame line.state c.args.children.now c.first_settled-index.result.0 c.at.result c.turn-turn.result (child_tree c.child-child.result)
-    c.requires.settled c.first_settled-index.ensures.index c.at.ensures c.turn-turn.ensures c.child-child.ensures in
+    let here = picked_here c.args.side line.frame line.state c.args.children.now c.first_settled_index-index.result.0 c.at.result c.turn-turn.result (child_tree c.child-child.result)
+    c.requires.settled c.first_settled_index-index.ensures.index c.at.ensures c.turn-turn.ensures c.child-child.ensures in
     subst (λ (l : LineWithUndo). IsLegal l.frame l.state c.turn-turn.result) (sym c.in_ok-board.ensures.same) here.0
 
-pub footprints::picked-returns-clause-exact : goal.footprints::picked-returns-clause-exact
-footprints::picked-returns-clause-exact t c =
+pub footprints::pick_footprint-returns-clause-exact : goal.footprints::pick_footprint-returns-clause-exact
+footprints::pick_footprint-returns-clause-exact t c =
     let side = c.args.side in
     let f = c.args.line.now.frame in
     let s = c.args.line.now.state in
     let x = c.args.children.now in
     let turns : List Turn = edge_turns x.edges in
     let trees : List PartialTree = edge_trees x.edges x.grown.items in
-    let i : ℕ = c.first_settled-index.result.0 in
+    let i : ℕ = c.first_settled_index-index.result.0 in
     let child : PartialTree = child_tree c.child-child.result in
-    let in_edges = picked_there side f s x i c.requires.settled c.first_settled-index.ensures.index in
+    let in_edges = picked_there side f s x i c.requires.settled c.first_settled_index-index.ensures.index in
     let in_trees : i < length trees = omega (arith, in_edges, length-trees_by_turn x.edges x.grown.items) in
     let turn = c.turn-turn.ensures ∙ ap edge_turn c.at.ensures ∙ sym (turn_at_index x.edges i c.at.result c.turn-turn.result in_edges) in
-    let e : pick c.turn-turn.result (strategy_for side child) ≡ pick_at side (first_settled side (children_in x)) turns (children_in x) =
+    let e : pick c.turn-turn.result (strategy_for side child) ≡ pick_at side (first_settled_index side (children_in x)) turns (children_in x) =
     picked side turns trees i c.turn-turn.result child (strategy_for side child) turn (c.child-child.ensures ∙ any_default trees i fresh child in_trees) refl
     (omega (arith, in_edges, length-turns_of x.edges)) in_trees
-    ∙ ap (λ k. pick_at side k turns (children_of trees)) c.first_settled-index.ensures.index in
+    ∙ ap (λ k. pick_at side k turns (children_of trees)) c.first_settled_index-index.ensures.index in
     on_ok c.picked.result _ _ (λ y more. subst (λ u. IsFootprint f s u y) e (more (strategy_for side child) c.in_ok-board.ensures.exact))
     (rw c.in_ok-board.ensures.same at c.picked.ensures)
 
 -- ---- the children that are replied to
 
-pub footprints::replied-of_repeats_beside-requires : goal.footprints::replied-of_repeats_beside-requires
-footprints::replied-of_repeats_beside-requires t c = c.played.ensures c.args.line.now.frame c.args.line.now.state c.requires.legal
+pub footprints::reply_footprint-of_empty_reply_with_legal-requires : goal.footprints::reply_footprint-of_empty_reply_with_legal-requires
+footprints::reply_footprint-of_empty_reply_with_legal-requires t c = c.points_of_plays.ensures c.args.line.now.frame c.args.line.now.state c.requires.legal
 
-pub footprints::replied-footprint_behind-requires : goal.footprints::replied-footprint_behind-requires
-footprints::replied-footprint_behind-requires t c =
+pub footprints::reply_footprint-footprint_after-requires : goal.footprints::reply_footprint-footprint_after-requires
+footprints::reply_footprint-footprint_after-requires t c =
     let side = c.args.side in
     let f = c.args.line.now.frame in
     let s = c.args.line.now.state in
     let i : ℕ = c.loop-edge.edge-index in
     let e : Edge = get_or c.args.edges.now i first in
     let turn : Turn = c.turn-turn.result in
-    let child : PartialTree = child_tree c.first.result.0 in
+    let child : PartialTree = child_tree c.first_and_rest.result.0 in
     let here = settled_here side f s c.args.edges.now c.loop-edge.rest.now i first c.loop-edge-test.true c.loop-edge.invariant.settled in
-    let is_child = subst (λ u. IsSettledAt side f (after f s (edge_turn e)) u) (sym c.first.ensures.child) here.child in (
+    let is_child = subst (λ u. IsSettledAt side f (after f s (edge_turn e)) u) (sym c.first_and_rest.ensures.child) here.child in (
       omega (
         arith,
         c.decreases,
         c.loop-edge.invariant.lighter,
         weight_step c.args.edges.now c.loop-edge.rest.now i first c.loop-edge-test.true,
-        ap weight c.first.ensures.child,
+        ap weight c.first_and_rest.ensures.child,
       ),
       (
         subst (λ (l : LineWithUndo). IsLegal l.frame l.state turn) (sym c.loop-edge.invariant.same) (subst (IsLegal f s) (sym c.turn-turn.ensures) here.legal),
@@ -178,8 +178,8 @@ footprints::replied-footprint_behind-requires t c =
       ),
     )
 
-pub footprints::replied-loop-edge-preserved : goal.footprints::replied-loop-edge-preserved
-footprints::replied-loop-edge-preserved t c =
+pub footprints::reply_footprint-loop-edge-preserved : goal.footprints::reply_footprint-loop-edge-preserved
+footprints::reply_footprint-loop-edge-preserved t c =
     let side = c.args.side in
     let f = c.args.line.now.frame in
     let s = c.args.line.now.state in
@@ -187,32 +187,32 @@ footprints::replied-loop-edge-preserved t c =
     let e : Edge = get_or c.args.edges.now i first in
     let left : List Edge = drop (i + 1) c.args.edges.now in
     let turn : Turn = c.turn-turn.result in
-    let child : PartialTree = child_tree c.first.result.0 in
-    let behind : List PartialTree = c.first.result.1.now in
+    let child : PartialTree = child_tree c.first_and_rest.result.0 in
+    let behind : List PartialTree = c.first_and_rest.result.1.now in
     let all : Entries = replies_to side f s c.args.edges.now c.args.grown.now in
     let same = c.in_ok-board.ensures.same ∙ c.loop-edge.invariant.same in
     let here = settled_here side f s c.args.edges.now c.loop-edge.rest.now i first c.loop-edge-test.true c.loop-edge.invariant.settled in
     let foot : IsFootprint f (after f s turn) (strategy_for side child) c.in_ok-board.below = rw c.loop-edge.invariant.same at c.in_ok-board.ensures.exact in
-    let more : IsEntryJoined f s turn (strategy_for side child) c.loop-edge.footprint c.join.new.self =
+    let more : IsEntryJoined f s turn (strategy_for side child) c.loop-edge.footprint c.add_entry.new.self =
     subst
     (λ (l : LineWithUndo). IsFootprint l.frame (after l.frame l.state turn) (strategy_for side child) c.in_ok-board.below
-    → IsEntryJoined l.frame l.state turn (strategy_for side child) c.loop-edge.footprint c.join.new.self)
-    same (c.in_ok-join.ensures (strategy_for side child)) foot in
+    → IsEntryJoined l.frame l.state turn (strategy_for side child) c.loop-edge.footprint c.add_entry.new.self)
+    same (c.in_ok-add_entry.ensures (strategy_for side child)) foot in
     record {
       same = same;
-      settled = subst (λ us. AreSettledAt side f s left us) (sym c.first.ensures.behind) here.others;
-      joined = joined_here side f s all c.args.edges.now c.loop-edge.rest.now i first turn child behind c.loop-edge.footprint c.join.new.self c.loop-edge-test.true
-          c.turn-turn.ensures c.first.ensures.child c.first.ensures.behind more c.loop-edge.invariant.joined;
+      settled = subst (λ us. AreSettledAt side f s left us) (sym c.first_and_rest.ensures.behind) here.others;
+      joined = joined_here side f s all c.args.edges.now c.loop-edge.rest.now i first turn child behind c.loop-edge.footprint c.add_entry.new.self c.loop-edge-test.true
+          c.turn-turn.ensures c.first_and_rest.ensures.child c.first_and_rest.ensures.behind more c.loop-edge.invariant.joined;
       lighter = omega (
         arith,
         weight_step c.args.edges.now c.loop-edge.rest.now i first c.loop-edge-test.true,
-        ap (λ us. weight_all (children_of (edge_trees left us))) c.first.ensures.behind,
+        ap (λ us. weight_all (children_of (edge_trees left us))) c.first_and_rest.ensures.behind,
         c.loop-edge.invariant.lighter,
       );
     }
 
-pub footprints::replied-returns-clause-exact : goal.footprints::replied-returns-clause-exact
-footprints::replied-returns-clause-exact t c =
+pub footprints::reply_footprint-returns-clause-exact : goal.footprints::reply_footprint-returns-clause-exact
+footprints::reply_footprint-returns-clause-exact t c =
     let f = c.args.line.now.frame in
     let s = c.args.line.now.state in
     joined_all c.args.side f s (replies_to c.args.side f s c.args.edges.now c.args.grown.now) c.args.edges.now c.loop-edge.rest.now c.loop-edge.edge-index c.loop-edge.footprint

@@ -1,6 +1,6 @@
 use Rattle.std.proofs.Common.{◌≡◌, ◌∙◌, ℕ, ◌+◌, ◌<◌, List, length, IfOk, get_or, drop, sym, ap, subst, arith}
 use Rattle.tt_game.specs.declared.turns.Turn.{Turn}
-use Rattle.tt_proof.specs.Proven.{Proven}
+use Rattle.tt_proof.specs.ProofClaim.{ProofClaim}
 use Rattle.tt_proof.specs.Strategy.{Entries, reply, entry}
 use Rattle.tt_search.specs.PartialTree.{PartialTree, fresh}
 use Rattle.tt_search.specs.inside.Children.{children_of}
@@ -32,63 +32,63 @@ tree::node::Node::measured_tree-returns-in-Offered t c =
     let holds = subst HoldsItsOwn c.in-Offered.is c.self.invariant.1 in
     let is = sym (ap shape c.in-Offered.is) ∙ c.self.view_is in
     let tree = (offered_for c.in-Offered.field-0 c.in-Offered.field-1 p c.args.side c.args.self.now holds is c.requires).1 in
-    let made = c.measured_tree-in-Offered.ensures.measured_tree ∙ ap (λ (q : Proven). q.tree) c.deref-in-Offered.ensures ∙ tree in
+    let made = c.measured_tree-in-Offered.ensures.measured_tree ∙ ap (λ (q : ProofClaim). q.tree) c.deref-in-Offered.ensures ∙ tree in
     subst (λ u. IfOk c.try_clone-in-Offered.result (λ q. q ≡ u)) made c.try_clone-in-Offered.ensures
 
-pub tree::children::ChildNodes::measured_tree-picked-requires : goal.tree::children::ChildNodes::measured_tree-picked-requires
-tree::children::ChildNodes::measured_tree-picked-requires t c =
+pub tree::children::ChildNodes::measured_tree-pick_tree-requires : goal.tree::children::ChildNodes::measured_tree-pick_tree-requires
+tree::children::ChildNodes::measured_tree-pick_tree-requires t c =
     let x = c.args.self.now in (
       omega (arith, c.decreases),
-      (c.requires.whole, own_zero c.args.side c.args.mover (edge_turns x.edges) (children_in x) (sym c.is_same.ensures ∙ c.if-is_same.true) c.requires.settled),
+      (c.requires.whole, own_zero c.args.side c.args.mover (edge_turns x.edges) (children_in x) (sym c.is_same_side.ensures ∙ c.if-is_same_side.true) c.requires.settled),
     )
 
-pub tree::children::ChildNodes::measured_tree-replied-requires : goal.tree::children::ChildNodes::measured_tree-replied-requires
-tree::children::ChildNodes::measured_tree-replied-requires t c =
+pub tree::children::ChildNodes::measured_tree-reply_tree-requires : goal.tree::children::ChildNodes::measured_tree-reply_tree-requires
+tree::children::ChildNodes::measured_tree-reply_tree-requires t c =
     let x = c.args.self.now in
     let side = c.args.side in
     let edges = c.as_slice.ensures in
-    let grown = c.as_slice-else-is_same.ensures.value in
-    let sum = other_zero side c.args.mover (edge_turns x.edges) (children_in x) (sym c.is_same.ensures ∙ c.if-is_same.false) c.requires.settled in (
+    let grown = c.as_slice-else-is_same_side.ensures.value in
+    let sum = other_zero side c.args.mover (edge_turns x.edges) (children_in x) (sym c.is_same_side.ensures ∙ c.if-is_same_side.false) c.requires.settled in (
       omega (
         arith,
         c.decreases,
-        ap (λ es. weight_all (children_of (edge_trees es c.as_slice-else-is_same.result.now))) edges,
+        ap (λ es. weight_all (children_of (edge_trees es c.as_slice-else-is_same_side.result.now))) edges,
         ap (λ us. weight_all (children_of (edge_trees x.edges us))) grown,
       ),
       (rw (edges, grown) c.requires.whole, rw (edges, grown) (all_zero side (children_in x) (zero_sum (numbers side (children_in x)) sum))),
     )
 
-pub settled::picked-returns-then-index-len : goal.settled::picked-returns-then-index-len
-settled::picked-returns-then-index-len t c =
+pub settled::pick_tree-returns-then-index-len : goal.settled::pick_tree-returns-then-index-len
+settled::pick_tree-returns-then-index-len t c =
     let x = c.args.children.now in
-    c.done.ensures ∙ sym (rw (← c.first_settled-index.ensures.index)
-    (pick_past_turns c.args.side (edge_turns x.edges) (edge_trees x.edges x.grown.items) c.first_settled-index.result.0
+    c.done.ensures ∙ sym (rw (← c.first_settled_index-index.ensures.index)
+    (pick_past_turns c.args.side (edge_turns x.edges) (edge_trees x.edges x.grown.items) c.first_settled_index-index.result.0
     (omega (arith, c.if-index-len.true, c.len.ensures, length-turns_of x.edges))))
 
-pub settled::picked-measured_tree-requires : goal.settled::picked-measured_tree-requires
-settled::picked-measured_tree-requires t c =
+pub settled::pick_tree-measured_tree-requires : goal.settled::pick_tree-measured_tree-requires
+settled::pick_tree-measured_tree-requires t c =
     let x = c.args.children.now in
-    let i : ℕ = c.first_settled-index.result.0 in
+    let i : ℕ = c.first_settled_index-index.result.0 in
     let w = weight_at (edge_trees x.edges x.grown.items) i fresh (omega (arith, c.if-index-len.false, c.len.ensures, length-trees_by_turn x.edges x.grown.items)) in
-    let z = subst (λ k. IsZeroAt c.args.side k (children_in x)) (sym c.first_settled-index.ensures.index) (zero_at c.args.side (children_in x) c.requires.settled) in
+    let z = subst (λ k. IsZeroAt c.args.side k (children_in x)) (sym c.first_settled_index-index.ensures.index) (zero_at c.args.side (children_in x) c.requires.settled) in
     (omega (arith, c.decreases, w, ap weight c.child.ensures), ap (number c.args.side) c.child.ensures ∙ zero_there c.args.side (edge_trees x.edges x.grown.items) i fresh z)
 
-pub settled::picked-returns : goal.settled::picked-returns
-settled::picked-returns t c =
+pub settled::pick_tree-returns : goal.settled::pick_tree-returns
+settled::pick_tree-returns t c =
     let x = c.args.children.now in
     let turns : List Turn = edge_turns x.edges in
     let trees : List PartialTree = edge_trees x.edges x.grown.items in
-    let i : ℕ = c.first_settled-index.result.0 in
+    let i : ℕ = c.first_settled_index-index.result.0 in
     let child : PartialTree = child_of x i in
     let in_edges : i < length x.edges = omega (arith, c.if-index-len.false, c.len.ensures) in
     let in_trees : i < length trees = omega (arith, in_edges, length-trees_by_turn x.edges x.grown.items) in
     let turn = c.turn.ensures ∙ ap edge_turn c.at.ensures ∙ sym (turn_at_index x.edges i c.at.result c.turn.result in_edges) in
     let e = picked c.args.side turns trees i c.turn.result child _ turn (any_default trees i fresh child in_trees) (c.in_ok-child.ensures ∙ ap (strategy_for c.args.side) c.child.ensures)
     (omega (arith, in_edges, length-turns_of x.edges)) in_trees in
-    subst (λ u. IfOk c.pick.result (λ p. p ≡ u)) (e ∙ ap (λ i. pick_at c.args.side i turns (children_of trees)) c.first_settled-index.ensures.index) c.pick.ensures
+    subst (λ u. IfOk c.pick.result (λ p. p ≡ u)) (e ∙ ap (λ i. pick_at c.args.side i turns (children_of trees)) c.first_settled_index-index.ensures.index) c.pick.ensures
 
-pub settled::replied-measured_tree-requires : goal.settled::replied-measured_tree-requires
-settled::replied-measured_tree-requires t c =
+pub settled::reply_tree-measured_tree-requires : goal.settled::reply_tree-measured_tree-requires
+settled::reply_tree-measured_tree-requires t c =
     let i : ℕ = c.loop-edge.edge-index in
     let here = zero_step c.args.side c.args.edges.now c.loop-edge.rest.now i first c.loop-edge-test.true c.loop-edge.invariant.settled in (
       omega (
@@ -96,42 +96,42 @@ settled::replied-measured_tree-requires t c =
         c.decreases,
         c.loop-edge.invariant.lighter,
         weight_step c.args.edges.now c.loop-edge.rest.now i first c.loop-edge-test.true,
-        ap weight c.first.ensures.child,
+        ap weight c.first_and_rest.ensures.child,
       ),
-      ap (number c.args.side) c.first.ensures.child ∙ here.0,
+      ap (number c.args.side) c.first_and_rest.ensures.child ∙ here.0,
     )
 
-pub settled::replied-loop-edge-preserved : goal.settled::replied-loop-edge-preserved
-settled::replied-loop-edge-preserved t c =
+pub settled::reply_tree-loop-edge-preserved : goal.settled::reply_tree-loop-edge-preserved
+settled::reply_tree-loop-edge-preserved t c =
     let i : ℕ = c.loop-edge.edge-index in
     let e : Edge = get_or c.args.edges.now i first in
     let left : List Edge = drop (i + 1) c.args.edges.now in
-    let behind : List PartialTree = c.first.result.1.now in
+    let behind : List PartialTree = c.first_and_rest.result.1.now in
     let rest : Entries = replies c.args.side (edge_turns left) (children_of (edge_trees left behind)) in
     let step = replied_step c.args.side c.args.edges.now c.loop-edge.rest.now i first c.loop-edge-test.true
     ∙ ap (λ us. entry (edge_turn e) (strategy_for c.args.side (tree_of (edge_state_of e) c.loop-edge.rest.now)) (replies c.args.side (edge_turns left) (children_of (edge_trees left us))))
-    (sym c.first.ensures.behind) in
+    (sym c.first_and_rest.ensures.behind) in
     record {
       made =
           ap (λ zs. joined zs rest) c.in_ok-push.ensures.ok
           ∙ joined_push c.loop-edge.answers (c.turn.result, c.in_ok-answer.answer) rest
           ∙ ap (λ u. joined c.loop-edge.answers (entry u c.in_ok-answer.answer rest)) c.turn.ensures
-          ∙ ap (λ u. joined c.loop-edge.answers (entry (edge_turn e) u rest)) (c.in_ok-answer.ensures ∙ ap (strategy_for c.args.side) c.first.ensures.child)
+          ∙ ap (λ u. joined c.loop-edge.answers (entry (edge_turn e) u rest)) (c.in_ok-answer.ensures ∙ ap (strategy_for c.args.side) c.first_and_rest.ensures.child)
           ∙ ap (joined c.loop-edge.answers) (sym step)
           ∙ c.loop-edge.invariant.made;
-      whole = whole_behind c.args.edges.now c.loop-edge.rest.now i first c.loop-edge-test.true c.loop-edge.invariant.whole ∙ ap length (sym c.first.ensures.behind);
-      settled = subst (λ us. AreZero c.args.side (children_of (edge_trees left us))) (sym c.first.ensures.behind)
+      whole = whole_behind c.args.edges.now c.loop-edge.rest.now i first c.loop-edge-test.true c.loop-edge.invariant.whole ∙ ap length (sym c.first_and_rest.ensures.behind);
+      settled = subst (λ us. AreZero c.args.side (children_of (edge_trees left us))) (sym c.first_and_rest.ensures.behind)
           (zero_step c.args.side c.args.edges.now c.loop-edge.rest.now i first c.loop-edge-test.true c.loop-edge.invariant.settled).1;
       lighter = omega (
         arith,
         weight_step c.args.edges.now c.loop-edge.rest.now i first c.loop-edge-test.true,
-        ap (λ us. weight_all (children_of (edge_trees left us))) c.first.ensures.behind,
+        ap (λ us. weight_all (children_of (edge_trees left us))) c.first_and_rest.ensures.behind,
         c.loop-edge.invariant.lighter,
       );
     }
 
-pub settled::replied-returns : goal.settled::replied-returns
-settled::replied-returns t c =
+pub settled::reply_tree-returns : goal.settled::reply_tree-returns
+settled::reply_tree-returns t c =
     let none_left = replies_at_end c.args.side c.args.edges.now c.loop-edge.rest.now c.loop-edge.edge-index (omega (arith, c.loop-edge-test.false)) in
     let whole = ap reply (sym (joined_none c.loop-edge.answers) ∙ ap (joined c.loop-edge.answers) (sym none_left) ∙ c.loop-edge.invariant.made) in
     subst (λ u. IfOk c.into_measured_tree.result (λ p. p ≡ u)) whole c.into_measured_tree.ensures

@@ -18,14 +18,14 @@ decreases-tree::children::Child::measured_tree l = weight (child_tree l.self) * 
 abbrev pub decreases-tree::children::ChildNodes::measured_tree : goal.decreases-tree::children::ChildNodes::measured_tree
 decreases-tree::children::ChildNodes::measured_tree l = weight_all (children_in l.self.now) * 3 + 3
 
-abbrev pub decreases-settled::picked : goal.decreases-settled::picked
-decreases-settled::picked l = weight_all (children_of (edge_trees l.children.now.edges l.children.now.grown.items)) * 3 + 1
+abbrev pub decreases-settled::pick_tree : goal.decreases-settled::pick_tree
+decreases-settled::pick_tree l = weight_all (children_of (edge_trees l.children.now.edges l.children.now.grown.items)) * 3 + 1
 
-abbrev pub decreases-settled::replied : goal.decreases-settled::replied
-decreases-settled::replied l = weight_all (children_of (edge_trees l.edges.now l.grown.now)) * 3 + 1
+abbrev pub decreases-settled::reply_tree : goal.decreases-settled::reply_tree
+decreases-settled::reply_tree l = weight_all (children_of (edge_trees l.edges.now l.grown.now)) * 3 + 1
 
-abbrev pub invariant-settled::replied-loop-edge : goal.invariant-settled::replied-loop-edge
-invariant-settled::replied-loop-edge l = record {
+abbrev pub invariant-settled::reply_tree-loop-edge : goal.invariant-settled::reply_tree-loop-edge
+invariant-settled::reply_tree-loop-edge l = record {
   made : joined l.answers (replies l.side (edge_turns (drop l.edge-index l.edges)) (children_of (edge_trees (drop l.edge-index l.edges) l.rest))) ≡ replies l.side (edge_turns l.edges)
       (children_of (edge_trees l.edges l.grown));
   whole : grown_in (drop l.edge-index l.edges) ≡ length l.rest;

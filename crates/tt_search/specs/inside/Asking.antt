@@ -1,13 +1,13 @@
 -- What steps together ask for. For private contracts and proofs.
 use Rattle.std.specs.Prelude.{◌≡◌}
-use Rattle.tt_search.specs.Grants.{Asked, AskedBy}
+use Rattle.tt_search.specs.Grants.{GrantTally, IsAskOfStep}
 use Rattle.tt_search.specs.declared.limits.Step.{Step}
-use Rattle.tt_search.specs.declared.descent.Stop.{Stop}
-use Rattle.tt_search.specs.declared.descent.Stop.TheVariants.{OneStep}
+use Rattle.tt_search.specs.declared.descent.StopAfter.{StopAfter}
+use Rattle.tt_search.specs.declared.descent.StopAfter.TheVariants.{OneStep}
 
 -- all asks but those of the last step are granted; where it stops after one step there is no other step
-pub record AreAsked (stop : Stop) (old : Asked) (step : Step) (new : Asked) : Type 0 where
-  pub before : Asked
+pub record AreAsked (stop : StopAfter) (old : GrantTally) (step : Step) (new : GrantTally) : Type 0 where
+  pub before : GrantTally
   pub granted : before.refused ≡ old.refused
   pub one : stop ≡ OneStep → before ≡ old
-  pub asked : AskedBy before step new
+  pub asked : IsAskOfStep before step new

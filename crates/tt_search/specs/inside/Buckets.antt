@@ -4,7 +4,7 @@ use Rattle.tt_game.specs.declared.frame.Side.{Side}
 use Rattle.tt_game.specs.declared.history.bloom_filter.BloomFilter.{BloomFilter}
 use Rattle.tt_game.specs.Line.{LineWithUndo}
 use Rattle.tt_game.specs.BloomFilter.{MayHold}
-use Rattle.tt_proof.specs.Proven.{Proven}
+use Rattle.tt_proof.specs.ProofClaim.{ProofClaim}
 use Rattle.tt_search.specs.Stores.{HasKeyAndSide}
 use Rattle.tt_search.specs.declared.store.key_index.TheConstants.{KEY_FILTER_BITS}
 
@@ -38,8 +38,8 @@ abbrev pub MayHoldHashes : BloomFilter → List ℕ → Type 0
 MayHoldHashes filter hashes = (slot : ℕ) → slot < length hashes → MayHold filter (get_or hashes slot 0 % KEY_FILTER_BITS)
 
 -- no proof answers from this slot on
-abbrev pub NoneFrom : LineWithUndo → Side → List Proven → ℕ → Type 0
-NoneFrom line side ps n = (i : ℕ) (p : Proven) → n ≤ i → slice_get ps i ≡ Some p → HasKeyAndSide line side p → ⊥
+abbrev pub NoneFrom : LineWithUndo → Side → List ProofClaim → ℕ → Type 0
+NoneFrom line side ps n = (i : ℕ) (p : ProofClaim) → n ≤ i → slice_get ps i ≡ Some p → HasKeyAndSide line side p → ⊥
 
 -- no slot from this one on has the hash
 abbrev pub NoHashFrom : List ℕ → ℕ → ℕ → Type 0

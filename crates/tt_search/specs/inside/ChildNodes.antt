@@ -5,7 +5,7 @@ use Rattle.tt_search.specs.PartialTree.{PartialTree, Children}
 use Rattle.tt_search.specs.inside.Children.{children_of}
 use Rattle.tt_search.specs.inside.Choices.{Choices}
 use Rattle.tt_search.specs.inside.Edges.{edge_turns, edge_trees, grown_in, child_at}
-use Rattle.tt_search.specs.declared.tree.edges.TheConstants.{TURNS}
+use Rattle.tt_search.specs.declared.tree.edges.TheConstants.{TURN_NUMBER_BOUND}
 use Rattle.tt_search.specs.declared.tree.edges.Edge.{Edge}
 use Rattle.tt_search.specs.declared.tree.children.ChildNodes.{ChildNodes}
 
@@ -35,4 +35,4 @@ IsRank rank index p = rank ≡ grown_in (take index p.edges)
 
 -- there are no more than a index can tell apart
 abbrev pub AreFew : ChildNodes → Type 0
-AreFew p = length p.edges ≤ TURNS
+AreFew p = length p.edges ≤ TURN_NUMBER_BOUND

@@ -11,7 +11,7 @@ use Rattle.tt_search.specs.declared.tree.edges.Edge.{Edge}
 use Rattle.tt_search.specs.declared.tree.edges.EdgeState.TheVariants as edge_state
 use Rattle.tt_search.specs.declared.limits.Step.{Step}
 use Rattle.tt_search.specs.declared.tree.children.ChildNodes.{ChildNodes}
-use Rattle.tt_search.specs.declared.descent.Stop.{Stop}
+use Rattle.tt_search.specs.declared.descent.StopAfter.{StopAfter}
 use Rattle.tt_search.specs.declared.descent.Descent.{Descent}
 
 -- the child at the index is there, and nothing is known of it
@@ -31,14 +31,14 @@ FirstStepAt walk index old step new after =
     (tree : PartialTree) × Taken (stand_of walk) (stage fresh walk.left) step tree × IsLeft step walk.left after.left × IsPut index old tree new
 
 -- the child at the index takes steps, where the stand is the child's
-abbrev pub StepsBelowAt : Stop → Stand → ℕ → ChildNodes → ℕ → Step → ChildNodes → ℕ → Type 0
+abbrev pub StepsBelowAt : StopAfter → Stand → ℕ → ChildNodes → ℕ → Step → ChildNodes → ℕ → Type 0
 StepsBelowAt stop at index old left step new left_after =
     (tree : PartialTree) × AreStepsAt stop at (stage (child_of old index) left) step (stage tree left_after) × IsPut index old tree new
 
 -- the child at the index takes the steps of a walk that stands there
-abbrev pub StepsBelow : Stop → Descent → ℕ → ChildNodes → Step → ChildNodes → Descent → Type 0
+abbrev pub StepsBelow : StopAfter → Descent → ℕ → ChildNodes → Step → ChildNodes → Descent → Type 0
 StepsBelow stop walk index old step new after = StepsBelowAt stop (stand_of walk) index old walk.left step new after.left
 
 -- the best child takes the steps of a walk that stands there
-abbrev pub BestSteps : Stop → Descent → Choices → Step → Choices → Descent → Type 0
+abbrev pub BestSteps : StopAfter → Descent → Choices → Step → Choices → Descent → Type 0
 BestSteps stop walk old step new after = (tree : PartialTree) × AreSteps stop walk (best_child old) step tree after × (new ≡ with_best old tree)

@@ -4,7 +4,7 @@ use Rattle.tt_game.specs.declared.frame.Side.{Side}
 use Rattle.tt_game.specs.declared.turns.Turn.{Turn}
 use Rattle.tt_search.specs.PartialTree.{PartialTree, fresh, expanded}
 use Rattle.tt_search.specs.inside.Children.{children_of}
-use Rattle.tt_search.specs.MostProving.{best}
+use Rattle.tt_search.specs.MostProving.{index_of_best}
 
 pub record Choices : Type 0 where
   pub mover : Side
@@ -17,7 +17,7 @@ node_with c = expanded c.mover c.turns (children_of c.trees)
 
 -- the index of the child to go to
 abbrev pub best_index : Choices → ℕ
-best_index c = best c.mover (children_of c.trees)
+best_index c = index_of_best c.mover (children_of c.trees)
 
 -- that child
 abbrev pub best_child : Choices → PartialTree

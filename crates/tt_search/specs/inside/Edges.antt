@@ -8,7 +8,7 @@ use Rattle.tt_search.specs.PartialTree.{PartialTree, fresh, won}
 use Rattle.tt_search.specs.declared.tree.edges.EdgeState.{EdgeState}
 use Rattle.tt_search.specs.declared.tree.edges.EdgeState.TheVariants.{Fresh, Won, Grown}
 use Rattle.tt_search.specs.declared.tree.edges.Edge.{Edge}
-use Rattle.tt_search.specs.declared.tree.edges.TheConstants.{TURNS}
+use Rattle.tt_search.specs.declared.tree.edges.TheConstants.{TURN_NUMBER_BOUND}
 
 -- the turn of a number: a play on that point, or else a pass
 abbrev pub turn_at : ℕ → Turn
@@ -18,10 +18,10 @@ abbrev pub edge_state_at : ℕ → EdgeState
 edge_state_at n = if n == 0 then Fresh else (if n == 1 then Won Attacker else (if n == 2 then Won Defender else Grown))
 
 abbrev pub edge_turn : Edge → Turn
-edge_turn e = turn_at (e.code % TURNS)
+edge_turn e = turn_at (e.code % TURN_NUMBER_BOUND)
 
 abbrev pub edge_state_of : Edge → EdgeState
-edge_state_of e = edge_state_at (e.code / TURNS)
+edge_state_of e = edge_state_at (e.code / TURN_NUMBER_BOUND)
 
 abbrev pub edge_turns : List Edge → List Turn
 edge_turns es = map edge_turn es

@@ -1,7 +1,7 @@
 -- What a node keeps beside its numbers, and the proof that a settled node holds. For private contracts and proofs.
 use Rattle.std.specs.Prelude.{◌≡◌}
 use Rattle.tt_game.specs.declared.frame.Side.{Side}
-use Rattle.tt_proof.specs.Proven.{Proven}
+use Rattle.tt_proof.specs.ProofClaim.{ProofClaim}
 use Rattle.tt_search.specs.PartialTree.{PartialTree}
 use Rattle.tt_search.specs.Numbers.{number}
 use Rattle.tt_search.specs.Settled.{strategy_for}
@@ -14,12 +14,12 @@ use Rattle.tt_search.specs.declared.tree.node.Growth.{Growth}
 use Rattle.tt_search.specs.declared.tree.node.Growth.TheVariants.{Fresh, Won, Closed, Untried, Expanded, Offered}
 
 -- the tree is settled for the proof's side, and its strategy is the proof's
-pub record IsProofOfTree (tree : PartialTree) (p : Proven) : Type 0 where
+pub record IsProofOfTree (tree : PartialTree) (p : ProofClaim) : Type 0 where
   pub settled : number p.side tree ≡ 0
   pub strategy : p.tree ≡ strategy_for p.side tree
 
 -- each child that has grown has its node, and the proof is one of the tree that the mover has with these children
-pub record IsOffered (mover : Side) (children : ChildNodes) (p : Proven) : Type 0 where
+pub record IsOffered (mover : Side) (children : ChildNodes) (p : ProofClaim) : Type 0 where
   pub whole : HasItsNodes children
   pub proof : IsProofOfTree (node_with (choices_of mover children)) p
 

@@ -7,8 +7,8 @@ use Rattle.tt_search.specs.Growing.{IsExpansion, IsClosing}
 use Rattle.tt_search.specs.inside.Walking.{Stand, Stage, stage, stand_of}
 use Rattle.tt_search.specs.inside.Taken.{Taken, IsLeft}
 use Rattle.tt_search.specs.declared.limits.Step.{Step}
-use Rattle.tt_search.specs.declared.descent.Stop.{Stop}
-use Rattle.tt_search.specs.declared.descent.Stop.TheVariants.{OneStep}
+use Rattle.tt_search.specs.declared.descent.StopAfter.{StopAfter}
+use Rattle.tt_search.specs.declared.descent.StopAfter.TheVariants.{OneStep}
 use Rattle.tt_search.specs.declared.descent.Descent.{Descent}
 
 -- the trees have the same proof number and the same disproof number
@@ -27,7 +27,7 @@ Steady (suc n) at old new = (before : Stage) × Steady n at old before × IsGrow
 
 -- steps at an undecided tree: all but the last keep the numbers, and the last one answers the step; at the pace of one
 -- step there is no other
-pub record AreStepsAt (stop : Stop) (at : Stand) (old : Stage) (step : Step) (new : Stage) : Type 0 where
+pub record AreStepsAt (stop : StopAfter) (at : Stand) (old : Stage) (step : Step) (new : Stage) : Type 0 where
   pub how_many : ℕ
   pub before : Stage
   pub steady : Steady how_many at old before
@@ -36,5 +36,5 @@ pub record AreStepsAt (stop : Stop) (at : Stand) (old : Stage) (step : Step) (ne
   pub counted : IsLeft step before.left new.left
 
 -- the steps of a walk at a tree
-abbrev pub AreSteps : Stop → Descent → PartialTree → Step → PartialTree → Descent → Type 0
+abbrev pub AreSteps : StopAfter → Descent → PartialTree → Step → PartialTree → Descent → Type 0
 AreSteps stop walk old step new after = AreStepsAt stop (stand_of walk) (stage old walk.left) step (stage new after.left)

@@ -3,7 +3,7 @@ use Rattle.std.specs.Prelude.{◌≤◌, ◌<◌, ℕ, zero, suc, Bool, List, []
 use Rattle.tt_sgf.specs.declared.size.TheConstants.{MOST_POINTS}
 use Rattle.tt_search.specs.inside.Edges.{AreFresh}
 use Rattle.tt_search.specs.declared.tree.edges.Edge.{Edge}
-use Rattle.tt_search.specs.declared.tree.edges.TheConstants.{TURNS}
+use Rattle.tt_search.specs.declared.tree.edges.TheConstants.{TURN_NUMBER_BOUND}
 
 -- the edge of the turn of a number to a child of which nothing is known
 abbrev pub fresh_edge : ℕ → Edge
@@ -27,4 +27,4 @@ plays_and_pass plays = plays ++ fresh_edge MOST_POINTS ∷ []
 pub record AreUntried (es : List Edge) : Type 0 where
   pub fresh : AreFresh es
   pub some : 0 < length es
-  pub few : length es ≤ TURNS
+  pub few : length es ≤ TURN_NUMBER_BOUND

@@ -12,15 +12,15 @@ use Rattle.tt_search.specs.PartialTree.{PartialTree, fresh, won, closed, expande
 abbrev pub side_code : Coded Side
 side_code = side_type.the_row.coded
 
-abbrev pub coded_turns : Coded (List Turn)
-coded_turns = coded_list turn_type.the_row.coded
+abbrev pub turns_code : Coded (List Turn)
+turns_code = coded_list turn_type.the_row.coded
 
 abbrev mutual
   pub stored : PartialTree → Gv
   stored fresh = gnil
   stored (won side) = gcons gnil (side_code.code side)
   stored (closed side tree) = gcons (gcons gnil gnil) (gcons (side_code.code side) (strategy_code.code tree))
-  stored (expanded side turns children) = gcons (gcons (gcons gnil gnil) gnil) (gcons (side_code.code side) (gcons (coded_turns.code turns) (stored_children children)))
+  stored (expanded side turns children) = gcons (gcons (gcons gnil gnil) gnil) (gcons (side_code.code side) (gcons (turns_code.code turns) (stored_children children)))
 
   pub stored_children : Children → Gv
   stored_children no_more = gnil
@@ -52,10 +52,10 @@ mutual
   stored_once (expanded _ _ _) (closed _ _) e = cc
   stored_once (expanded a ts r) (expanded b us s) e =
       let h : side_code.code a ≡ side_code.code b = cc in
-      let k : coded_turns.code ts ≡ coded_turns.code us = cc in
+      let k : turns_code.code ts ≡ turns_code.code us = cc in
       let m : stored_children r ≡ stored_children s = cc in
       let i : a ≡ b = side_code.inj a b h in
-      let j : ts ≡ us = coded_turns.inj ts us k in
+      let j : ts ≡ us = turns_code.inj ts us k in
       let n : r ≡ s = stored_children_once r s m in cc
 
   -- and so are children
@@ -69,5 +69,5 @@ mutual
       let i : t ≡ u = stored_once t u h in
       let j : r ≡ s = stored_children_once r s k in cc
 
-abbrev pub partial_code : Coded PartialTree
-partial_code = record { code = stored; inj = stored_once }
+abbrev pub partial_tree_code : Coded PartialTree
+partial_tree_code = record { code = stored; inj = stored_once }

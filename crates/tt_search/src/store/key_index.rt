@@ -2,10 +2,10 @@
 
 ghost use Rattle.std.specs.Prelude.{◌≡◌, ℕ, ◌+◌, ◌/◌, ◌%◌, ◌<◌, ◌++◌, ◌∷◌, [], ◌↔◌, List, Some, IfOk, IfSome, IsTrue, length, vec_len, vec_capacity, reverse, slice_get};
 ghost use Rattle.tt_game.specs.Keys.{key_of};
-ghost use Rattle.tt_proof.specs.Proven.{Proven};
+ghost use Rattle.tt_proof.specs.ProofClaim.{ProofClaim};
 ghost use Rattle.tt_game.specs.declared.frame.Side.TheVariants.{Attacker, Defender};
 ghost use Rattle.tt_search.specs.Stores.{HasKeyAndSide, IsNewest};
-ghost use Rattle.tt_search.specs.KeyIndex.{index_hash, key_hashes, proof_at, IsIndexOfNewest};
+ghost use Rattle.tt_search.specs.KeyIndex.{index_hash, key_hashes, proof_at, IsSlotOfNewest};
 ghost use Rattle.tt_search.specs.inside.Buckets.{bucket_of_hash, AreLongEnough, AreBuckets, IsLastWithHash};
 
 use std::alloc::Global;
@@ -16,7 +16,7 @@ use tt_sgf::NoMemory;
 
 /// Proofs in the order in which they came, each at its slot, from 0 on.
 pub trait ProofRow {
-    ghost proofs: { Self → List Proven };
+    ghost proofs: { Self → List ProofClaim };
 
     /// The proof at a slot.
     fn proof(&self, slot: usize) -> &Proof
@@ -35,7 +35,7 @@ fn filter_bit(hash: u32) -> usize
 }
 
 /// Whether the proof has the line's key and is for the side.
-fn is_for(p: &Proof, line: &Line, side: Side) -> bool
+fn has_key_and_side(p: &Proof, line: &Line, side: Side) -> bool
     ensures { IsTrue result ↔ ((key_of p.now.frame p.now.state ≡ key_of line.now.frame line.now.state) × (p.now.side ≡ side)) }
 {
     p.side() == side && p.has_key_of(line)
@@ -51,7 +51,7 @@ fn bucket_of(hash: u32, buckets: usize) -> usize
 }
 
 /// Links the slot, behind all slots before it.
-fn link(heads: &mut Vec<u32>, before: &mut Vec<u32>, hashes: &Vec<u32>, slot: usize)
+fn link_slot(heads: &mut Vec<u32>, before: &mut Vec<u32>, hashes: &Vec<u32>, slot: usize)
     requires slot { slot < vec_len hashes.now }
     requires sized { AreLongEnough heads.old.items before.old.items hashes.now.items }
     requires linked { AreBuckets heads.old.items before.old.items hashes.now.items slot }
@@ -66,7 +66,7 @@ fn link(heads: &mut Vec<u32>, before: &mut Vec<u32>, hashes: &Vec<u32>, slot: us
 }
 
 /// Links all slots anew, where no head leads anywhere yet.
-fn link_all(heads: &mut Vec<u32>, before: &mut Vec<u32>, hashes: &Vec<u32>)
+fn link_all_slots(heads: &mut Vec<u32>, before: &mut Vec<u32>, hashes: &Vec<u32>)
     requires sized { AreLongEnough heads.old.items before.old.items hashes.now.items }
     requires fresh { AreBuckets heads.old.items before.old.items hashes.now.items 0 }
     ensures sized { AreLongEnough heads.new.items before.new.items hashes.now.items }
@@ -75,12 +75,12 @@ fn link_all(heads: &mut Vec<u32>, before: &mut Vec<u32>, hashes: &Vec<u32>)
     ensures room { vec_capacity before.new ≡ vec_capacity before.old }
 {
     for slot in 0..hashes.len() {
-        link(heads, before, hashes, slot);
+        link_slot(heads, before, hashes, slot);
     }
 }
 
 /// Twice as many buckets, and at least 16, where these are fewer than 2^32.
-fn doubled(buckets: usize) -> Option<usize>
+fn doubled_buckets(buckets: usize) -> Option<usize>
     ensures { IfSome result (λ n. (buckets < n) × (n < 4294967296)) }
 {
     if buckets < 8 {
@@ -93,7 +93,7 @@ fn doubled(buckets: usize) -> Option<usize>
 }
 
 /// Links all slots anew, in twice as many buckets.
-fn grow(
+fn grow_buckets(
     alloc: Global,
     heads: &mut Vec<u32>,
     before: &mut Vec<u32>,
@@ -106,11 +106,11 @@ fn grow(
     ensures more { IfOk result (λ _. vec_len heads.old < vec_len heads.new) }
     ensures room { vec_capacity before.new ≡ vec_capacity before.old }
 {
-    let Some(buckets) = doubled(heads.len()) else {
+    let Some(buckets) = doubled_buckets(heads.len()) else {
         return Err(NoMemory);
     };
     let mut more = vec![in alloc; 0u32; buckets]?;
-    link_all(&mut more, before, hashes);
+    link_all_slots(&mut more, before, hashes);
     *heads = more;
     Ok(())
 }
@@ -172,7 +172,7 @@ impl KeyIndex {
             self.filter = BloomFilter::empty(self.alloc, KEY_FILTER_BITS);
         }
         if self.heads.len() == self.hashes.len() {
-            grow(self.alloc, &mut self.heads, &mut self.before, &self.hashes)?;
+            grow_buckets(self.alloc, &mut self.heads, &mut self.before, &self.hashes)?;
         }
         Ok(())
     }
@@ -187,21 +187,21 @@ impl KeyIndex {
         self.hashes.push_reserved(hash);
         self.filter.add(filter_bit(hash));
         self.before.push_reserved(0);
-        link(&mut self.heads, &mut self.before, &self.hashes, slot);
+        link_slot(&mut self.heads, &mut self.before, &self.hashes, slot);
     }
 
     /// One more than the last slot with the hash, or 0 where none has it.
-    fn last_with_hash(&self, hash: u32) -> usize
+    fn last_with_hash_plus_one(&self, hash: u32) -> usize
         ensures { IsLastWithHash self.now.hashes hash result }
     {
         if !self.filter.has(filter_bit(hash)) {
             return 0;
         }
-        self.last_in_bucket(hash)
+        self.last_in_bucket_plus_one(hash)
     }
 
     /// One more than the last slot with the hash in the hash's bucket, or 0 where none has it.
-    fn last_in_bucket(&self, hash: u32) -> usize
+    fn last_in_bucket_plus_one(&self, hash: u32) -> usize
         ensures { IsLastWithHash self.now.hashes hash result }
     {
         if self.heads.is_empty() {
@@ -219,7 +219,7 @@ impl KeyIndex {
 
     /// The slot of the row's last proof of the line's key for the side, where the key has the hash and this is one more than the
     /// last slot with it.
-    fn last_of<P: ProofRow>(
+    fn newest_with_hash<P: ProofRow>(
         &self,
         line: &Line,
         side: Side,
@@ -237,7 +237,7 @@ impl KeyIndex {
         let mut next = last;
         while 0 < next {
             let slot = next - 1;
-            if self.hashes[slot] == hash && is_for(row.proof(slot), line, side) {
+            if self.hashes[slot] == hash && has_key_and_side(row.proof(slot), line, side) {
                 return Some(slot);
             }
             next = self.before[slot] as usize;
@@ -246,28 +246,32 @@ impl KeyIndex {
     }
 
     /// The slot of the row's last proof of the line's key for the side. The index was told the row's proofs.
-    pub fn newest<P: ProofRow>(&self, line: &Line, side: Side, row: &P) -> Option<usize>
+    pub fn newest_slot<P: ProofRow>(&self, line: &Line, side: Side, row: &P) -> Option<usize>
         requires { self.now.hashes ≡ key_hashes (P.proofs row.now) }
-        ensures { IsIndexOfNewest line.now side (P.proofs row.now) result }
+        ensures { IsSlotOfNewest line.now side (P.proofs row.now) result }
     {
         let hash = line.key_hash();
-        self.last_of(line, side, hash, self.last_with_hash(hash), row)
+        self.newest_with_hash(line, side, hash, self.last_with_hash_plus_one(hash), row)
     }
 
-    /// What `newest` answers for the attacker and for the defender.
-    pub fn newest_both<P: ProofRow>(&self, line: &Line, row: &P) -> (Option<usize>, Option<usize>)
+    /// What `newest_slot` answers for the attacker and for the defender.
+    pub fn newest_per_side<P: ProofRow>(
+        &self,
+        line: &Line,
+        row: &P,
+    ) -> (Option<usize>, Option<usize>)
         requires { self.now.hashes ≡ key_hashes (P.proofs row.now) }
-        ensures attacker { IsIndexOfNewest line.now Attacker (P.proofs row.now) result.0 }
-        ensures defender { IsIndexOfNewest line.now Defender (P.proofs row.now) result.1 }
+        ensures attacker { IsSlotOfNewest line.now Attacker (P.proofs row.now) result.0 }
+        ensures defender { IsSlotOfNewest line.now Defender (P.proofs row.now) result.1 }
     {
         let hash = line.key_hash();
-        let last = self.last_with_hash(hash);
+        let last = self.last_with_hash_plus_one(hash);
         if last == 0 {
             return (None, None);
         }
         (
-            self.last_of(line, Side::Attacker, hash, last, row),
-            self.last_of(line, Side::Defender, hash, last, row),
+            self.newest_with_hash(line, Side::Attacker, hash, last, row),
+            self.newest_with_hash(line, Side::Defender, hash, last, row),
         )
     }
 }

@@ -31,10 +31,10 @@ impl Model for PrivateStore {
     ghost use Rattle.tt_sgf.specs.contracts.sets.PointSet as points;
     ghost use Rattle.std.specs.Arc.{arc_value};
     ghost use Rattle.tt_proof.specs.laws.StrategyCode.{strategy_code};
-    ghost use Rattle.tt_search.specs.Stores.{Keeping};
+    ghost use Rattle.tt_search.specs.Stores.{KeptProofs};
     ghost use Rattle.tt_search.specs.KeyIndex.{key_hashes};
 
-    ghost Value = { Keeping };
+    ghost Value = { KeptProofs };
 
     ghost coded = { Prim.hlevel (codes, strategy_code, points.the_row.coded) };
 
@@ -56,13 +56,13 @@ impl ProofRow for Vec<Arc<Proof>> {
 
 impl PrivateStore {
     /// How many proofs a new store may keep.
-    pub const CAPACITY: usize = 4096;
+    pub const DEFAULT_CAPACITY: usize = 4096;
 
     /// An empty store. It takes no memory.
     pub fn new(alloc: Global) -> PrivateStore
         ensures { result ≡ record { proofs = []; capacity = 4096 } }
     {
-        PrivateStore::with_capacity(alloc, Self::CAPACITY)
+        PrivateStore::with_capacity(alloc, Self::DEFAULT_CAPACITY)
     }
 
     /// An empty store that may keep so many proofs. It takes no memory.
@@ -80,7 +80,7 @@ impl PrivateStore {
     pub fn bounded(alloc: Global, capacity: usize) -> Option<PrivateStore>
         ensures { MatchOption result (4096 < capacity) (λ s. (capacity ≤ 4096) × (s ≡ record { proofs = []; capacity = capacity })) }
     {
-        if capacity > Self::CAPACITY {
+        if capacity > Self::DEFAULT_CAPACITY {
             return None;
         }
         Some(PrivateStore::with_capacity(alloc, capacity))
@@ -124,7 +124,7 @@ impl Store for PrivateStore {
         ensures kept { length self.new.proofs ≡ length self.old.proofs }
         ensures same { self.new ≡ self.old }
     {
-        handle_at(&self.proofs, self.index.newest(line, s, &self.proofs))
+        handle_at(&self.proofs, self.index.newest_slot(line, s, &self.proofs))
     }
 
     fn find_both(&mut self, line: &Line) -> Result<ProofPerSide, NoMemory>
@@ -138,7 +138,7 @@ impl Store for PrivateStore {
         ensures kept { length self.new.proofs ≡ length self.old.proofs }
         ensures same { self.new ≡ self.old }
     {
-        let (attacker, defender) = self.index.newest_both(line, &self.proofs);
+        let (attacker, defender) = self.index.newest_per_side(line, &self.proofs);
         let attacker = handle_at(&self.proofs, attacker)?;
         let defender = handle_at(&self.proofs, defender)?;
         Ok(ProofPerSide { attacker, defender })

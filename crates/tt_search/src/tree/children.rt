@@ -1,7 +1,7 @@
 //! The children of an expanded node: contracts see the list of its turns, and of a tree behind each.
 
 ghost use Rattle.std.specs.Prelude.{◌≡◌, ◌<◌, ◌≤◌, [], length, slice_index_or};
-ghost use Rattle.tt_search.specs.declared.tree.edges.TheConstants.{TURNS};
+ghost use Rattle.tt_search.specs.declared.tree.edges.TheConstants.{TURN_NUMBER_BOUND};
 ghost use Rattle.tt_search.specs.inside.Edges.{edge_turns, edge_trees, grown_in};
 
 use crate::tree::edge_row::Edges;
@@ -43,14 +43,14 @@ impl ChildNodes {
     /// Children of which none has grown, which of them to go to, and the numbers of the mover and of the other side at
     /// their node.
     pub(crate) fn new(alloc: Global, mover: Side, edges: Edges) -> (BestChild, ChildNodes, PhiDelta)
-        requires few { length edges ≤ TURNS }
+        requires few { length edges ≤ TURN_NUMBER_BOUND }
         requires none { grown_in edges ≡ 0 }
         ensures children { choices_of result.0.mover result.1 ≡ record { mover = mover; turns = edge_turns edges; trees = edge_trees edges [] } }
         ensures kept { IsKeptWith result.0 result.1 result.2 }
     {
         let grown = Vec::new(alloc);
         let child_nodes = ChildNodes { edges, grown };
-        let (best, sum) = child_nodes.first_numbers(mover);
+        let (best, sum) = child_nodes.first_best_and_sum(mover);
         let numbers = PhiDelta {
             own: best.least,
             other: sum,
@@ -76,7 +76,7 @@ impl ChildNodes {
     ghost use Rattle.tt_search.specs.inside.Child.{child_tree};
     ghost use Rattle.tt_search.specs.inside.ChildNodes.{HasItsNodes, IsRank, child_of};
 
-    /// The child at a index, and of a rank.
+    /// The child at an index, and of a rank.
     pub(crate) fn child(&self, index: usize, rank: usize) -> Child<'_>
         requires there { index < length self.now.edges }
         requires rank { IsRank rank index self.now }
@@ -97,7 +97,7 @@ impl<'a> Child<'a> {
 
     /// The child behind an edge, where these are the nodes of the children that have grown, from this one on; and the
     /// nodes of those behind it.
-    pub(crate) fn first(edge: Edge, rest: &'a [Node]) -> (Child<'a>, &'a [Node])
+    pub(crate) fn first_and_rest(edge: Edge, rest: &'a [Node]) -> (Child<'a>, &'a [Node])
         requires { counted (edge_state_of edge) 0 ≤ length rest.now }
         ensures child { child_tree result.0 ≡ tree_of (edge_state_of edge) rest.now }
         ensures behind { result.1.now ≡ grown_behind (edge_state_of edge) rest.now }

@@ -8,11 +8,11 @@ use std::marker::Model;
 use tt_sgf::NoMemory;
 
 /// How many edges stand in the node itself. With so many it has 72 bytes, also beside a proof.
-const SHORT: usize = 11;
+const MOST_INLINE_EDGES: usize = 11;
 
 /// So many edges of the array, or a block of them.
 #[derive(Drop)]
-enum Form {
+enum EdgeStorage {
     Short(u8, [Edge; 11]),
     Long(Box<Vec<Edge>>),
 }
@@ -20,7 +20,7 @@ enum Form {
 /// Edges in a row, which never becomes longer or shorter.
 #[derive(Drop)]
 pub(crate) struct Edges {
-    form: Form,
+    form: EdgeStorage,
 }
 
 impl Model for Edges {
@@ -37,7 +37,7 @@ impl Model for Edges {
 }
 
 /// So many edges in an array.
-fn short_of(edges: &[Edge]) -> [Edge; 11]
+fn inline_edges_of(edges: &[Edge]) -> [Edge; 11]
     requires { length edges.now ≤ 11 }
     ensures { take (length edges.now) result ≡ edges.now }
 {
@@ -51,15 +51,15 @@ impl Edges {
     pub(crate) fn of(alloc: Global, edges: &[Edge]) -> Result<Edges, NoMemory>
         ensures { IfOk result (λ row. row ≡ edges.now) }
     {
-        if edges.len() <= SHORT {
-            let form = Form::Short(edges.len() as u8, short_of(edges));
+        if edges.len() <= MOST_INLINE_EDGES {
+            let form = EdgeStorage::Short(edges.len() as u8, inline_edges_of(edges));
             return Ok(Edges { form });
         }
         let mut long = Vec::with_capacity(alloc, edges.len())?;
         long.extend_from_slice(edges)?;
         match Box::new(alloc, long) {
             Ok(long) => {
-                let form = Form::Long(long);
+                let form = EdgeStorage::Long(long);
                 Ok(Edges { form })
             }
             Err(_) => Err(NoMemory),
@@ -71,8 +71,8 @@ impl Edges {
         ensures { result.now ≡ self.now }
     {
         match &self.form {
-            Form::Short(count, short) => &short[..usize::from(*count)],
-            Form::Long(long) => long.as_slice(),
+            EdgeStorage::Short(count, short) => &short[..usize::from(*count)],
+            EdgeStorage::Long(long) => long.as_slice(),
         }
     }
 
@@ -83,25 +83,25 @@ impl Edges {
         self.as_slice().len()
     }
 
-    /// The edge at a index.
+    /// The edge at an index.
     pub(crate) fn at(&self, index: usize) -> Edge
         requires { index < length self.now }
         ensures { result ≡ slice_index_or self.now index result }
     {
         match &self.form {
-            Form::Short(_, short) => short[index],
-            Form::Long(long) => long[index],
+            EdgeStorage::Short(_, short) => short[index],
+            EdgeStorage::Long(long) => long[index],
         }
     }
 
-    /// Puts an edge in the index of another.
+    /// Puts an edge in the place of another.
     pub(crate) fn set(&mut self, index: usize, edge: Edge)
         requires { index < length self.old }
         ensures { self.new ≡ set self.old index edge }
     {
         match &mut self.form {
-            Form::Short(_, short) => short[index] = edge,
-            Form::Long(long) => long[index] = edge,
+            EdgeStorage::Short(_, short) => short[index] = edge,
+            EdgeStorage::Long(long) => long[index] = edge,
         }
     }
 }

@@ -24,7 +24,7 @@ pub(crate) struct Edge {
 }
 
 /// What the number of a turn is below.
-pub(crate) const TURNS: u16 = 512;
+pub(crate) const TURN_NUMBER_BOUND: u16 = 512;
 
 impl Edge {
     /// The edge of a turn to a child in the state.
@@ -43,7 +43,7 @@ impl Edge {
             EdgeState::Grown => 3,
         };
         Edge {
-            code: kind * TURNS + number,
+            code: kind * TURN_NUMBER_BOUND + number,
         }
     }
 
@@ -65,7 +65,7 @@ impl Edge {
     pub(crate) fn turn(self) -> Turn
         ensures { result ≡ edge_turn self }
     {
-        match Point::new(self.code % TURNS) {
+        match Point::new(self.code % TURN_NUMBER_BOUND) {
             Some(point) => Turn::Play(point),
             None => Turn::Pass,
         }
@@ -75,7 +75,7 @@ impl Edge {
     pub(crate) fn edge_state(self) -> EdgeState
         ensures { result ≡ edge_state_of self }
     {
-        match self.code / TURNS {
+        match self.code / TURN_NUMBER_BOUND {
             0 => EdgeState::Fresh,
             1 => EdgeState::Won(Side::Attacker),
             2 => EdgeState::Won(Side::Defender),
@@ -84,12 +84,12 @@ impl Edge {
     }
 
     /// The edge of the same turn to a child that has grown.
-    pub(crate) fn grown(self) -> Edge
+    pub(crate) fn with_grown_child(self) -> Edge
         ensures turn { edge_turn result ≡ edge_turn self }
         ensures edge_state { edge_state_of result ≡ EdgeState.Grown }
     {
         Edge {
-            code: 3 * TURNS + self.code % TURNS,
+            code: 3 * TURN_NUMBER_BOUND + self.code % TURN_NUMBER_BOUND,
         }
     }
 }

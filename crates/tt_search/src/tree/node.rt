@@ -3,7 +3,7 @@
 ghost use Rattle.std.specs.Prelude.{◌≡◌};
 
 use crate::tree::children::{BestChild, ChildNodes};
-use crate::tree::untried::Plays;
+use crate::tree::untried::UntriedPlays;
 use std::marker::Model;
 use std::sync::Arc;
 use tt_game::Side;
@@ -27,19 +27,19 @@ pub(crate) enum Growth {
     Fresh,
     Won(Side),
     Closed(Arc<Proof>),
-    Untried(Side, Plays),
+    Untried(Side, UntriedPlays),
     Expanded(BestChild, ChildNodes),
     Offered(Side, ChildNodes, Arc<Proof>),
 }
 
 impl Model for Node {
     ghost use Rattle.tt_search.specs.PartialTree.{PartialTree};
-    ghost use Rattle.tt_search.specs.laws.PartialTreeCode.{partial_code};
+    ghost use Rattle.tt_search.specs.laws.PartialTreeCode.{partial_tree_code};
     ghost use Rattle.tt_search.specs.inside.Weight.{weight};
 
     ghost Value = { PartialTree };
 
-    ghost coded = { partial_code };
+    ghost coded = { partial_tree_code };
 
     ghost use Rattle.tt_search.specs.inside.Shape.{shape};
     ghost use Rattle.tt_search.specs.inside.Cached.{IsCached};

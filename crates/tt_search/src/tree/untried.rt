@@ -13,12 +13,12 @@ use tt_sgf::{Bits, NoMemory, Point};
 
 /// Plays behind which nothing is known: the bits of their points, and how many there are. Contracts see their edges.
 #[derive(Drop)]
-pub(crate) struct Plays {
+pub(crate) struct UntriedPlays {
     points: Bits,
     count: u16,
 }
 
-impl Model for Plays {
+impl Model for UntriedPlays {
     ghost use Rattle.std.specs.Prelude.{◌≡◌, List, length};
     ghost use Rattle.tt_sgf.specs.MachineWords.{bit_in};
     ghost use Rattle.tt_sgf.specs.declared.size.TheConstants.{MOST_POINTS};
@@ -32,12 +32,12 @@ impl Model for Plays {
     ghost invariant = { λ p. p.count ≡ length (plays_in (bit_in p.points.words) MOST_POINTS) };
 }
 
-impl Plays {
+impl UntriedPlays {
     /// No plays.
-    pub(crate) fn new() -> Plays
+    pub(crate) fn new() -> UntriedPlays
         ensures { result ≡ [] }
     {
-        Plays {
+        UntriedPlays {
             points: Bits::none(),
             count: 0,
         }
@@ -60,7 +60,7 @@ impl Plays {
     }
 
     /// Their edges, and that of a pass, in a row. `NoMemory` where memory was refused.
-    pub(crate) fn row(&self, alloc: Global) -> Result<Edges, NoMemory>
+    pub(crate) fn edges_with_pass(&self, alloc: Global) -> Result<Edges, NoMemory>
         ensures { IfOk result (λ row. row ≡ plays_and_pass self.now) }
     {
         let mut edges: ArrayVec<Edge, MOST_LEGAL> = ArrayVec::new();

@@ -7,7 +7,7 @@ use Rattle.tt_sgf.specs.declared.faults.SgfFault.TheVariants as faults
 use Rattle.tt_sgf.specs.declared.nodes.Property.{Property}
 use Rattle.tt_sgf.specs.declared.trees.Event.{Event}
 use Rattle.tt_sgf.specs.declared.trees.Event.TheVariants as events
-use Rattle.tt_sgf.specs.Grammar.{is_word, is_upper, is_kept, GameTree, Spells}
+use Rattle.tt_sgf.specs.Grammar.{is_letter_or_digit, is_upper, is_kept_in_name, GameTree, Spells}
 use Rattle.tt_sgf.specs.Values.{after_blanks}
 
 -- what follows, where something was read
@@ -40,12 +40,12 @@ raw_at false (b ∷ bs) = cond (b == close_value) (Some ([], bs)) (raw_at (b == 
 -- the letters and digits at the front
 unfoldable pub word_of : List ℕ → List ℕ
 word_of [] = []
-word_of (b ∷ bs) = cond (is_word b) (b ∷ word_of bs) []
+word_of (b ∷ bs) = cond (is_letter_or_digit b) (b ∷ word_of bs) []
 
 -- what is left behind them
 unfoldable pub after_word : List ℕ → List ℕ
 after_word [] = []
-after_word (b ∷ bs) = cond (is_word b) (after_word bs) (b ∷ bs)
+after_word (b ∷ bs) = cond (is_letter_or_digit b) (after_word bs) (b ∷ bs)
 
 -- the first byte passes a test
 abbrev pub begins : (ℕ → Bool) → List ℕ → Bool
@@ -82,11 +82,11 @@ has_none (x ∷ xs) = false
 -- a property with no white space before it
 unfoldable pub property_at : List ℕ → Option (Property × List ℕ)
 property_at bytes = cond (list_any is_upper (word_of bytes)) (values_at (after_word bytes) >>= λ x.
-    cond (has_none x.0) None (Some (record { ident = filter is_kept (word_of bytes); values = x.0 }, x.1))) None
+    cond (has_none x.0) None (Some (record { ident = filter is_kept_in_name (word_of bytes); values = x.0 }, x.1))) None
 
 -- a letter or a digit follows
 abbrev pub opens_property : List ℕ → Bool
-opens_property bytes = begins is_word (after_blanks bytes)
+opens_property bytes = begins is_letter_or_digit (after_blanks bytes)
 
 -- the properties at the front
 unfoldable pub properties_at : List ℕ → Option (List Property × List ℕ)

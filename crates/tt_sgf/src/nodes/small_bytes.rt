@@ -34,7 +34,7 @@ impl Model for SmallBytes {
 }
 
 /// So many bytes in an array.
-fn short_of(bytes: &[u8]) -> [u8; SHORT]
+fn zero_padded(bytes: &[u8]) -> [u8; SHORT]
     requires { length bytes.now ≤ SHORT }
     ensures { take (length bytes.now) result ≡ bytes.now }
 {
@@ -49,7 +49,7 @@ impl SmallBytes {
         ensures { IfOk result (λ b. b ≡ bytes.now) }
     {
         if bytes.len() <= SHORT {
-            let form = Form::Short(bytes.len() as u8, short_of(bytes));
+            let form = Form::Short(bytes.len() as u8, zero_padded(bytes));
             return Ok(SmallBytes { form });
         }
         let long = Vec::from_slice(alloc, bytes)?;
@@ -62,7 +62,7 @@ impl SmallBytes {
         ensures { IfOk result (λ b. b ≡ bytes.items) }
     {
         if bytes.len() <= SHORT {
-            let form = Form::Short(bytes.len() as u8, short_of(&bytes));
+            let form = Form::Short(bytes.len() as u8, zero_padded(&bytes));
             return Ok(SmallBytes { form });
         }
         let form = Form::Long(Box::new(alloc, bytes)?);

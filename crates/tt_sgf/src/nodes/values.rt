@@ -11,7 +11,7 @@ use std::marker::Model;
 
 /// No value, one, or a block of them.
 #[derive(Drop)]
-enum Row {
+enum ValueStorage {
     None,
     One(SmallBytes),
     Many(Vec<SmallBytes>),
@@ -20,7 +20,7 @@ enum Row {
 /// Values in order, the bytes between the brackets of each. Contracts see the list of them.
 #[derive(Drop)]
 pub struct Values {
-    row: Row,
+    row: ValueStorage,
 }
 
 impl Model for Values {
@@ -33,7 +33,11 @@ impl Model for Values {
 }
 
 /// A block of two values.
-fn both(alloc: Global, first: SmallBytes, second: SmallBytes) -> Result<Vec<SmallBytes>, AllocError>
+fn vec_of_two(
+    alloc: Global,
+    first: SmallBytes,
+    second: SmallBytes,
+) -> Result<Vec<SmallBytes>, AllocError>
     ensures { IfOk result (λ v. v.items ≡ first ∷ second ∷ []) }
 {
     let mut values = Vec::with_capacity(alloc, 2)?;
@@ -47,7 +51,9 @@ impl Values {
     pub(crate) fn none() -> Values
         ensures { result ≡ [] }
     {
-        Values { row: Row::None }
+        Values {
+            row: ValueStorage::None,
+        }
     }
 
     /// Whether there is no value.
@@ -62,12 +68,12 @@ impl Values {
         ensures { IfOk result (λ v. v ≡ self ++ value ∷ []) }
     {
         let row = match self.row {
-            Row::None => Row::One(value),
-            Row::One(first) => Row::Many(both(alloc, first, value)?),
-            Row::Many(many) => {
+            ValueStorage::None => ValueStorage::One(value),
+            ValueStorage::One(first) => ValueStorage::Many(vec_of_two(alloc, first, value)?),
+            ValueStorage::Many(many) => {
                 let mut more = many;
                 add(&mut more, value)?;
-                Row::Many(more)
+                ValueStorage::Many(more)
             }
         };
         Ok(Values { row })
@@ -78,7 +84,7 @@ impl Values {
         ensures { result ≡ values.items }
     {
         Values {
-            row: Row::Many(values),
+            row: ValueStorage::Many(values),
         }
     }
 
@@ -87,13 +93,13 @@ impl Values {
         ensures { IfOk result (λ v. v.items ≡ self) }
     {
         match self.row {
-            Row::None => Ok(Vec::new(alloc)),
-            Row::One(value) => {
+            ValueStorage::None => Ok(Vec::new(alloc)),
+            ValueStorage::One(value) => {
                 let mut values = Vec::with_capacity(alloc, 1)?;
                 values.push_reserved(value);
                 Ok(values)
             }
-            Row::Many(values) => Ok(values),
+            ValueStorage::Many(values) => Ok(values),
         }
     }
 
@@ -102,9 +108,9 @@ impl Values {
         ensures { result.now ≡ self.now }
     {
         match &self.row {
-            Row::None => &[],
-            Row::One(value) => std::slice::from_ref(value),
-            Row::Many(values) => values.as_slice(),
+            ValueStorage::None => &[],
+            ValueStorage::One(value) => std::slice::from_ref(value),
+            ValueStorage::Many(values) => values.as_slice(),
         }
     }
 }

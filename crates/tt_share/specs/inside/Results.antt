@@ -6,9 +6,9 @@ use Rattle.tt_game.specs.Game.{after, opponent}
 use Rattle.tt_game.specs.Line.{LineWithUndo}
 use Rattle.tt_game.specs.Turns.{legal_turns}
 use Rattle.tt_proof.specs.Strategy.{depth}
-use Rattle.tt_proof.specs.Proven.{Proven, StandsAt, IsWon, turns_of}
-use Rattle.tt_search.specs.Grants.{Asked}
-use Rattle.tt_search.specs.Searched.{Searched}
+use Rattle.tt_proof.specs.ProofClaim.{ProofClaim, StandsAt, IsWinningTree, turns_of}
+use Rattle.tt_search.specs.Grants.{GrantTally}
+use Rattle.tt_search.specs.SearchState.{SearchState}
 use Rattle.tt_search.specs.declared.limits.Limits.{Limits}
 use Rattle.tt_search.specs.declared.limits.Reason.{Reason}
 use Rattle.tt_search.specs.declared.search.End.TheVariants.{Stuck}
@@ -58,7 +58,7 @@ pub record SpendsTotal (total : Option ℕ) (p : ResultsSoFar) : Type 0 where
 
 -- what was asked for while results were put: as many were granted as the counts rose by, and one was refused where a job is newly
 -- stuck for the total
-pub record AskedFor (before : ResultsSoFar) (old : Asked) (after : ResultsSoFar) (new : Asked) : Type 0 where
+pub record AskedFor (before : ResultsSoFar) (old : GrantTally) (after : ResultsSoFar) (new : GrantTally) : Type 0 where
   pub spent : spent_in_all after.spent + old.granted ≡ spent_in_all before.spent + new.granted
   pub refused : HasTotal after.ends → HasTotal before.ends ⊎ (new.refused ≡ true)
   pub still : old.refused ≡ true → new.refused ≡ true
@@ -112,7 +112,7 @@ abbrev pub IsPastStuck : List (Option JobResult) → ℕ → Type 0
 IsPastStuck ends job = (lesser : ℕ) × (lesser < job) × IsStuckAt ends lesser
 
 -- the search of the job is stuck like this, and no lesser job is stuck
-pub record IsLeastStuck (ends : List (Option JobResult)) (job : ℕ) (reason : Reason) (search : Option Searched) : Type 0 where
+pub record IsLeastStuck (ends : List (Option JobResult)) (job : ℕ) (reason : Reason) (search : Option SearchState) : Type 0 where
   pub stuck : (end : JobResult) × HasEnd ends job end × (end_of end ≡ Stuck reason search)
   pub least : ¬ IsPastStuck ends job
 
@@ -146,13 +146,13 @@ StopsAtWin side before after =
     (job later : ℕ) → IsWinAt side after job → job < later → slice_get after later ≡ slice_get before later
 
 -- the turn has lost: the proof stands after it, for the side that is not to move, and leaves room for the turn
-pub record IsLost (line : LineWithUndo) (limits : Limits) (child : Turn × Proven) : Type 0 where
+pub record IsLost (line : LineWithUndo) (limits : Limits) (child : Turn × ProofClaim) : Type 0 where
   pub stands : StandsAt child.1 line.frame (after line.frame line.state child.0)
   pub side : child.1.side ≡ opponent line.state.to_move
   pub shallow : depth child.1.tree + 1 ≤ limits.depth
-  pub wins : IsWon child.1.side child.1.frame child.1.state child.1.tree
+  pub wins : IsWinningTree child.1.side child.1.frame child.1.state child.1.tree
 
 -- these are the first of the legal turns, each with the proof that it has lost
-pub record HaveLost (line : LineWithUndo) (limits : Limits) (children : List (Turn × Proven)) : Type 0 where
+pub record HaveLost (line : LineWithUndo) (limits : Limits) (children : List (Turn × ProofClaim)) : Type 0 where
   pub turns : turns_of children ≡ take (length children) (legal_turns line.frame line.state)
   pub each : All (IsLost line limits) children

@@ -1,12 +1,12 @@
 -- What counts of grants say. Only private contracts cite this.
 use Rattle.std.specs.Prelude.{◌≡◌, ◌≤◌, ℕ, Bool, true, false, Option, Some, None, List, []}
-use Rattle.tt_share.specs.Seats.{DeskView, SeatView, seat_of, EndsOverdraw, granted_of}
+use Rattle.tt_share.specs.Seats.{DeskView, SeatView, seat_of, EndsInOverdraw, granted_among}
 
 -- where there is a total, the count is that of the seat's grants, and it was refused only where the seat was; without one
 -- nothing is refused
 abbrev pub Tallies : Option ℕ → List ℕ → ℕ → Bool → Type 0
 Tallies total grants count refused =
-    (total ≡ None → refused ≡ false) × ((n : ℕ) → total ≡ Some n → (count ≡ granted_of n grants) × (refused ≡ true → EndsOverdraw n grants))
+    (total ≡ None → refused ≡ false) × ((n : ℕ) → total ≡ Some n → (count ≡ granted_among n grants) × (refused ≡ true → EndsInOverdraw n grants))
 
 -- what asks leave of a seat with its desk: all but the seat's grants
 abbrev pub source_of : DeskView → SeatView → DeskView × SeatView

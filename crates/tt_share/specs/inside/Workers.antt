@@ -5,7 +5,7 @@ use Rattle.tt_game.specs.Line.{LineWithUndo}
 use Rattle.tt_search.specs.declared.limits.Limits.{Limits}
 use Rattle.tt_share.specs.inside.Jobs.{IsResult, IsForTotal, IsStuck, IsDropped, IsWinFor, end_of, kept_of}
 use Rattle.tt_share.specs.inside.Results.{HasEnd, HasResult, IsPastStuck}
-use Rattle.tt_share.specs.Seats.{DeskView, SeatView, EndsOverdraw, granted_of}
+use Rattle.tt_share.specs.Seats.{DeskView, SeatView, EndsInOverdraw, granted_among}
 use Rattle.tt_share.specs.declared.jobs.JobResult.{JobResult}
 use Rattle.tt_share.specs.declared.jobs.SearchedJob.{SearchedJob}
 use Rattle.tt_share.specs.declared.workers.HandedBack.{HandedBack}
@@ -85,8 +85,8 @@ pub record IsWork (line : LineWithUndo) (limits : Limits) (desk : DeskView) (bac
   pub jobs : All (λ (f : SearchedJob). f.job < desk.jobs) back.searched.items
   pub drawn : (job : ℕ) → times job back.searched.items ≤ count_by (λ n. nat_eq n job) back.seat.numbers
   -- what was expanded for them is what the seat was granted of the total, and it was refused where one is stuck for the total
-  pub spent : (total : ℕ) → desk.total ≡ Some total → spent_on back.searched.items ≡ granted_of total back.seat.grants
-  pub refused : SomeTotal back.searched.items → (total : ℕ) × (desk.total ≡ Some total) × EndsOverdraw total back.seat.grants
+  pub spent : (total : ℕ) → desk.total ≡ Some total → spent_on back.searched.items ≡ granted_among total back.seat.grants
+  pub refused : SomeTotal back.searched.items → (total : ℕ) × (desk.total ≡ Some total) × EndsInOverdraw total back.seat.grants
 
 -- the job has a result, unless it is none of the line's
 abbrev pub IsPlaced : List (Option JobResult) → SearchedJob → Type 0

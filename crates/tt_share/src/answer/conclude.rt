@@ -5,13 +5,13 @@ ghost use Rattle.tt_game.specs.Game.{IsLegal, winner_of};
 ghost use Rattle.tt_game.specs.Line.{LineWithUndo};
 ghost use Rattle.tt_game.specs.Turns.{legal_turns};
 ghost use Rattle.tt_proof.specs.Strategy.{depth};
-ghost use Rattle.tt_proof.specs.Proven.{StandsAt, first_of};
+ghost use Rattle.tt_proof.specs.ProofClaim.{StandsAt, first_turn_of};
 ghost use Rattle.tt_game.specs.declared.turns.Turn.{Turn};
-ghost use Rattle.tt_search.specs.Searched.{Searched};
+ghost use Rattle.tt_search.specs.SearchState.{SearchState};
 ghost use Rattle.tt_search.specs.declared.limits.Limits.{Limits};
 ghost use Rattle.tt_search.specs.declared.limits.Reason.{Reason};
 ghost use Rattle.tt_search.specs.declared.search.End.{End};
-ghost use Rattle.tt_share.specs.Answers.{IsAnswer, spent_shown_of};
+ghost use Rattle.tt_share.specs.Answers.{IsAnswer, spent_if_total_of};
 ghost use Rattle.tt_share.specs.declared.jobs.JobResult.{JobResult};
 ghost use Rattle.tt_share.specs.inside.Beginning.{BeginsWith, IsStuckWith};
 ghost use Rattle.tt_share.specs.inside.Jobs.{EndsBehind, IsJob, end_of};
@@ -19,7 +19,7 @@ ghost use Rattle.tt_share.specs.inside.Results.{IsAllSpent, HasEnd, HaveLost, Is
 
 use crate::answer::{Answer, Stuck};
 use crate::jobs::{JobResult, Jobs};
-use crate::results::{Results, win_at};
+use crate::results::{Results, least_win_in};
 use std::alloc::Global;
 use std::sync::Arc;
 use tt_game::{Line, Turn};
@@ -28,7 +28,7 @@ use tt_search::{End, Limits, Reason};
 use tt_sgf::NoMemory;
 
 /// The answer where memory was refused outside a search.
-pub(crate) fn no_memory(alloc: Global) -> Answer
+pub(crate) fn no_memory_answer(alloc: Global) -> Answer
     ensures { (line : LineWithUndo) (limits : Limits) (total : Option ℕ) → IsAnswer line limits total result }
 {
     Answer::Unsettled(Stuck {
@@ -43,7 +43,7 @@ pub(crate) fn no_memory(alloc: Global) -> Answer
 fn first_turn(line: &Line, proof: &Proof) -> Option<Turn>
     requires open { winner_of line.now.frame line.now.state ≡ None }
     requires stands { StandsAt proof.now line.now.frame line.now.state }
-    ensures first { result ≡ first_of proof.now.tree }
+    ensures first { result ≡ first_turn_of proof.now.tree }
     ensures shown { IsSome result ↔ (proof.now.side ≡ line.now.state.to_move) }
 {
     if proof.side() == line.to_move() {
@@ -53,7 +53,7 @@ fn first_turn(line: &Line, proof: &Proof) -> Option<Turn>
 }
 
 /// The answer that a proof at the line is, within the limits.
-pub(crate) fn settled(
+pub(crate) fn answer_of_proof(
     alloc: Global,
     line: &Line,
     limits: Limits,
@@ -63,7 +63,7 @@ pub(crate) fn settled(
     requires stands { StandsAt proof line.now.frame line.now.state }
     requires shallow { depth proof.tree ≤ limits.depth }
     ensures answer { (total : Option ℕ) → IfOk result (IsAnswer line.now limits total) }
-    ensures begins { IfOk result (BeginsWith (first_of proof.tree)) }
+    ensures begins { IfOk result (BeginsWith (first_turn_of proof.tree)) }
 {
     let first = first_turn(line, &proof);
     let proof = Arc::new(alloc, proof)?;
@@ -84,8 +84,8 @@ fn take_end(ends: &mut Vec<Option<JobResult>>, job: usize) -> Option<End>
 }
 
 /// What is told of the counts: all of them where the total is spent, and else nothing.
-fn spent_shown(alloc: Global, reason: Reason, spent: Vec<(Turn, u32)>) -> Vec<(Turn, u32)>
-    ensures { result.items ≡ spent_shown_of reason spent.items }
+fn spent_if_total(alloc: Global, reason: Reason, spent: Vec<(Turn, u32)>) -> Vec<(Turn, u32)>
+    ensures { result.items ≡ spent_if_total_of reason spent.items }
 {
     match reason {
         Reason::Total => spent,
@@ -95,7 +95,7 @@ fn spent_shown(alloc: Global, reason: Reason, spent: Vec<(Turn, u32)>) -> Vec<(T
 
 impl<'a> Jobs<'a> {
     /// The answer of a proof after a turn, for the side to move.
-    fn picked(&self, turn: Turn, child: Proof) -> Result<Answer, NoMemory>
+    fn pick_answer(&self, turn: Turn, child: Proof) -> Result<Answer, NoMemory>
         requires legal { IsLegal self.now.line.now.frame self.now.line.now.state turn }
         requires child { EndsBehind self.now.line.now self.now.limits turn (End.Settled child) }
         requires side { child.side ≡ self.now.line.now.state.to_move }
@@ -103,18 +103,18 @@ impl<'a> Jobs<'a> {
         ensures begins { IfOk result (BeginsWith (Some turn)) }
     {
         let proof = Proof::pick(self.alloc, self.line, turn, child)?;
-        settled(self.alloc, self.line, self.limits, proof)
+        answer_of_proof(self.alloc, self.line, self.limits, proof)
     }
 
     /// The answer where all turns have lost.
-    fn replied(&self, children: Vec<(Turn, Proof)>) -> Result<Answer, NoMemory>
+    fn reply_answer(&self, children: Vec<(Turn, Proof)>) -> Result<Answer, NoMemory>
         requires lost { HaveLost self.now.line.now self.now.limits children.items }
         requires all { vec_len children ≡ length (legal_turns self.now.line.now.frame self.now.line.now.state) }
         ensures answer { (total : Option ℕ) → IfOk result (IsAnswer self.now.line.now self.now.limits total) }
         ensures begins { IfOk result (BeginsWith None) }
     {
         let proof = Proof::reply(self.alloc, self.line, children)?;
-        settled(self.alloc, self.line, self.limits, proof)
+        answer_of_proof(self.alloc, self.line, self.limits, proof)
     }
 }
 
@@ -127,9 +127,9 @@ impl<'a> Results<'a> {
         ensures picks { (job : ℕ) (turn : Turn) → IsLeastWin self.entry.line.state.to_move self.entry.ends job → IsJob self.entry.line job turn →
             IfOk result (BeginsWith (Some turn)) }
         ensures replies { NoWin self.entry.line.state.to_move self.entry.ends → NoneStuck self.entry.ends → IfOk result (BeginsWith None) }
-        ensures stuck { (job : ℕ) (turn : Turn) (reason : Reason) (search : Option Searched) → NoWin self.entry.line.state.to_move self.entry.ends →
+        ensures stuck { (job : ℕ) (turn : Turn) (reason : Reason) (search : Option SearchState) → NoWin self.entry.line.state.to_move self.entry.ends →
             IsLeastStuck self.entry.ends job reason search → IsJob self.entry.line job turn →
-            IfOk result (IsStuckWith turn reason search (spent_shown_of reason self.entry.spent)) }
+            IfOk result (IsStuckWith turn reason search (spent_if_total_of reason self.entry.spent)) }
     {
         let Results {
             jobs,
@@ -137,9 +137,9 @@ impl<'a> Results<'a> {
             spent,
         } = self;
         let turns = jobs.turns.as_slice();
-        if let Some(job) = win_at(ends.as_slice(), jobs.line.to_move()) {
+        if let Some(job) = least_win_in(ends.as_slice(), jobs.line.to_move()) {
             return match take_end(&mut ends, job) {
-                Some(End::Settled(child)) => jobs.picked(turns[job], child),
+                Some(End::Settled(child)) => jobs.pick_answer(turns[job], child),
                 _ => unreachable!(),
             };
         }
@@ -152,12 +152,12 @@ impl<'a> Results<'a> {
                         turn: *turn,
                         reason,
                         search,
-                        spent: spent_shown(jobs.alloc, reason, spent),
+                        spent: spent_if_total(jobs.alloc, reason, spent),
                     }));
                 }
                 None => unreachable!(),
             }
         }
-        jobs.replied(children)
+        jobs.reply_answer(children)
     }
 }

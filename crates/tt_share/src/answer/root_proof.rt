@@ -2,32 +2,32 @@
 
 ghost use Rattle.std.specs.Prelude.{◌≡◌, ℕ, Option, None, IfOk, IfSome};
 ghost use Rattle.tt_game.specs.Game.{winner_of};
-ghost use Rattle.tt_proof.specs.Proven.{IsWon, StandsAt};
+ghost use Rattle.tt_proof.specs.ProofClaim.{IsWinningTree, StandsAt};
 ghost use Rattle.tt_share.specs.Answers.{IsAnswer};
 
 use crate::answer::Answer;
-use crate::answer::conclude::settled;
+use crate::answer::conclude::answer_of_proof;
 use std::alloc::Global;
 use std::sync::Arc;
 use tt_game::Line;
 use tt_proof::Proof;
-use tt_search::{Kept, Limits, Store, usable};
+use tt_search::{Kept, Limits, Store, find_usable_proof};
 use tt_sgf::NoMemory;
 
 /// A proof of the found tree at the line, where it wins, though it may have been found under another history. The tree is
 /// shared.
-fn moved_to(alloc: Global, line: &mut Line, found: &Proof) -> Result<Proof, NoMemory>
-    requires { IsWon found.now.side line.old.frame line.old.state found.now.tree }
+fn proof_moved_to(alloc: Global, line: &mut Line, found: &Proof) -> Result<Proof, NoMemory>
+    requires { IsWinningTree found.now.side line.old.frame line.old.state found.now.tree }
     ensures stands { IfOk result (λ p. StandsAt p line.old.frame line.old.state) }
     ensures tree { IfOk result (λ p. p.tree ≡ found.now.tree) }
 {
     let measured_tree = found.measured_tree().try_clone()?;
     let footprint = found.footprint_at(alloc, line)?;
-    Proof::winning_with(line, found.side(), measured_tree, footprint)
+    Proof::from_known_win(line, found.side(), measured_tree, footprint)
 }
 
 /// The answer that the store has for the line: a proof of the attacker, or else of the defender.
-pub(crate) fn from_store<S: Store>(
+pub(crate) fn answer_from_store<S: Store>(
     alloc: Global,
     line: &Line,
     limits: Limits,
@@ -37,15 +37,15 @@ pub(crate) fn from_store<S: Store>(
     ensures { (total : Option ℕ) → IfOk result (λ o. IfSome o (λ a. IsAnswer line.now limits total a)) }
 {
     let mut own = line.try_clone()?;
-    let Some(found) = usable(&mut own, limits.depth(), store)? else {
+    let Some(found) = find_usable_proof(&mut own, limits.depth(), store)? else {
         return Ok(None);
     };
-    let proof = moved_to(alloc, &mut own, &found)?;
-    Ok(Some(settled(alloc, line, limits, proof)?))
+    let proof = proof_moved_to(alloc, &mut own, &found)?;
+    Ok(Some(answer_of_proof(alloc, line, limits, proof)?))
 }
 
 /// Offers the proof of an answer to the store, unless that is full.
-pub(crate) fn offer<S: Store>(answer: &Answer, store: &mut S) {
+pub(crate) fn offer_answer<S: Store>(answer: &Answer, store: &mut S) {
     if store.kept() == store.capacity() {
         return;
     }

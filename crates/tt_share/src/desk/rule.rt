@@ -21,70 +21,70 @@ pub struct SeatKnowledge {
 }
 
 /// The rule of the desk.
-pub struct AtDesk;
+pub struct DeskRule;
 
-impl TableRule<(), SeatKnowledge, DeskSize> for AtDesk {
-    ghost use Rattle.tt_share.specs.Desk.{DeskHolds, first_knowledge};
+impl TableRule<(), SeatKnowledge, DeskSize> for DeskRule {
+    ghost use Rattle.tt_share.specs.Desk.{IsDeskInvariant, first_seat_knowledge};
 
-    ghost holds = { DeskHolds };
+    ghost holds = { IsDeskInvariant };
 
-    ghost first = { first_knowledge };
+    ghost first = { first_seat_knowledge };
 }
 
 /// A number was drawn.
 pub struct Draw;
 
 impl Play<(), SeatKnowledge> for Draw {
-    ghost use Rattle.tt_share.specs.Desk.{Draws};
+    ghost use Rattle.tt_share.specs.Desk.{DrawsNumber};
 
-    ghost then = { λ step before found after. Draws before found after };
+    ghost then = { λ step before found after. DrawsNumber before found after };
 }
 
 /// A grant was asked for: the number says whether it was given.
-pub struct Grant;
+pub struct GrantRequest;
 
-impl Play<(), SeatKnowledge> for Grant {
-    ghost use Rattle.tt_share.specs.Desk.{AsksForGrant};
+impl Play<(), SeatKnowledge> for GrantRequest {
+    ghost use Rattle.tt_share.specs.Desk.{AsksGrant};
 
-    ghost then = { λ step before found after. AsksForGrant before found after };
+    ghost then = { λ step before found after. AsksGrant before found after };
 }
 
 /// The flag was raised.
-pub struct Raise;
+pub struct FlagRaise;
 
-impl Play<(), SeatKnowledge> for Raise {
-    ghost use Rattle.tt_share.specs.Desk.{Raises};
+impl Play<(), SeatKnowledge> for FlagRaise {
+    ghost use Rattle.tt_share.specs.Desk.{RaisesFlag};
 
-    ghost then = { λ step before found after. Raises before after };
+    ghost then = { λ step before found after. RaisesFlag before after };
 }
 
 /// The flag was looked at.
-pub struct Look;
+pub struct FlagLook;
 
-impl Play<(), SeatKnowledge> for Look {
-    ghost use Rattle.tt_share.specs.Desk.{Looks};
+impl Play<(), SeatKnowledge> for FlagLook {
+    ghost use Rattle.tt_share.specs.Desk.{LooksAtFlag};
 
-    ghost then = { λ step before found after. Looks before found after };
+    ghost then = { λ step before found after. LooksAtFlag before found after };
 }
 
 /// One seat is cut from one that has made no step.
 pub struct SeatSplit;
 
 impl Split<SeatKnowledge> for SeatSplit {
-    ghost use Rattle.tt_share.specs.Desk.{fewer, handed_out_knowledge};
+    ghost use Rattle.tt_share.specs.Desk.{knowledge_less_one_seat, new_seat_knowledge};
 
-    ghost left = { fewer };
+    ghost left = { knowledge_less_one_seat };
 
-    ghost right = { λ knowledge. handed_out_knowledge };
+    ghost right = { λ knowledge. new_seat_knowledge };
 }
 
 /// Two seats are made one.
 pub struct SeatJoin;
 
 impl Join<SeatKnowledge> for SeatJoin {
-    ghost use Rattle.tt_share.specs.Desk.{joined, no_knowledge};
+    ghost use Rattle.tt_share.specs.Desk.{joined_knowledge, no_knowledge};
 
-    ghost both = { joined };
+    ghost both = { joined_knowledge };
 
     ghost spent = { no_knowledge };
 }

@@ -6,7 +6,7 @@ ghost use Rattle.std.specs.Arc.{arc_value};
 ghost use Rattle.tt_game.specs.declared.frame.Side.TheVariants.{Attacker, Defender};
 ghost use Rattle.tt_search.specs.Stores.{HasKeyAndSide, IsNewest};
 ghost use Rattle.tt_search.specs.declared.store.Kept.TheVariants.{Stored, Full};
-ghost use Rattle.tt_share.specs.Log.{Keeps, Extends, newest_first, HasNewest};
+ghost use Rattle.tt_share.specs.Log.{KeepsProof, Extends, newest_first, HasNewest};
 
 use crate::log::view::View;
 use std::marker::Model;
@@ -105,7 +105,7 @@ impl<'a, R: Wait> Store for LogStore<'a, R> {
         ensures stored { result ≡ Stored → self.new.kept ≡ self.old.kept + 1 }
         ensures other { result ≢ Stored → self.new.kept ≡ self.old.kept }
         ensures log { self.new.log ≡ self.old.log }
-        ensures proof { result ≡ Stored → Keeps self.old self.new (arc_value p) }
+        ensures proof { result ≡ Stored → KeepsProof self.old self.new (arc_value p) }
         ensures same { result ≢ Stored → self.new ≡ self.old }
     {
         self.view.keep(self.rt, p)

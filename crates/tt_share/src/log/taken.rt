@@ -6,7 +6,7 @@ ghost use Rattle.std.specs.Arc.{arc_value};
 ghost use Rattle.tt_game.specs.declared.frame.Side.TheVariants.{Attacker, Defender};
 ghost use Rattle.tt_search.specs.Stores.{HasKeyAndSide, IsNewest};
 ghost use Rattle.tt_search.specs.KeyIndex.{proof_at};
-ghost use Rattle.tt_share.specs.Log.{IsOf, newest_first, proofs_of};
+ghost use Rattle.tt_share.specs.Log.{IsTokenOf, newest_first, proofs_of};
 
 use crate::log::{CertLog, Token};
 use std::alloc::Global;
@@ -22,7 +22,7 @@ use tt_sgf::NoMemory;
 struct TokenRow<'a> {
     log: &'a CertLog,
     tokens: &'a Vec<Token>,
-    ghost of_log: { All (IsOf log.now) tokens.now.items },
+    ghost of_log: { All (IsTokenOf log.now) tokens.now.items },
 }
 
 impl<'a> ProofRow for TokenRow<'a> {
@@ -50,7 +50,7 @@ impl<'a> Model for TakenTokens<'a> {
     ghost use Rattle.tt_sgf.specs.contracts.sets.PointSet as points;
     ghost use Rattle.tt_proof.specs.laws.StrategyCode.{strategy_code};
     ghost use Rattle.tt_search.specs.KeyIndex.{key_hashes};
-    ghost use Rattle.tt_share.specs.Log.{IsOf, proofs_of};
+    ghost use Rattle.tt_share.specs.Log.{IsTokenOf, proofs_of};
     ghost use Rattle.tt_share.specs.inside.Taking.{Holding};
 
     ghost Value = { Holding };
@@ -64,7 +64,7 @@ impl<'a> Model for TakenTokens<'a> {
     } };
 
     ghost invariant = { λ t. record {
-      of_log : All (IsOf t.log.now) t.tokens.items;
+      of_log : All (IsTokenOf t.log.now) t.tokens.items;
       indexed : t.index.hashes ≡ key_hashes (proofs_of t.tokens.items);
     } };
 }
@@ -85,7 +85,7 @@ impl<'a> TakenTokens<'a> {
     /// The tokens.
     pub fn tokens(&self) -> &[Token]
         ensures tokens { result.now ≡ self.now.tokens }
-        ensures of_log { All (IsOf self.now.log) self.now.tokens }
+        ensures of_log { All (IsTokenOf self.now.log) self.now.tokens }
     {
         self.tokens.as_slice()
     }
@@ -102,7 +102,7 @@ impl<'a> TakenTokens<'a> {
 
     /// Takes a token of the log in, where there is room.
     pub fn put(&mut self, token: Token)
-        requires of_log { IsOf self.old.log token }
+        requires of_log { IsTokenOf self.old.log token }
         requires room { 0 < self.old.room }
         ensures log { self.new.log ≡ self.old.log }
         ensures tokens { self.new.tokens ≡ self.old.tokens ++ token ∷ [] }
@@ -112,7 +112,7 @@ impl<'a> TakenTokens<'a> {
     }
 
     /// The tokens as a row of proofs.
-    fn row(&self) -> TokenRow<'_>
+    fn proof_row(&self) -> TokenRow<'_>
         ensures { result.tokens.now.items ≡ self.now.tokens }
     {
         TokenRow {
@@ -130,21 +130,21 @@ impl<'a> TakenTokens<'a> {
     }
 
     /// The proof of the last token of the line's key for the side.
-    pub fn newest(&self, line: &Line, side: Side) -> Option<&Arc<Proof>>
+    pub fn newest_proof(&self, line: &Line, side: Side) -> Option<&Arc<Proof>>
         ensures newest { IsNewest line.now side (newest_first self.now.tokens) (option_map (λ p. arc_value p.now) result) }
         ensures found { IfSome result (λ p. HasKeyAndSide line.now side (arc_value p.now)) }
     {
-        self.handle_at(self.index.newest(line, side, &self.row()))
+        self.handle_at(self.index.newest_slot(line, side, &self.proof_row()))
     }
 
-    /// What `newest` answers for the attacker and for the defender.
-    pub fn newest_both(&self, line: &Line) -> (Option<&Arc<Proof>>, Option<&Arc<Proof>>)
+    /// What `newest_proof` answers for the attacker and for the defender.
+    pub fn newest_proof_per_side(&self, line: &Line) -> (Option<&Arc<Proof>>, Option<&Arc<Proof>>)
         ensures attacker { IsNewest line.now Attacker (newest_first self.now.tokens) (option_map (λ p. arc_value p.now) result.0) }
         ensures defender { IsNewest line.now Defender (newest_first self.now.tokens) (option_map (λ p. arc_value p.now) result.1) }
         ensures found_attacker { IfSome result.0 (λ p. HasKeyAndSide line.now Attacker (arc_value p.now)) }
         ensures found_defender { IfSome result.1 (λ p. HasKeyAndSide line.now Defender (arc_value p.now)) }
     {
-        let (attacker, defender) = self.index.newest_both(line, &self.row());
+        let (attacker, defender) = self.index.newest_per_side(line, &self.proof_row());
         (self.handle_at(attacker), self.handle_at(defender))
     }
 }

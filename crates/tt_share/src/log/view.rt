@@ -6,7 +6,7 @@ ghost use Rattle.std.specs.Arc.{arc_value};
 ghost use Rattle.tt_game.specs.declared.frame.Side.TheVariants.{Attacker, Defender};
 ghost use Rattle.tt_search.specs.Stores.{HasKeyAndSide, IsNewest};
 ghost use Rattle.tt_search.specs.declared.store.Kept.TheVariants.{Stored, Full};
-ghost use Rattle.tt_share.specs.Log.{IsOf, Keeps, Extends, newest_first, HasNewest};
+ghost use Rattle.tt_share.specs.Log.{IsTokenOf, KeepsProof, Extends, newest_first, HasNewest};
 
 use crate::capacity::MOST_KEPT;
 use crate::log::taken::TakenTokens;
@@ -90,7 +90,7 @@ impl<'a> View<'a> {
     /// The tokens, the oldest first.
     pub fn tokens(&self) -> &[Token]
         ensures tokens { result.now ≡ self.now.tokens }
-        ensures of_log { All (IsOf self.now.log) self.now.tokens }
+        ensures of_log { All (IsTokenOf self.now.log) self.now.tokens }
     {
         self.taken.tokens()
     }
@@ -106,7 +106,7 @@ impl<'a> View<'a> {
     pub fn keep(&mut self, rt: &impl Wait, p: Arc<Proof>) -> Kept
         ensures log { self.new.log ≡ self.old.log }
         ensures full { (result ≡ Full) ↔ (self.old.kept ≡ MOST_KEPT) }
-        ensures stored { result ≡ Stored → Keeps self.old self.new (arc_value p) }
+        ensures stored { result ≡ Stored → KeepsProof self.old self.new (arc_value p) }
         ensures same { result ≢ Stored → self.new ≡ self.old }
     {
         if self.kept == MOST_KEPT {
@@ -125,7 +125,7 @@ impl<'a> View<'a> {
     }
 
     /// Whether the slot is that of the view's next proof of its own, which it has taken in already.
-    fn skips(&mut self, slot: usize) -> bool
+    fn skip_if_own(&mut self, slot: usize) -> bool
         ensures { self.new ≡ self.old }
     {
         if self.own.get(self.skipped).copied() != Some(slot) {
@@ -136,12 +136,12 @@ impl<'a> View<'a> {
     }
 
     /// Takes in the entry at the slot, where its push is finished and the view can grow; else it answers false.
-    fn read_one(&mut self, slot: usize) -> bool
+    fn read_entry(&mut self, slot: usize) -> bool
         ensures log { self.new.log ≡ self.old.log }
         ensures kept { self.new.kept ≡ self.old.kept }
         ensures tokens { Extends self.old.tokens self.new.tokens }
     {
-        if self.skips(slot) {
+        if self.skip_if_own(slot) {
             return true;
         }
         let Some(token) = self.log.token(slot) else {
@@ -155,13 +155,13 @@ impl<'a> View<'a> {
     }
 
     /// Takes in the entries that it hasn't read yet, up to the first whose push isn't finished.
-    fn read_on(&mut self)
+    fn read_new_entries(&mut self)
         ensures log { self.new.log ≡ self.old.log }
         ensures kept { self.new.kept ≡ self.old.kept }
         ensures tokens { Extends self.old.tokens self.new.tokens }
     {
         for slot in self.read..self.log.count() {
-            if !self.read_one(slot) {
+            if !self.read_entry(slot) {
                 break;
             }
             self.read = slot.saturating_add(1);
@@ -179,8 +179,8 @@ impl<'a> View<'a> {
         ensures found { IfOk result (λ o. IfSome o (λ p. HasKeyAndSide line.now s (arc_value p))) }
         ensures memory { IfErr result (λ _. HasNewest line.now s self.new.tokens) }
     {
-        self.read_on();
-        handle_of(self.taken.newest(line, s))
+        self.read_new_entries();
+        handle_of(self.taken.newest_proof(line, s))
     }
 
     /// What `find` answers for both sides, from the same tokens.
@@ -194,8 +194,8 @@ impl<'a> View<'a> {
         ensures defender { IfOk result (λ b. IfSome b.defender (λ p. HasKeyAndSide line.now Defender (arc_value p))) }
         ensures memory { IfErr result (λ _. HasNewest line.now Attacker self.new.tokens ⊎ HasNewest line.now Defender self.new.tokens) }
     {
-        self.read_on();
-        let (attacker, defender) = self.taken.newest_both(line);
+        self.read_new_entries();
+        let (attacker, defender) = self.taken.newest_proof_per_side(line);
         let attacker = handle_of(attacker)?;
         let defender = handle_of(defender)?;
         Ok(ProofPerSide { attacker, defender })

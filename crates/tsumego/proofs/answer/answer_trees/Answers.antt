@@ -1,6 +1,6 @@
 use Rattle.std.proofs.Common.{◌≡◌, ◌⊎◌, inl, inr, rules, arith, length, take, drop, ◌-◌}
 use Rattle.std.proofs.lemmas.List.{length-drop, length-take-le}
-use Rattle.tt_sgf.specs.Grammar.{HasOpen}
+use Rattle.tt_sgf.specs.Grammar.{HasOpeningParenthesis}
 use Rattle.tsumego.proofs.TreeByTree.{progress_ended, progress_fault, progress_kept, progress_long, progress_step, progress_stopped}
 use Rattle.tsumego.proofs.answer.answer_trees.Goals as goal
 use Rattle.tsumego.proofs.answer.answer_trees.Goals.{then-number-eq1, else-number-eq1+then-has_tree}
@@ -8,7 +8,7 @@ use Rattle.tsumego.proofs.answer.answer_trees.Goals.{then-number-eq1, else-numbe
 pub returns-in-Err-clause-written : goal.returns-in-Err-clause-written
 returns-in-Err-clause-written g c =
     let found = c.in-Ok.ensures.found in
-    let goes : (c.loop-number.number ≡ 1) ⊎ HasOpen c.loop-number.rest.now =
+    let goes : (c.loop-number.number ≡ 1) ⊎ HasOpeningParenthesis c.loop-number.rest.now =
     elim c.if-number-eq1.branch [ then-number-eq1 w ↦ inl w.if-number-eq1.true | else-number-eq1+then-has_tree w ↦ inr (search (rules, w.if-has_tree.true)) ] in
     progress_fault c.loop-number.invariant.progress _ goes c.in-Ok.used found.0 c.in-Ok.main.nodes c.in-Err.fault found.1 found.2
     c.in-Ok.ensures.within.2 c.in-Err.ensures.written
@@ -37,21 +37,21 @@ loop-number-preserved g c =
 
 pub returns-in-Err-Syntax-clause-written : goal.returns-in-Err-Syntax-clause-written
 returns-in-Err-Syntax-clause-written g c =
-    let goes : (c.loop-number.number ≡ 1) ⊎ HasOpen c.loop-number.rest.now =
+    let goes : (c.loop-number.number ≡ 1) ⊎ HasOpeningParenthesis c.loop-number.rest.now =
     elim c.if-number-eq1.branch [ then-number-eq1 w ↦ inl w.if-number-eq1.true | else-number-eq1+then-has_tree w ↦ inr (search (rules, w.if-has_tree.true)) ] in
     let none = c.in-Err-Syntax.ensures.syntax (search rules) in
-    progress_stopped c.loop-number.invariant.progress _ c.refuse.result goes none.0 none.1 c.refuse.ensures.status (rw c.code.ensures at c.refuse.ensures.written)
+    progress_stopped c.loop-number.invariant.progress _ c.write_refusal.result goes none.0 none.1 c.write_refusal.ensures.status (rw c.code.ensures at c.write_refusal.ensures.written)
 
 pub returns-in-Err-TooLong-clause-written : goal.returns-in-Err-TooLong-clause-written
 returns-in-Err-TooLong-clause-written g c =
-    let goes : (c.loop-number.number ≡ 1) ⊎ HasOpen c.loop-number.rest.now =
+    let goes : (c.loop-number.number ≡ 1) ⊎ HasOpeningParenthesis c.loop-number.rest.now =
     elim c.if-number-eq1.branch [ then-number-eq1 w ↦ inl w.if-number-eq1.true | else-number-eq1+then-has_tree w ↦ inr (search (rules, w.if-has_tree.true)) ] in
-    progress_long c.loop-number.invariant.progress _ goes c.refuse-in-Err-TooLong.result (c.in-Err-TooLong.ensures.too_long.0 (search rules)) c.loop-number.invariant.bound
-    c.refuse-in-Err-TooLong.ensures.status (rw c.code-in-Err-TooLong.ensures at c.refuse-in-Err-TooLong.ensures.written)
+    progress_long c.loop-number.invariant.progress _ goes c.write_refusal-in-Err-TooLong.result (c.in-Err-TooLong.ensures.too_long.0 (search rules)) c.loop-number.invariant.bound
+    c.write_refusal-in-Err-TooLong.ensures.status (rw c.code-in-Err-TooLong.ensures at c.write_refusal-in-Err-TooLong.ensures.written)
 
 pub returns-in-Err-NoMemory-clause-written : goal.returns-in-Err-NoMemory-clause-written
 returns-in-Err-NoMemory-clause-written g c =
-    let goes : (c.loop-number.number ≡ 1) ⊎ HasOpen c.loop-number.rest.now =
+    let goes : (c.loop-number.number ≡ 1) ⊎ HasOpeningParenthesis c.loop-number.rest.now =
     elim c.if-number-eq1.branch [ then-number-eq1 w ↦ inl w.if-number-eq1.true | else-number-eq1+then-has_tree w ↦ inr (search (rules, w.if-has_tree.true)) ] in
     progress_kept c.loop-number.invariant.progress _ goes (search rules)
 

@@ -8,8 +8,8 @@ use Rattle.tsumego.proofs.arguments.check_parser.Goals as goal
 pub returns-clause-shape : goal.returns-clause-shape
 unfolding check_app
 returns-clause-shape c =
-    IfOk-weaker c.arg.result _ _ (λ r h. h.shape c.flag.ensures.local ∙ ap₂ with_rule c.named.ensures.app c.flag.ensures.rule) c.arg.ensures
+    IfOk-weaker c.arg.result _ _ (λ r h. h.shape c.flag_option.ensures.local ∙ ap₂ with_rule c.bare_parser.ensures.app c.flag_option.ensures.rule) c.arg.ensures
 
 pub returns-clause-local : goal.returns-clause-local
 returns-clause-local c =
-    IfOk-weaker c.arg.result _ _ (λ r h. none_global _ _ _ h.globals c.named.ensures.local c.flag.ensures.local) c.arg.ensures
+    IfOk-weaker c.arg.result _ _ (λ r h. none_global _ _ _ h.globals c.bare_parser.ensures.local c.flag_option.ensures.local) c.arg.ensures

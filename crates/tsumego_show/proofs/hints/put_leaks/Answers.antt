@@ -2,12 +2,12 @@ use Rattle.std.proofs.Common.{◌≡◌, ◌++◌, codes, OnOk, ap, subst}
 use Rattle.tt_sgf.specs.declared.size.Size.{Size}
 use Rattle.tt_game.specs.declared.frame.Frame.{Frame}
 use Rattle.tt_board.specs.Stones.{Points}
-use Rattle.tsumego_show.specs.Hints.{listed, leaks}
+use Rattle.tsumego_show.specs.Hints.{points_line_if_any, leaks}
 use Rattle.tsumego_show.proofs.hints.put_leaks.Goals as goal
 
 pub returns : goal.returns
 returns c =
     let size = ap (λ (f : Frame). f.size) c.frame.ensures.value in
-    subst (λ (s : Size). OnOk c.put_listed.result (c.put_listed.new.out.items ≡ c.args.out.now.items ++ listed s (codes "hint: empty and not in the region, so that nobody can fill them:") (leaks c.args.line.now))) size
-    (subst (λ (q : Points). OnOk c.put_listed.result (c.put_listed.new.out.items ≡ c.args.out.now.items ++ listed c.frame.result.now.size (codes "hint: empty and not in the region, so that nobody can fill them:") q)) c.leaks.ensures
-    c.put_listed.ensures)
+    subst (λ (s : Size). OnOk c.put_points_line_if_any.result (c.put_points_line_if_any.new.out.items ≡ c.args.out.now.items ++ points_line_if_any s (codes "hint: empty and not in the region, so that nobody can fill them:") (leaks c.args.line.now))) size
+    (subst (λ (q : Points). OnOk c.put_points_line_if_any.result (c.put_points_line_if_any.new.out.items ≡ c.args.out.now.items ++ points_line_if_any c.frame.result.now.size (codes "hint: empty and not in the region, so that nobody can fill them:") q)) c.leaks.ensures
+    c.put_points_line_if_any.ensures)

@@ -1,6 +1,6 @@
 use Rattle.std.proofs.Common.{◌≡◌, ◌⊎◌, inl, inr, rules, arith, length, take, drop, ◌-◌}
 use Rattle.std.proofs.lemmas.List.{length-drop, length-take-le}
-use Rattle.tt_sgf.specs.Grammar.{HasOpen}
+use Rattle.tt_sgf.specs.Grammar.{HasOpeningParenthesis}
 use Rattle.tsumego_show.proofs.Told.{progress_ended, progress_long, progress_step, progress_stopped}
 use Rattle.tsumego_show.proofs.showing.show.Goals as goal
 use Rattle.tsumego_show.proofs.showing.show.Goals.{then-number-eq1, else-number-eq1+then-has_tree}
@@ -28,7 +28,7 @@ loop-number-preserved c =
 
 pub returns-in-Err-Syntax : goal.returns-in-Err-Syntax
 returns-in-Err-Syntax c =
-    let goes : (c.loop-number.number ≡ 1) ⊎ HasOpen c.loop-number.rest.now =
+    let goes : (c.loop-number.number ≡ 1) ⊎ HasOpeningParenthesis c.loop-number.rest.now =
     elim c.if-number-eq1.branch [ then-number-eq1 w ↦ inl w.if-number-eq1.true | else-number-eq1+then-has_tree w ↦ inr (search (rules, w.if-has_tree.true)) ] in
     let none = c.in-Err-Syntax.ensures.syntax (search rules) in
     progress_stopped c.loop-number.invariant.progress goes none.0 none.1 _ (search rules)
@@ -39,4 +39,4 @@ returns-in-Err-TooLong c =
 
 pub returns : goal.returns
 returns c =
-    progress_ended c.loop-number.invariant.progress c.if-number-eq1.false (search (rules, c.if-has_tree.false)) _ c.status_of.ensures
+    progress_ended c.loop-number.invariant.progress c.if-number-eq1.false (search (rules, c.if-has_tree.false)) _ c.exit_status.ensures

@@ -1,7 +1,7 @@
 use Rattle.std.proofs.Common.{rules, ◌≡◌, ◌∷◌, [], Some, None, true, false, ◌==◌, sym, ap, ◌∙◌}
 use Rattle.std.proofs.lemmas.List.{nil_from_length}
 use lib.Pointwise.{pointwise}
-use Rattle.tt_sgf.specs.Entries.{set_of}
+use Rattle.tt_sgf.specs.PointLists.{set_of}
 use Rattle.tt_game.specs.Nodes.{values_of}
 use Rattle.tt_game.proofs.NodeLemmas.{joined}
 use Rattle.tt_game.proofs.NodeLemmas.{values-nil, values-named, values-other, set-none, set-more, set-end, set-begin}

@@ -1,5 +1,5 @@
 use Rattle.std.proofs.Common.{◌≡◌, length}
-use Rattle.tt_sgf.specs.Entries.{set_of}
+use Rattle.tt_sgf.specs.PointLists.{set_of}
 use Rattle.tt_game.specs.Nodes.{values_of}
 use Rattle.tt_game.proofs.NodeLemmas.{joined}
 use Rattle.tt_game.proofs.nodes.named_set.Given as goal

@@ -19,22 +19,22 @@ put_tree-put_entries-requires t c =
     (search (rules, the_lemmas), rw (c.deref-in-Reply-2.ensures.value, c.deref-in-Reply.ensures) ordered)
 
 pub put_tree-returns-in-Done : goal.put_tree-returns-in-Done
-put_tree-returns-in-Done t c = rw (c.in-Done.is, strategy_of_done) c.put.ensures
+put_tree-returns-in-Done t c = rw (c.in-Done.is, strategy_of_done) c.put_byte.ensures
 
 pub put_tree-returns-in_ok-put_turn-in-Pick : goal.put_tree-returns-in_ok-put_turn-in-Pick
 put_tree-returns-in_ok-put_turn-in-Pick t c =
     rw (c.in-Pick.is, strategy_of_pick, ← c.deref.ensures)
-    (on_ok_weaker c.put_tree.result (λ e. e ∙ joined _ _ _ _ _ c.in_ok-put-in-Pick.ensures c.in_ok-put_turn-in-Pick.ensures.ok) c.put_tree.ensures)
+    (on_ok_weaker c.put_tree.result (λ e. e ∙ joined _ _ _ _ _ c.in_ok-put_byte-in-Pick.ensures c.in_ok-put_turn-in-Pick.ensures.ok) c.put_tree.ensures)
   where
     -- what is written behind `!` and a turn
     joined : (a b d x y : List ℕ) → b ≡ a ++ (pick_symbol ∷ []) → d ≡ b ++ x → d ++ y ≡ a ++ (pick_symbol ∷ (x ++ y))
     joined a b d x y e f =
         ap (λ w. w ++ y) (f ∙ ap (λ w. w ++ x) e) ∙ append_assoc (a ++ (pick_symbol ∷ [])) x y ∙ append_assoc a (pick_symbol ∷ []) (x ++ y)
 
-pub put_tree-returns-in_ok-put-in-Reply : goal.put_tree-returns-in_ok-put-in-Reply
-put_tree-returns-in_ok-put-in-Reply t c =
+pub put_tree-returns-in_ok-put_byte-in-Reply : goal.put_tree-returns-in_ok-put_byte-in-Reply
+put_tree-returns-in_ok-put_byte-in-Reply t c =
     rw (c.in-Reply.is, strategy_of_reply, ← c.deref-in-Reply.ensures, ← c.deref-in-Reply-2.ensures.value)
-    (on_ok_weaker c.put_entries.result (λ e. e ∙ joined _ _ _ c.in_ok-put-in-Reply.ensures) c.put_entries.ensures)
+    (on_ok_weaker c.put_entries.result (λ e. e ∙ joined _ _ _ c.in_ok-put_byte-in-Reply.ensures) c.put_entries.ensures)
   where
     -- what is written behind `?`
     joined : (a b y : List ℕ) → b ≡ a ++ (replies_symbol ∷ []) → b ++ y ≡ a ++ (replies_symbol ∷ y)

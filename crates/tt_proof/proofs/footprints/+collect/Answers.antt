@@ -5,7 +5,7 @@ use Rattle.tt_game.specs.Game.{after}
 use Rattle.tt_game.specs.Line.{LineWithUndo}
 use Rattle.tt_game.specs.declared.turns.Turn.{Turn}
 use Rattle.tt_sgf.specs.declared.size.Size.{Size}
-use Rattle.tt_proof.specs.Strategy.{Strategy, Entries, entry, number_on, strategy_of, pick, reply, entries_of, entries_of_list, depth_of_entries, AreInOrder}
+use Rattle.tt_proof.specs.Strategy.{Strategy, Entries, entry, number_on, strategy_of, pick, reply, entries_of, entries_of_reply, depth_of_entries, AreInOrder}
 use Rattle.tt_proof.specs.KeptFootprints.{IsFootprint, IsEntryJoined}
 use Rattle.tt_proof.proofs.ResultLemmas.{if_ok, on_ok}
 use Rattle.tt_proof.proofs.StrategyLemmas.{strategy_of_done, strategy_of_pick, strategy_of_reply, entries_map}
@@ -79,9 +79,9 @@ join_entry-returns-in-Ok-found-clause-exact t c =
     let turn = c.args.turn.now in
     let behind = c.in-Ok-found.behind in
     let foot = subst (λ (l : LineWithUndo). IsFootprint l.frame l.state (strategy_of c.args.tree.now) behind) c.in-Ok.ensures.ok.1 c.in-Ok-found.ensures.exact in
-    let more = subst (λ (l : LineWithUndo). OnOk c.join.result ((u : Strategy) → IsFootprint l.frame (after l.frame l.state turn) u behind
-    → IsEntryJoined l.frame l.state turn u c.args.footprint.now c.join.new.self)) same c.join.ensures in
-    on_ok c.join.result _ _ (λ h. h (strategy_of c.args.tree.now) foot) more
+    let more = subst (λ (l : LineWithUndo). OnOk c.add_entry.result ((u : Strategy) → IsFootprint l.frame (after l.frame l.state turn) u behind
+    → IsEntryJoined l.frame l.state turn u c.args.footprint.now c.add_entry.new.self)) same c.add_entry.ensures in
+    on_ok c.add_entry.result _ _ (λ h. h (strategy_of c.args.tree.now) foot) more
 
 pub footprint_of_reply-loop-turn-preserved : goal.footprint_of_reply-loop-turn-preserved
 footprint_of_reply-loop-turn-preserved t c =
@@ -102,9 +102,9 @@ footprint_of_reply-loop-turn-preserved t c =
           (subst (λ e. IsFootprint new.line.frame new.line.state (reply (entries_of (map (λ e. (e.0, strategy_of e.1)) (take n list) ++ (e.0, strategy_of e.1) ∷ []))) new.footprint) is
           (subst (λ (l : LineWithUndo). IsFootprint l.frame l.state (reply (entries_of (map (λ e. (e.0, strategy_of e.1)) (take n list) ++ (item.0, strategy_of item.1) ∷ []))) new.footprint)
           (sym c.join_entry.ensures.same) joined));
-      depth = let low = subst (λ es. depth_of_entries (entries_of_list es) ≤ 512) rest c.loop-turn.invariant.depth in omega (arith, low);
+      depth = let low = subst (λ es. depth_of_entries (entries_of_reply es) ≤ 512) rest c.loop-turn.invariant.depth in omega (arith, low);
       in_order =
-          subst (λ (l : LineWithUndo). (least : ℕ) × AreInOrder l.frame.size least (entries_of_list (drop (n + 1) list))) (sym c.join_entry.ensures.same)
-          (rest_in_order c.loop-turn.line.frame.size c.loop-turn.invariant.in_order.0 item.0 (strategy_of item.1) (entries_of_list (drop (n + 1) list))
-          (subst (λ es. AreInOrder c.loop-turn.line.frame.size c.loop-turn.invariant.in_order.0 (entries_of_list es)) rest c.loop-turn.invariant.in_order.1));
+          subst (λ (l : LineWithUndo). (least : ℕ) × AreInOrder l.frame.size least (entries_of_reply (drop (n + 1) list))) (sym c.join_entry.ensures.same)
+          (rest_in_order c.loop-turn.line.frame.size c.loop-turn.invariant.in_order.0 item.0 (strategy_of item.1) (entries_of_reply (drop (n + 1) list))
+          (subst (λ es. AreInOrder c.loop-turn.line.frame.size c.loop-turn.invariant.in_order.0 (entries_of_reply es)) rest c.loop-turn.invariant.in_order.1));
     }

@@ -1,5 +1,5 @@
 use Rattle.std.proofs.Common.{Contains, arith}
-use Rattle.tt_proof.specs.KeptFootprints.{frame_board}
+use Rattle.tt_proof.specs.KeptFootprints.{board_of_colouring}
 use Rattle.tt_proof.proofs.FootprintLemmas.{none_held}
 use Rattle.tt_proof.proofs.RepeatLemmas.{below_more, below_all}
 use Rattle.tt_proof.proofs.footprints.repeated_boards.Goals as goal
@@ -9,7 +9,7 @@ loop-p-init c =
     let f = c.args.line.now.frame in
     record {
       sized = λ b m. absurd (none_held _ b c.new-needs.ensures m);
-      shown = λ x. (λ m. absurd (none_held _ (frame_board f x) c.new-needs.ensures m), λ w. let lt = w.1 in absurd (omega (arith, lt)));
+      shown = λ x. (λ m. absurd (none_held _ (board_of_colouring f x) c.new-needs.ensures m), λ w. let lt = w.1 in absurd (omega (arith, lt)));
     }
 
 pub loop-p-preserved : goal.loop-p-preserved
@@ -18,11 +18,11 @@ loop-p-preserved c =
     let s = c.args.line.now.state in
     let outside = rw c.frame.ensures.value at c.in-Some.ensures.2 in
     record {
-      sized = c.in_ok-put_repeated.ensures.sized c.loop-p.invariant.sized;
+      sized = c.in_ok-add_repeated_board.ensures.sized c.loop-p.invariant.sized;
       shown =
           rw c.number-from.ensures.number
-          (below_more f s (λ x. Contains c.loop-p.needs (frame_board f x)) (λ x. Contains c.put_repeated.new.needs (frame_board f x)) c.loop-p.from c.in-Some.p
-          c.in-Some.ensures.1 outside c.loop-p.invariant.shown c.in_ok-put_repeated.ensures.more);
+          (below_more f s (λ x. Contains c.loop-p.needs (board_of_colouring f x)) (λ x. Contains c.add_repeated_board.new.needs (board_of_colouring f x)) c.loop-p.from c.in-Some.p
+          c.in-Some.ensures.1 outside c.loop-p.invariant.shown c.in_ok-add_repeated_board.ensures.more);
     }
 
 pub returns-clause-exact : goal.returns-clause-exact
@@ -30,4 +30,4 @@ returns-clause-exact c =
     let f = c.args.line.now.frame in
     let s = c.args.line.now.state in
     let outside = rw c.frame.ensures.value at c.in_default.ensures in
-    below_all f s (λ x. Contains c.loop-p.needs (frame_board f x)) c.loop-p.from outside c.loop-p.invariant.shown
+    below_all f s (λ x. Contains c.loop-p.needs (board_of_colouring f x)) c.loop-p.from outside c.loop-p.invariant.shown

@@ -62,12 +62,12 @@ read_outline-returns-else-first-eq63 t c =
       not_first _ b _ same c.if-first-eq63.false,
     ))
 
-pub read_named-returns-in-None : goal.read_named-returns-in-None
-read_named-returns-in-None t c =
+pub read_named_outline-returns-in-None : goal.read_named_outline-returns-in-None
+read_named_outline-returns-in-None t c =
     no_named c.args.size c.args.left c.args.depths.now.items c.args.bytes.now (λ b y e. absurd (omega (arith, c.in-None.ensures.cases, ap length e)))
 
-pub read_named-returns-else-first-eq63 : goal.read_named-returns-else-first-eq63
-read_named-returns-else-first-eq63 t c =
+pub read_named_outline-returns-else-first-eq63 : goal.read_named_outline-returns-else-first-eq63
+read_named_outline-returns-else-first-eq63 t c =
     no_named c.args.size c.args.left c.args.depths.now.items c.args.bytes.now
     (λ b y e. let same = heads (sym c.in-Some.ensures.cases.0 ∙ e) in
     (not_first _ b _ same c.if-first-eq33.false, not_first _ b _ same c.if-first-eq63.false))

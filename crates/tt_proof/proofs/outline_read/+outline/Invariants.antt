@@ -7,8 +7,8 @@ use Rattle.tt_proof.proofs.outline_read.+outline.Given as goal
 abbrev pub decreases-read_outline : goal.decreases-read_outline
 decreases-read_outline l = 4 * l.left + 3
 
-abbrev pub decreases-read_named : goal.decreases-read_named
-decreases-read_named l = 4 * l.left + 2
+abbrev pub decreases-read_named_outline : goal.decreases-read_named_outline
+decreases-read_named_outline l = 4 * l.left + 2
 
 abbrev pub decreases-read_pick : goal.decreases-read_pick
 decreases-read_pick l = 4 * l.left + 1

@@ -7,8 +7,8 @@ use Rattle.tt_game.specs.declared.turns.Turn.{Turn}
 use Rattle.tt_proof.specs.declared.position_footprint.PositionFootprint.{PositionFootprint}
 use Rattle.tt_proof.specs.declared.outline_replay.ReplayResult.TheVariants.{Won, Unfit}
 use Rattle.tt_proof.specs.Strategy.{number_on}
-use Rattle.tt_proof.specs.Outlines.{Outline, Branches, branch, branches_of_list, outline_of, AreOrderly}
-use Rattle.tt_proof.specs.SharedParts.{FindsOutline, IsResultBeforeTurn, IsResultOfName, IsResultOfReply, RestsBeforePick, RestsBeforeReply, RestsOnPosition}
+use Rattle.tt_proof.specs.Outlines.{Outline, Branches, branch, branches_of_reply, outline_of, AreOrderly}
+use Rattle.tt_proof.specs.SharedParts.{FindsOutline, IsResultBeforeTurn, IsResultOfPart, IsResultOfReply, RestsBeforePick, RestsBeforeReply, RestsOnPosition}
 use Rattle.tt_proof.specs.inside.OutlineReplaying.{FindsBranch}
 use Rattle.tt_proof.proofs.ResultLemmas.{if_ok}
 use Rattle.tt_proof.proofs.FootprintLemmas.{refused_bars}
@@ -17,7 +17,7 @@ use Rattle.tt_proof.proofs.OutlineReplayLemmas.{Replayed, replayed_start, replay
 use Rattle.tt_proof.proofs.outline_replay.+play.Goals as goal
 
 pub replay_outline-returns-in-Done-clause-found : goal.replay_outline-returns-in-Done-clause-found
-replay_outline-returns-in-Done-clause-found t c = rw (c.in-Done.is, outline_of_done) (c.found_of_done.ensures, refl)
+replay_outline-returns-in-Done-clause-found t c = rw (c.in-Done.is, outline_of_done) (c.result_of_done.ensures, refl)
 
 pub replay_outline-returns-in-Some-clause-found : goal.replay_outline-returns-in-Some-clause-found
 replay_outline-returns-in-Some-clause-found t c =
@@ -28,23 +28,23 @@ replay_outline-returns-in-Some-clause-found t c =
     let within : k < length ns = search rules in
     let stands : c.in-Some.name.now ≡ get_or ns k c.in-Some.name.now = search rules in
     rw (c.in-Part.is, outline_of_part)
-    (if_ok c.found_of_part.result _ _
-    (λ r g. (subst (λ (n : Option PositionFootprint). IsResultOfName f n at r) (stands ∙ any_other ns k c.in-Some.name.now None within) g, refl)) c.found_of_part.ensures)
+    (if_ok c.result_of_part.result _ _
+    (λ r g. (subst (λ (n : Option PositionFootprint). IsResultOfPart f n at r) (stands ∙ any_other ns k c.in-Some.name.now None within) g, refl)) c.result_of_part.ensures)
 
 pub replay_outline-returns-in-None-clause-found : goal.replay_outline-returns-in-None-clause-found
 replay_outline-returns-in-None-clause-found t c =
     let ns = c.args.names.now.items in
     let past : length ns ≤ c.in-Part.k = search rules in
-    rw (c.in-Part.is, outline_of_part) (subst (λ (n : Option PositionFootprint). IsResultOfName c.args.line.now.frame n c.args.line.now.state Unfit) (sym (none_past ns c.in-Part.k past)) (λ x e m. some_none x e), refl)
+    rw (c.in-Part.is, outline_of_part) (subst (λ (n : Option PositionFootprint). IsResultOfPart c.args.line.now.frame n c.args.line.now.state Unfit) (sym (none_past ns c.in-Part.k past)) (λ x e m. some_none x e), refl)
 
-pub replay_outline-returns-in_ok-put_name-in-Pick-clause-found : goal.replay_outline-returns-in_ok-put_name-in-Pick-clause-found
-replay_outline-returns-in_ok-put_name-in-Pick-clause-found t c =
-    rw (c.in-Pick.is, outline_of_pick, ← c.deref-in-Pick.ensures) (_, (c.in_ok-put_name-in-Pick.ensures, c.in_ok-found-in-Pick.ensures.found))
+pub replay_outline-returns-in_ok-put_footprint_if_named-in-Pick-clause-found : goal.replay_outline-returns-in_ok-put_footprint_if_named-in-Pick-clause-found
+replay_outline-returns-in_ok-put_footprint_if_named-in-Pick-clause-found t c =
+    rw (c.in-Pick.is, outline_of_pick, ← c.deref-in-Pick.ensures) (_, (c.in_ok-put_footprint_if_named-in-Pick.ensures, c.in_ok-found-in-Pick.ensures.found))
 
-pub replay_outline-returns-in_ok-put_name-in-Reply-clause-found : goal.replay_outline-returns-in_ok-put_name-in-Reply-clause-found
-replay_outline-returns-in_ok-put_name-in-Reply-clause-found t c =
+pub replay_outline-returns-in_ok-put_footprint_if_named-in-Reply-clause-found : goal.replay_outline-returns-in_ok-put_footprint_if_named-in-Reply-clause-found
+replay_outline-returns-in_ok-put_footprint_if_named-in-Reply-clause-found t c =
     rw (c.in-Reply.is, outline_of_reply, ← c.deref-in-Reply.ensures, ← c.deref-in-Reply-2.ensures.value)
-    (_, (c.in_ok-put_name-in-Reply.ensures, c.in_ok-found-in-Reply.ensures.found))
+    (_, (c.in_ok-put_footprint_if_named-in-Reply.ensures, c.in_ok-found-in-Reply.ensures.found))
 
 pub replay_outline-replay_pick-requires : goal.replay_outline-replay_pick-requires
 replay_outline-replay_pick-requires t c =
@@ -65,9 +65,9 @@ replay_pick-returns-in-Ok-found-clause-found t c =
     let mine : c.args.line.now.state.to_move ≡ s = search rules in
     let behind = subst (λ (l : LineWithUndo). FindsOutline s l.frame c.args.names.now.items o l.state c.in-Ok-found.behind c.replay_outline-found.new.names.items)
     c.in-Ok.ensures.ok.1 c.in-Ok-found.ensures.found in
-    let more = subst (λ (l : LineWithUndo). IfOk c.found_before_pick.result (IsResultBeforeTurn (RestsBeforePick l.frame l.state turn) c.in-Ok-found.behind))
-    same c.found_before_pick.ensures in
-    if_ok c.found_before_pick.result _ _ (λ r g. inl (mine, c.in-Ok.ensures.ok.0, (c.in-Ok-found.behind, (behind, g)))) more
+    let more = subst (λ (l : LineWithUndo). IfOk c.result_before_pick.result (IsResultBeforeTurn (RestsBeforePick l.frame l.state turn) c.in-Ok-found.behind))
+    same c.result_before_pick.ensures in
+    if_ok c.result_before_pick.result _ _ (λ r g. inl (mine, c.in-Ok.ensures.ok.0, (c.in-Ok-found.behind, (behind, g)))) more
 
 pub replay_pick-returns-in_ok-skip-in-Err-Illegal-clause-found : goal.replay_pick-returns-in_ok-skip-in-Err-Illegal-clause-found
 replay_pick-returns-in_ok-skip-in-Err-Illegal-clause-found t c = inr (
@@ -82,15 +82,15 @@ replay_pick-returns-then-ne-clause-found t c =
     let differs : c.args.line.now.state.to_move ≢ c.args.s = search rules in
     inr (λ e l. differs e, refl, c.in_ok-skip.ensures)
 
-pub replay_reply-returns-then-not-is_asked-clause-found : goal.replay_reply-returns-then-not-is_asked-clause-found
-replay_reply-returns-then-not-is_asked-clause-found t c =
-    inr (λ e d. true≢false (sym (c.is_asked.ensures.1 (e, d)) ∙ c.if-not-is_asked.true), refl, c.in_ok-skip_each.ensures)
+pub replay_reply-returns-then-not-awaits_other_side-clause-found : goal.replay_reply-returns-then-not-awaits_other_side-clause-found
+replay_reply-returns-then-not-awaits_other_side-clause-found t c =
+    inr (λ e d. true≢false (sym (c.awaits_other_side.ensures.1 (e, d)) ∙ c.if-not-awaits_other_side.true), refl, c.in_ok-skip_branches.ensures)
 
 pub replay_reply-returns-in-Ok-clause-found : goal.replay_reply-returns-in-Ok-clause-found
 replay_reply-returns-in-Ok-clause-found t c =
-    let asked = c.is_asked.ensures.0 c.if-not-is_asked.false in
-    let more = subst (λ (l : LineWithUndo). IsResultOfReply l.frame l.state (branches_of_list c.args.list.now) c.in-Ok.found c.found_of_reply.result)
-    c.in-Ok.ensures.same c.found_of_reply.ensures in
+    let asked = c.awaits_other_side.ensures.0 c.if-not-awaits_other_side.false in
+    let more = subst (λ (l : LineWithUndo). IsResultOfReply l.frame l.state (branches_of_reply c.args.list.now) c.in-Ok.found c.result_of_reply.result)
+    c.in-Ok.ensures.same c.result_of_reply.ensures in
     inl (asked.0, asked.1, (c.in-Ok.found, (c.in-Ok.ensures.found, more)))
 
 pub replay_branch-returns-in-Ok-found-clause-found : goal.replay_branch-returns-in-Ok-found-clause-found
@@ -101,8 +101,8 @@ replay_branch-returns-in-Ok-found-clause-found t c =
     let o = outline_of c.args.child.now in
     let behind = subst (λ (l : LineWithUndo). FindsOutline s l.frame c.args.names.now.items o l.state c.in-Ok-found.behind c.replay_outline-found.new.names.items)
     c.in-Ok.ensures.ok.1 c.in-Ok-found.ensures.found in
-    let more = subst (λ (l : LineWithUndo). IsResultBeforeTurn (RestsBeforeReply l.frame l.state turn) c.in-Ok-found.behind c.replayed_before_turn.result)
-    same c.replayed_before_turn.ensures in
+    let more = subst (λ (l : LineWithUndo). IsResultBeforeTurn (RestsBeforeReply l.frame l.state turn) c.in-Ok-found.behind c.result_before_reply.result)
+    same c.result_before_reply.ensures in
     inl (c.in-Ok.ensures.ok.0, (c.in-Ok-found.behind, (behind, more)))
 
 pub replay_branch-returns-in_ok-skip-in-Err-Illegal-clause-found : goal.replay_branch-returns-in_ok-skip-in-Err-Illegal-clause-found
@@ -126,12 +126,12 @@ replay_branches-loop-turn-init t c =
     let list = c.args.list.now in
     let f = c.args.line.now.frame in
     let at = c.args.line.now.state in
-    let bs = branches_of_list list in
+    let bs = branches_of_reply list in
     record {
       same = refl;
-      orderly = (0, subst (λ xs. AreOrderly f.size 0 (branches_of_list xs)) (sym (drop_none list)) c.requires.orderly);
+      orderly = (0, subst (λ xs. AreOrderly f.size 0 (branches_of_reply xs)) (sym (drop_none list)) c.requires.orderly);
       replayed =
-          subst (λ xs. Replayed c.args.s f at c.args.names.now.items bs (branches_of_list xs) c.args.names.now.items (Won c.in_ok-basis.basis)) (sym (drop_none list))
+          subst (λ xs. Replayed c.args.s f at c.args.names.now.items bs (branches_of_reply xs) c.args.names.now.items (Won c.in_ok-basis.basis)) (sym (drop_none list))
           (replayed_start c.args.s f at c.args.names.now.items bs c.in_ok-basis.basis c.in_ok-basis.ensures);
     }
 
@@ -147,8 +147,8 @@ replay_branches-loop-turn-preserved t c =
     let s = c.args.s in
     let f = c.args.line.now.frame in
     let at = c.args.line.now.state in
-    let bs = branches_of_list list in
-    let left = branches_of_list (drop (n + 1) list) in
+    let bs = branches_of_reply list in
+    let left = branches_of_reply (drop (n + 1) list) in
     let o = outline_of item.1 in
     let ns = c.args.names.now.items in
     let new = c.replay_branch.new in
@@ -159,10 +159,10 @@ replay_branches-loop-turn-preserved t c =
       orderly =
           subst (λ (l : LineWithUndo). (least : ℕ) × AreOrderly l.frame.size least left) (sym c.replay_branch.ensures.same)
           (rest_orderly c.loop-turn.line.frame.size c.loop-turn.invariant.orderly.0 item.0 o left
-          (subst (λ xs. AreOrderly c.loop-turn.line.frame.size c.loop-turn.invariant.orderly.0 (branches_of_list xs)) rest c.loop-turn.invariant.orderly.1));
+          (subst (λ xs. AreOrderly c.loop-turn.line.frame.size c.loop-turn.invariant.orderly.0 (branches_of_reply xs)) rest c.loop-turn.invariant.orderly.1));
       replayed =
           replayed_more s f at ns bs left item.0 o c.loop-turn.names.items new.names.items c.loop-turn.found c.in_ok-next.next _
-          (subst (λ xs. Replayed s f at ns bs (branches_of_list xs) c.loop-turn.names.items c.loop-turn.found) rest c.loop-turn.invariant.replayed)
+          (subst (λ xs. Replayed s f at ns bs (branches_of_reply xs) c.loop-turn.names.items c.loop-turn.found) rest c.loop-turn.invariant.replayed)
           found c.in_ok-found.ensures;
     }
 
@@ -172,8 +172,8 @@ replay_branches-returns-clause-found t c =
     let s = c.args.s in
     let f = c.args.line.now.frame in
     let at = c.args.line.now.state in
-    let bs = branches_of_list list in
+    let bs = branches_of_reply list in
     let ns = c.args.names.now.items in
     let end : length list ≤ c.loop-turn.turn-index = search rules in
     replayed_end s f at ns bs c.loop-turn.names.items c.loop-turn.found
-    (subst (λ xs. Replayed s f at ns bs (branches_of_list xs) c.loop-turn.names.items c.loop-turn.found) (drop_of_length-le list end) c.loop-turn.invariant.replayed)
+    (subst (λ xs. Replayed s f at ns bs (branches_of_reply xs) c.loop-turn.names.items c.loop-turn.found) (drop_of_length-le list end) c.loop-turn.invariant.replayed)

@@ -1,13 +1,13 @@
 use Rattle.std.proofs.Common.{◌≡◌, ℕ, zero, suc, ◌<◌, ◌∙◌, List, [], ◌∷◌, length, get_or, inl, inr, sym, ap, arith, rules}
 use Rattle.tt_game.specs.declared.turns.Turn.{Turn}
 use Rattle.tt_proof.specs.declared.tree.Tree.{Tree}
-use Rattle.tt_proof.specs.Strategy.{entries_of_list}
+use Rattle.tt_proof.specs.Strategy.{entries_of_reply}
 use Rattle.tt_proof.specs.inside.Replaying.{HasEntry}
 use Rattle.tt_proof.proofs.replays.has_turn_at.Goals as goal
 
 -- the turn at a place of the list has an entry
 has_at : (list : List (Turn × Tree)) (place : ℕ) (e : Turn × Tree) (t : Turn) → place < length list →
-    e ≡ get_or list place e → e.0 ≡ t → HasEntry (entries_of_list list) t
+    e ≡ get_or list place e → e.0 ≡ t → HasEntry (entries_of_reply list) t
 has_at [] place e t lt is same = absurd (omega arith)
 has_at (x ∷ xs) zero e t lt is same = inl (sym (ap (λ y. y.0) is) ∙ same)
 has_at (x ∷ xs) (suc place) e t lt is same = inr (has_at xs place e t (omega arith) is same)

@@ -1,6 +1,6 @@
 use Rattle.std.proofs.Common.{length, refl, sym, ap, subst, ◌∙◌, arith}
 use Rattle.tt_search.specs.inside.Edges.{AreFresh}
-use Rattle.tt_search.specs.MostProving.{first_least}
+use Rattle.tt_search.specs.MostProving.{first_least_index}
 use Rattle.tt_search.proofs.FreshRows.{ones, first_ones}
 use Rattle.tt_search.proofs.Untried.{fresh_grown}
 use Rattle.tt_search.proofs.leaves.untried_children.Goals as goal
@@ -13,6 +13,6 @@ returns-clause-kept c =
     record {
       few = omega (arith, ap length is, c.requires.few);
       whole = fresh_grown es fresh ∙ sym (ap length c.in_ok-grown.ensures.items);
-      index = sym (ap first_least (ones c.args.mover es c.in_ok-grown.grown.items fresh) ∙ first_ones (length es) (omega (arith, ap length is, c.requires.some)));
+      index = sym (ap first_least_index (ones c.args.mover es c.in_ok-grown.grown.items fresh) ∙ first_ones (length es) (omega (arith, ap length is, c.requires.some)));
       rank = refl;
     }

@@ -20,4 +20,4 @@ invariant_of-result c =
     let all : capped_sum (numbers (opponent c.args.mover) (children_of (edge_trees es []))) ≡ length es =
     ap capped_sum (ones (opponent c.args.mover) es [] c.requires.fresh) ∙ capped_ones (length es) (omega (arith, c.requires.few)) in
     let many : c.from.result + 1 ≡ length es = omega (arith, c.from.ensures, c.len.ensures, length_push c.args.plays (fresh_edge MOST_POINTS)) in
-    (c.by_goal-proof.ensures (node_with x) (pair_of x 1 (c.from.result + 1) own (many ∙ sym all)), c.requires)
+    (c.proof_and_disproof-proof.ensures (node_with x) (pair_of x 1 (c.from.result + 1) own (many ∙ sym all)), c.requires)

@@ -85,60 +85,60 @@ pub node::Node::grow-returns-then-is_one_step-clause-steps : goal.node::Node::gr
 node::Node::grow-returns-then-is_one_step-clause-steps g t c =
     let first = stage c.args.self.now c.args.walk.now.left in
     let now = stage c.rounds.self c.rounds.walk.left in
-    let new = stage c.round-step.new.self c.round-step.new.walk.left in
+    let new = stage c.grow_once-step.new.self c.grow_once-step.new.walk.left in
     let same = same_stand c.rounds.walk c.args.walk.now c.rounds.invariant.line c.rounds.invariant.room in
-    let steps = subst (λ at. AreStepsAt c.args.stop at now c.round-step.result new) same c.round-step.ensures.steps in
-    last_round c.args.stop (stand_of c.args.walk.now) first now c.round-step.result new steps c.rounds.invariant.under_way
+    let steps = subst (λ at. AreStepsAt c.args.stop at now c.grow_once-step.result new) same c.grow_once-step.ensures.steps in
+    last_round c.args.stop (stand_of c.args.walk.now) first now c.grow_once-step.result new steps c.rounds.invariant.under_way
 
 pub node::Node::grow-returns-then-number-proof-clause-steps : goal.node::Node::grow-returns-then-number-proof-clause-steps
 node::Node::grow-returns-then-number-proof-clause-steps g t c =
     let first = stage c.args.self.now c.args.walk.now.left in
     let now = stage c.rounds.self c.rounds.walk.left in
-    let new = stage c.round-step.new.self c.round-step.new.walk.left in
+    let new = stage c.grow_once-step.new.self c.grow_once-step.new.walk.left in
     let same = same_stand c.rounds.walk c.args.walk.now c.rounds.invariant.line c.rounds.invariant.room in
-    let steps = subst (λ at. AreStepsAt c.args.stop at now c.round-step.result new) same c.round-step.ensures.steps in
-    last_round c.args.stop (stand_of c.args.walk.now) first now c.round-step.result new steps c.rounds.invariant.under_way
+    let steps = subst (λ at. AreStepsAt c.args.stop at now c.grow_once-step.result new) same c.grow_once-step.ensures.steps in
+    last_round c.args.stop (stand_of c.args.walk.now) first now c.grow_once-step.result new steps c.rounds.invariant.under_way
 
 pub node::Node::grow-returns-then-is_one_step-clause-descends : goal.node::Node::grow-returns-then-is_one_step-clause-descends
 node::Node::grow-returns-then-is_one_step-clause-descends g t c =
     let far = c.rounds.invariant in
-    last_of g.G.Grants.asked g.G.Grants.source g.S.Store.may_answer c.args.stop c.args.walk.now (record c.rounds.walk { offering = true }) c.args.grants.now c.rounds.grants c.round-step.result
-    c.round-step.new.walk c.round-step.new.grants far.line far.room far.granted far.source far.far c.round-step.ensures.descends
+    last_of g.G.Grants.asked g.G.Grants.source g.S.Store.may_answer c.args.stop c.args.walk.now (record c.rounds.walk { offering = true }) c.args.grants.now c.rounds.grants c.grow_once-step.result
+    c.grow_once-step.new.walk c.grow_once-step.new.grants far.line far.room far.granted far.source far.far c.grow_once-step.ensures.descends
 
 pub node::Node::grow-returns-then-number-proof-clause-descends : goal.node::Node::grow-returns-then-number-proof-clause-descends
 node::Node::grow-returns-then-number-proof-clause-descends g t c =
     let far = c.rounds.invariant in
-    last_of g.G.Grants.asked g.G.Grants.source g.S.Store.may_answer c.args.stop c.args.walk.now (record c.rounds.walk { offering = true }) c.args.grants.now c.rounds.grants c.round-step.result
-    c.round-step.new.walk c.round-step.new.grants far.line far.room far.granted far.source far.far c.round-step.ensures.descends
+    last_of g.G.Grants.asked g.G.Grants.source g.S.Store.may_answer c.args.stop c.args.walk.now (record c.rounds.walk { offering = true }) c.args.grants.now c.rounds.grants c.grow_once-step.result
+    c.grow_once-step.new.walk c.grow_once-step.new.grants far.line far.room far.granted far.source far.far c.grow_once-step.ensures.descends
 
 pub node::Node::grow-rounds-smaller : goal.node::Node::grow-rounds-smaller
 node::Node::grow-rounds-smaller g t c =
-    let changed : (c.round-step.result ≡ Expanded) ⊎ (c.round-step.result ≡ Closed) = search rules in
+    let changed : (c.grow_once-step.result ≡ Expanded) ⊎ (c.grow_once-step.result ≡ Closed) = search rules in
     let now = stage c.rounds.self c.rounds.walk.left in
-    let new = stage c.round-step.new.self c.round-step.new.walk.left in
-    round_falls c.args.stop (stand_of c.rounds.walk) now now c.round-step.result new c.round-step.ensures.steps changed c.rounds.invariant.under_way.may_grow.undecided
+    let new = stage c.grow_once-step.new.self c.grow_once-step.new.walk.left in
+    round_falls c.args.stop (stand_of c.rounds.walk) now now c.grow_once-step.result new c.grow_once-step.ensures.steps changed c.rounds.invariant.under_way.may_grow.undecided
 
 pub node::Node::grow-rounds-preserved : goal.node::Node::grow-rounds-preserved
 node::Node::grow-rounds-preserved g t c =
-    let changed : (c.round-step.result ≡ Expanded) ⊎ (c.round-step.result ≡ Closed) = search rules in
-    let proof : number Attacker c.round-step.new.self ≡ number Attacker c.rounds.self = search rules in
-    let disproof : number Defender c.round-step.new.self ≡ number Defender c.rounds.self = search rules in
+    let changed : (c.grow_once-step.result ≡ Expanded) ⊎ (c.grow_once-step.result ≡ Closed) = search rules in
+    let proof : number Attacker c.grow_once-step.new.self ≡ number Attacker c.rounds.self = search rules in
+    let disproof : number Defender c.grow_once-step.new.self ≡ number Defender c.rounds.self = search rules in
     let first = stage c.args.self.now c.args.walk.now.left in
     let now = stage c.rounds.self c.rounds.walk.left in
-    let new = stage c.round-step.new.self c.round-step.new.walk.left in
+    let new = stage c.grow_once-step.new.self c.grow_once-step.new.walk.left in
     let same = same_stand c.rounds.walk c.args.walk.now c.rounds.invariant.line c.rounds.invariant.room in
-    let steps = subst (λ at. AreStepsAt c.args.stop at now c.round-step.result new) same c.round-step.ensures.steps in
+    let steps = subst (λ at. AreStepsAt c.args.stop at now c.grow_once-step.result new) same c.grow_once-step.ensures.steps in
     record {
-      line = c.round-step.ensures.descends.line ∙ c.rounds.invariant.line;
-      room = c.round-step.ensures.descends.room ∙ c.rounds.invariant.room;
-      granted = c.round-step.ensures.descends.granted ∙ c.rounds.invariant.granted;
-      source = c.round-step.ensures.descends.source_stays ∙ c.rounds.invariant.source;
+      line = c.grow_once-step.ensures.descends.line ∙ c.rounds.invariant.line;
+      room = c.grow_once-step.ensures.descends.room ∙ c.rounds.invariant.room;
+      granted = c.grow_once-step.ensures.descends.granted ∙ c.rounds.invariant.granted;
+      source = c.grow_once-step.ensures.descends.source_stays ∙ c.rounds.invariant.source;
       far =
-          granted_more c.args.stop (g.G.Grants.asked c.args.grants.now) (g.G.Grants.asked c.rounds.grants) (g.G.Grants.asked c.round-step.new.grants) c.round-step.result
-          c.rounds.invariant.far c.round-step.ensures.descends.asked_for c.is_one_step.result c.is_one_step.ensures c.if-is_one_step.false changed;
+          granted_more c.args.stop (g.G.Grants.asked c.args.grants.now) (g.G.Grants.asked c.rounds.grants) (g.G.Grants.asked c.grow_once-step.new.grants) c.grow_once-step.result
+          c.rounds.invariant.far c.grow_once-step.ensures.descends.asked_for c.is_one_step.result c.is_one_step.ensures c.if-is_one_step.false changed;
       under_way =
-          next_round c.args.stop (stand_of c.args.walk.now) first now c.round-step.result new steps
-          c.is_one_step.result c.is_one_step.ensures c.if-is_one_step.false c.rounds.invariant.under_way changed (same_numbers c.rounds.self c.round-step.new.self proof disproof);
+          next_round c.args.stop (stand_of c.args.walk.now) first now c.grow_once-step.result new steps
+          c.is_one_step.result c.is_one_step.ensures c.if-is_one_step.false c.rounds.invariant.under_way changed (same_numbers c.rounds.self c.grow_once-step.new.self proof disproof);
     }
 
 -- ---- the best child of a node
@@ -183,8 +183,8 @@ children::ChildNodes::grow_best-child-child-requires-clause-there g t c =
     let steps = c.grow_at-step.ensures.steps in
     index_there c.args.focus.now.mover x c.grow_at-step.new.self c.from-index.result steps.0 is in_trees steps.2
 
-pub children::ChildNodes::grow_best-sum_after-other-requires-clause-part : goal.children::ChildNodes::grow_best-sum_after-other-requires-clause-part
-children::ChildNodes::grow_best-sum_after-other-requires-clause-part g t c =
+pub children::ChildNodes::grow_best-opponent_sum_after-other-requires-clause-part : goal.children::ChildNodes::grow_best-opponent_sum_after-other-requires-clause-part
+children::ChildNodes::grow_best-opponent_sum_after-other-requires-clause-part g t c =
     let a = c.args.focus.now.mover in
     let x = c.args.self.now in
     let there : best_index (choices_of a x) < length (edge_trees x.edges x.grown.items) = omega (arith, c.requires.there, c.requires.kept.kept.index, length-trees_by_turn x.edges x.grown.items) in
@@ -194,8 +194,8 @@ children::ChildNodes::grow_best-sum_after-other-requires-clause-part g t c =
     (child_tree c.child-child.result) c.child-child.ensures c.opponent-goal.result c.opponent-goal.ensures (child_tree c.child.result) c.child.ensures
     c.number-old.result c.number-new.result c.number-old.ensures c.number-new.ensures
 
-pub children::ChildNodes::grow_best-sum_after-other-requires-clause-changed : goal.children::ChildNodes::grow_best-sum_after-other-requires-clause-changed
-children::ChildNodes::grow_best-sum_after-other-requires-clause-changed g t c =
+pub children::ChildNodes::grow_best-opponent_sum_after-other-requires-clause-changed : goal.children::ChildNodes::grow_best-opponent_sum_after-other-requires-clause-changed
+children::ChildNodes::grow_best-opponent_sum_after-other-requires-clause-changed g t c =
     let a = c.args.focus.now.mover in
     let x = c.args.self.now in
     let there : best_index (choices_of a x) < length (edge_trees x.edges x.grown.items) = omega (arith, c.requires.there, c.requires.kept.kept.index, length-trees_by_turn x.edges x.grown.items) in
@@ -224,9 +224,9 @@ children::ChildNodes::grow_best-returns-then-own-was-clause-kept g t c =
         rank = c.requires.kept.kept.rank ∙ ap (λ i. grown_in (take i x.edges)) (sym c.from-index.ensures) ∙ ap grown_in (sym c.grow_at-step.ensures.before)
             ∙ ap (λ i. grown_in (take i new.edges)) c.from-index.ensures;
       };
-      pair = pair_of (choices_of a new) c.number-own.result c.sum_after-other.result
+      pair = pair_of (choices_of a new) c.number-own.result c.opponent_sum_after-other.result
           (own_now a x new c.from-index.result (choices_of a x) c.args.was refl c.requires.kept.pair is there steps.0 steps.2
-          (child_tree c.child-child.result) c.child-child.ensures c.number-own.result c.number-own.ensures c.if-own-was.true) c.sum_after-other.ensures;
+          (child_tree c.child-child.result) c.child-child.ensures c.number-own.result c.number-own.ensures c.if-own-was.true) c.opponent_sum_after-other.ensures;
     }
 
 pub children::ChildNodes::grow_best-best-best-requires-clause-lowest : goal.children::ChildNodes::grow_best-best-best-requires-clause-lowest
@@ -260,7 +260,7 @@ children::ChildNodes::grow_best-returns-clause-kept g t c =
         index = c.best-best.ensures.index;
         rank = c.best-best.ensures.rank;
       };
-      pair = pair_of (choices_of a new) c.best-best.result.least c.sum_after-other.result c.best-best.ensures.least c.sum_after-other.ensures;
+      pair = pair_of (choices_of a new) c.best-best.result.least c.opponent_sum_after-other.result c.best-best.ensures.least c.opponent_sum_after-other.ensures;
     }
 
 -- ---- a descent below a node with these children
@@ -309,13 +309,13 @@ children::ChildNodes::descend-returns-clause-steps g t c =
 
 -- ---- the descent of a round
 
-pub node::Node::round-invariant_of-self : goal.node::Node::round-invariant_of-self
-node::Node::round-invariant_of-self g t c =
+pub node::Node::grow_once-invariant_of-self : goal.node::Node::grow_once-invariant_of-self
+node::Node::grow_once-invariant_of-self g t c =
     let new = node_with (choices_of c.descend-step.new.focus.mover c.descend-step.new.self) in
-    (c.by_goal-proof.ensures new c.descend-step.ensures.kept.pair, c.descend-step.ensures.kept.kept)
+    (c.proof_and_disproof-proof.ensures new c.descend-step.ensures.kept.pair, c.descend-step.ensures.kept.kept)
 
-pub node::Node::round-offer-walk-requires-clause-partial : goal.node::Node::round-offer-walk-requires-clause-partial
-node::Node::round-offer-walk-requires-clause-partial g t c =
+pub node::Node::grow_once-offer_proof-walk-requires-clause-partial : goal.node::Node::grow_once-offer_proof-walk-requires-clause-partial
+node::Node::grow_once-offer_proof-walk-requires-clause-partial g t c =
     let walk = c.args.walk.now in
     let after = c.descend-step.new.walk in
     let new = node_with (choices_of c.descend-step.new.focus.mover c.descend-step.new.self) in
@@ -323,8 +323,8 @@ node::Node::round-offer-walk-requires-clause-partial g t c =
     let offerable = steps_offerable c.args.stop walk.line walk.room (stage c.args.self.now walk.left) c.descend-step.result.0 (stage new after.left) c.requires.room c.requires.may_grow steps in
     (subst (λ line. IsOfferable line new) (sym c.descend-step.ensures.descends.line) offerable).0
 
-pub node::Node::round-offer-walk-requires-clause-stays : goal.node::Node::round-offer-walk-requires-clause-stays
-node::Node::round-offer-walk-requires-clause-stays g t c =
+pub node::Node::grow_once-offer_proof-walk-requires-clause-stays : goal.node::Node::grow_once-offer_proof-walk-requires-clause-stays
+node::Node::grow_once-offer_proof-walk-requires-clause-stays g t c =
     let walk = c.args.walk.now in
     let after = c.descend-step.new.walk in
     let new = node_with (choices_of c.descend-step.new.focus.mover c.descend-step.new.self) in
@@ -332,17 +332,19 @@ node::Node::round-offer-walk-requires-clause-stays g t c =
     let offerable = steps_offerable c.args.stop walk.line walk.room (stage c.args.self.now walk.left) c.descend-step.result.0 (stage new after.left) c.requires.room c.requires.may_grow steps in
     (subst (λ line. IsOfferable line new) (sym c.descend-step.ensures.descends.line) offerable).1
 
-pub node::Node::round-returns-in-Some-clause-steps : goal.node::Node::round-returns-in-Some-clause-steps
-node::Node::round-returns-in-Some-clause-steps g t c =
+pub node::Node::grow_once-returns-in-Some-clause-steps : goal.node::Node::grow_once-returns-in-Some-clause-steps
+node::Node::grow_once-returns-in-Some-clause-steps g t c =
     let walk = c.args.walk.now in
     let after = c.descend-step.new.walk in
     let new = node_with (choices_of c.descend-step.new.focus.mover c.descend-step.new.self) in
     let steps = subst (λ (n : PartialTree). AreSteps c.args.stop walk n c.descend-step.result.0 new after) (sym (ap shape c.in-Expanded.is) ∙ c.self.view_is) c.descend-step.ensures.steps in
-    subst (λ (w : Descent). AreStepsAt c.args.stop (stand_of walk) (stage c.args.self.now walk.left) c.descend-step.result.0 (stage c.offer-walk.new.self w.left)) (sym c.offer-walk.ensures.walk)
-    (subst (λ (tree : PartialTree). AreStepsAt c.args.stop (stand_of walk) (stage c.args.self.now walk.left) c.descend-step.result.0 (stage tree after.left)) (sym c.offer-walk.ensures.same) steps)
+    subst (λ (w : Descent). AreStepsAt c.args.stop (stand_of walk) (stage c.args.self.now walk.left) c.descend-step.result.0 (stage c.offer_proof-walk.new.self w.left))
+    (sym c.offer_proof-walk.ensures.walk)
+    (subst (λ (tree : PartialTree). AreStepsAt c.args.stop (stand_of walk) (stage c.args.self.now walk.left) c.descend-step.result.0 (stage tree after.left))
+    (sym c.offer_proof-walk.ensures.same) steps)
 
-pub node::Node::round-returns-in_default-clause-steps : goal.node::Node::round-returns-in_default-clause-steps
-node::Node::round-returns-in_default-clause-steps g t c =
+pub node::Node::grow_once-returns-in_default-clause-steps : goal.node::Node::grow_once-returns-in_default-clause-steps
+node::Node::grow_once-returns-in_default-clause-steps g t c =
     let walk = c.args.walk.now in
     let after = c.descend-step.new.walk in
     let new = node_with (choices_of c.descend-step.new.focus.mover c.descend-step.new.self) in
@@ -351,13 +353,13 @@ node::Node::round-returns-in_default-clause-steps g t c =
 
 -- ---- the first descent below a node of which no turn has been tried
 
-pub node::Node::first_round-invariant_of-self : goal.node::Node::first_round-invariant_of-self
-node::Node::first_round-invariant_of-self g t c =
+pub node::Node::grow_untried-invariant_of-self : goal.node::Node::grow_untried-invariant_of-self
+node::Node::grow_untried-invariant_of-self g t c =
     let new = node_with (choices_of c.descend-step.new.focus.mover c.descend-step.new.self) in
-    (c.by_goal-proof.ensures new c.descend-step.ensures.kept.pair, c.descend-step.ensures.kept.kept)
+    (c.proof_and_disproof-proof.ensures new c.descend-step.ensures.kept.pair, c.descend-step.ensures.kept.kept)
 
-pub node::Node::first_round-offer-walk-requires-clause-partial : goal.node::Node::first_round-offer-walk-requires-clause-partial
-node::Node::first_round-offer-walk-requires-clause-partial g t c =
+pub node::Node::grow_untried-offer_proof-walk-requires-clause-partial : goal.node::Node::grow_untried-offer_proof-walk-requires-clause-partial
+node::Node::grow_untried-offer_proof-walk-requires-clause-partial g t c =
     let walk = c.args.walk.now in
     let after = c.descend-step.new.walk in
     let new = node_with (choices_of c.descend-step.new.focus.mover c.descend-step.new.self) in
@@ -366,8 +368,8 @@ node::Node::first_round-offer-walk-requires-clause-partial g t c =
     c.requires.ready.room c.requires.ready.may_grow steps in
     (subst (λ line. IsOfferable line new) (sym c.descend-step.ensures.descends.line) offerable).0
 
-pub node::Node::first_round-offer-walk-requires-clause-stays : goal.node::Node::first_round-offer-walk-requires-clause-stays
-node::Node::first_round-offer-walk-requires-clause-stays g t c =
+pub node::Node::grow_untried-offer_proof-walk-requires-clause-stays : goal.node::Node::grow_untried-offer_proof-walk-requires-clause-stays
+node::Node::grow_untried-offer_proof-walk-requires-clause-stays g t c =
     let walk = c.args.walk.now in
     let after = c.descend-step.new.walk in
     let new = node_with (choices_of c.descend-step.new.focus.mover c.descend-step.new.self) in
@@ -376,17 +378,19 @@ node::Node::first_round-offer-walk-requires-clause-stays g t c =
     c.requires.ready.room c.requires.ready.may_grow steps in
     (subst (λ line. IsOfferable line new) (sym c.descend-step.ensures.descends.line) offerable).1
 
-pub node::Node::first_round-returns-in-Some-clause-steps : goal.node::Node::first_round-returns-in-Some-clause-steps
-node::Node::first_round-returns-in-Some-clause-steps g t c =
+pub node::Node::grow_untried-returns-in-Some-clause-steps : goal.node::Node::grow_untried-returns-in-Some-clause-steps
+node::Node::grow_untried-returns-in-Some-clause-steps g t c =
     let walk = c.args.walk.now in
     let after = c.descend-step.new.walk in
     let new = node_with (choices_of c.descend-step.new.focus.mover c.descend-step.new.self) in
     let steps = subst (λ (n : PartialTree). AreSteps c.args.stop walk n c.descend-step.result.0 new after) (c.requires.same) c.descend-step.ensures.steps in
-    subst (λ (w : Descent). AreStepsAt c.args.stop (stand_of walk) (stage c.args.self.now walk.left) c.descend-step.result.0 (stage c.offer-walk.new.self w.left)) (sym c.offer-walk.ensures.walk)
-    (subst (λ (tree : PartialTree). AreStepsAt c.args.stop (stand_of walk) (stage c.args.self.now walk.left) c.descend-step.result.0 (stage tree after.left)) (sym c.offer-walk.ensures.same) steps)
+    subst (λ (w : Descent). AreStepsAt c.args.stop (stand_of walk) (stage c.args.self.now walk.left) c.descend-step.result.0 (stage c.offer_proof-walk.new.self w.left))
+    (sym c.offer_proof-walk.ensures.walk)
+    (subst (λ (tree : PartialTree). AreStepsAt c.args.stop (stand_of walk) (stage c.args.self.now walk.left) c.descend-step.result.0 (stage tree after.left))
+    (sym c.offer_proof-walk.ensures.same) steps)
 
-pub node::Node::first_round-returns-in_default-clause-steps : goal.node::Node::first_round-returns-in_default-clause-steps
-node::Node::first_round-returns-in_default-clause-steps g t c =
+pub node::Node::grow_untried-returns-in_default-clause-steps : goal.node::Node::grow_untried-returns-in_default-clause-steps
+node::Node::grow_untried-returns-in_default-clause-steps g t c =
     let walk = c.args.walk.now in
     let after = c.descend-step.new.walk in
     let new = node_with (choices_of c.descend-step.new.focus.mover c.descend-step.new.self) in

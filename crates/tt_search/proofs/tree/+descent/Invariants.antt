@@ -8,11 +8,11 @@ use Rattle.tt_search.proofs.tree.+descent.Given as goal
 abbrev pub decreases-node::Node::grow : goal.decreases-node::Node::grow
 decreases-node::Node::grow g l = l.walk.now.room * 8 + 3
 
-abbrev pub decreases-node::Node::round : goal.decreases-node::Node::round
-decreases-node::Node::round g l = l.walk.now.room * 8 + 2
+abbrev pub decreases-node::Node::grow_once : goal.decreases-node::Node::grow_once
+decreases-node::Node::grow_once g l = l.walk.now.room * 8 + 2
 
-abbrev pub decreases-node::Node::first_round : goal.decreases-node::Node::first_round
-decreases-node::Node::first_round g l = l.walk.now.room * 8 + 1
+abbrev pub decreases-node::Node::grow_untried : goal.decreases-node::Node::grow_untried
+decreases-node::Node::grow_untried g l = l.walk.now.room * 8 + 1
 
 abbrev pub decreases-children::ChildNodes::descend : goal.decreases-children::ChildNodes::descend
 decreases-children::ChildNodes::descend g l = l.walk.now.room * 8

@@ -1,6 +1,6 @@
 use Rattle.std.proofs.Common.{Err, ap, sym, ◌∙◌}
 use Rattle.std.proofs.lemmas.Result.{err_from_is_err_and}
-use Rattle.tt_sgf.specs.laws.TreeLaws.{tree_within}
+use Rattle.tt_sgf.specs.laws.TreeLaws.{tree_ends_within}
 use Rattle.tt_sgf.proofs.LoopLemmas.{same_err, not_too_long}
 use Rattle.tt_sgf.proofs.FirstTreeLemmas.{no_tree_without, no_tree_there, rest_fits, tree_there, begins_rest, never_rest, line_is}
 use Rattle.tt_sgf.proofs.trees.read_tree.Goals as goal
@@ -30,7 +30,7 @@ pub returns-clause-within : goal.returns-clause-within
 returns-clause-within c =
     let s = c.in-Some.ensures in
     let f = c.in_ok-nodes.ensures.found in
-    let within = tree_within c.args.bytes.now _ f.0 (tree_there c.args.bytes.now c.in-Some.start s.0 s.1 s.2 f.0 _ (begins_rest c.args.bytes.now _ f.0 _ f.1)) in
+    let within = tree_ends_within c.args.bytes.now _ f.0 (tree_there c.args.bytes.now c.in-Some.start s.0 s.1 s.2 f.0 _ (begins_rest c.args.bytes.now _ f.0 _ f.1)) in
     (within.0, within.1, c.if-bytes-gt-MAX_BYTES.false)
 
 pub returns-clause-line : goal.returns-clause-line

@@ -7,7 +7,7 @@ pub loop-lesser-preserved : goal.loop-lesser-preserved
 loop-lesser-preserved c =
     let ends = c.args.ends.now in
     not_stuck_more ends c.loop-lesser.lesser c.loop-lesser.invariant
-    (λ stuck. false≢true (sym c.if-is_stuck_in.false ∙ c.is_stuck_in.ensures.1
+    (λ stuck. false≢true (sym c.if-is_some_stuck.false ∙ c.is_some_stuck.ensures.1
     (stuck_in ends c.loop-lesser.lesser c.index-ends-lesser.result c.loop-lesser-test.true c.index-ends-lesser.is stuck)))
 
 pub returns-then-lesser-job : goal.returns-then-lesser-job
@@ -15,11 +15,11 @@ returns-then-lesser-job c =
     let past : c.args.job ≤ c.loop-lesser.lesser = omega arith in
     (λ up. absurd (false≢true up), λ h. absurd (c.loop-lesser.invariant h.0 (let low = h.1 in omega (arith, low, past)) h.2))
 
-pub returns-then-is_stuck_in : goal.returns-then-is_stuck_in
-returns-then-is_stuck_in c =
+pub returns-then-is_some_stuck : goal.returns-then-is_some_stuck
+returns-then-is_some_stuck c =
     let ends = c.args.ends.now in
     let low : c.loop-lesser.lesser < c.args.job = omega arith in
-    let stuck = stuck_here ends c.loop-lesser.lesser c.index-ends-lesser.result c.loop-lesser-test.true c.index-ends-lesser.is (c.is_stuck_in.ensures.0 c.if-is_stuck_in.true) in
+    let stuck = stuck_here ends c.loop-lesser.lesser c.index-ends-lesser.result c.loop-lesser-test.true c.index-ends-lesser.is (c.is_some_stuck.ensures.0 c.if-is_some_stuck.true) in
     (λ up. (c.loop-lesser.lesser, low, stuck), λ h. refl)
 
 pub returns : goal.returns

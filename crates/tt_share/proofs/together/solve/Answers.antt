@@ -5,18 +5,18 @@ use Rattle.tt_share.specs.Answers.{IsAnswer}
 use Rattle.tt_share.proofs.together.solve.Goals as goal
 
 pub returns-in_default : goal.returns-in_default
-returns-in_default g c = c.no_memory.ensures c.args.line.now c.args.limits.now c.args.total
+returns-in_default g c = c.no_memory_answer.ensures c.args.line.now c.args.limits.now c.args.total
 
 pub returns-in-Ok-search_together : goal.returns-in-Ok-search_together
 returns-in-Ok-search_together g c =
     let last = c.search_together.new.results in
-    let line = c.search_together.ensures.line.0 ∙ c.in-Ok-begin.ensures.line in
-    let limits = c.search_together.ensures.line.1 ∙ c.in-Ok-begin.ensures.limits in
+    let line = c.search_together.ensures.line.0 ∙ c.in-Ok-results_or_answer.ensures.line in
+    let limits = c.search_together.ensures.line.1 ∙ c.in-Ok-results_or_answer.ensures.limits in
     subst (λ (l : LineWithUndo). IsAnswer l c.args.limits.now c.args.total c.finish.result) line
     (subst (λ (m : Limits). IsAnswer last.line m c.args.total c.finish.result) limits (c.finish.ensures c.args.total c.in-Ok-search_together.ensures.spent.all))
 
-pub returns-in-Ok-begin : goal.returns-in-Ok-begin
-returns-in-Ok-begin g c = c.no_memory-in-Err-search_together.ensures c.args.line.now c.args.limits.now c.args.total
+pub returns-in-Ok-results_or_answer : goal.returns-in-Ok-results_or_answer
+returns-in-Ok-results_or_answer g c = c.no_memory_answer-in-Err-search_together.ensures c.args.line.now c.args.limits.now c.args.total
 
 pub returns : goal.returns
 returns g c = c.in-Err.ensures.answer c.args.total

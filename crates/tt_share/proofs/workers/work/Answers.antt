@@ -34,7 +34,7 @@ search-job-requires g c =
 pub loop-job-smaller : goal.loop-job-smaller
 loop-job-smaller g c =
     let same = ap (λ (p : DeskView × SeatView). p.1) c.search-job.ensures.source in
-    let raised = ap (λ (s : SeatView). length s.numbers) c.raise_for.ensures.seat in
+    let raised = ap (λ (s : SeatView). length s.numbers) c.raise_flag_if.ensures.seat in
     let kept = ap (λ (s : SeatView). length s.numbers) same in
     let drawn = ap (λ (ns : List ℕ). length ns) c.in-Some.ensures.job.2 in
     let jobs = ap (λ (d : DeskView). d.jobs) c.loop-job.invariant.desk in
@@ -48,12 +48,12 @@ loop-job-preserved g c =
     let past = c.loop-job.stuck in
     let ended = c.search-job in
     let made = ended.result in
-    let end_is = c.kept-end.ensures in
-    let f : SearchedJob = record { job = made.job; end = c.kept-end.result; spent = made.spent } in
+    let end_is = c.dropped_if_past_stuck-end.ensures in
+    let f : SearchedJob = record { job = made.job; end = c.dropped_if_past_stuck-end.result; spent = made.spent } in
     let before = c.next_job.new.grants in
     let searched = ended.new.grants in
-    let after = c.raise_for.new.self in
-    let won = c.is_won.result in
+    let after = c.raise_flag_if.new.self in
+    let won = c.is_win_for_mover.result in
     let desk : searched.desk.now ≡ before.desk.now = ap (λ (p : DeskView × SeatView). p.0) ended.ensures.source in
     let seat = ap (λ (p : DeskView × SeatView). p.1) ended.ensures.source in
     let same_flag : searched.seat.flag ≡ before.seat.flag = ap (λ (s : SeatView). s.flag) seat in
@@ -67,15 +67,15 @@ loop-job-preserved g c =
     let more = All-push (IsResult line limits) c.loop-job.searched.items f c.loop-job.invariant.searched this in
     let down : IsTrue before.seat.flag → ⊥ = λ up. not_none c.next_job.result c.in-Some.job c.in-Some.is (c.next_job.ensures.stopped (left_true before.seat.flag before.seat.saw_flag up)).0 in
     let flag : after.seat.flag ≡ (before.seat.flag || won) =
-    flag_of after.seat searched.seat.desk searched.seat.numbers searched.seat.grants (searched.seat.flag || won) searched.seat.saw_flag c.raise_for.ensures.seat ∙ ap (λ b. b || won) same_flag in
+    flag_of after.seat searched.seat.desk searched.seat.numbers searched.seat.grants (searched.seat.flag || won) searched.seat.saw_flag c.raise_flag_if.ensures.seat ∙ ap (λ b. b || won) same_flag in
     let numbers : after.seat.numbers ≡ before.seat.numbers =
-    numbers_of after.seat searched.seat.desk searched.seat.numbers searched.seat.grants (searched.seat.flag || won) searched.seat.saw_flag c.raise_for.ensures.seat ∙ same_numbers in
+    numbers_of after.seat searched.seat.desk searched.seat.numbers searched.seat.grants (searched.seat.flag || won) searched.seat.saw_flag c.raise_flag_if.ensures.seat ∙ same_numbers in
     let drawn : before.seat.numbers ≡ c.loop-job.grants.seat.numbers ++ made.job ∷ [] =
     c.in-Some.ensures.job.2 ∙ ap (λ n. c.loop-job.grants.seat.numbers ++ n ∷ []) (sym ended.ensures.job) in
     let sum = ap spent_on all in
     let long = ap (λ (l : List SearchedJob). length l) all in
     record {
-      desk = c.raise_for.ensures.desk ∙ (desk ∙ (c.next_job.ensures.desk ∙ c.loop-job.invariant.desk));
+      desk = c.raise_flag_if.ensures.desk ∙ (desk ∙ (c.next_job.ensures.desk ∙ c.loop-job.invariant.desk));
       jobs = subst (All (λ (h : SearchedJob). h.job < c.args.desk.now.jobs)) (sym all)
           (All-push (λ (h : SearchedJob). h.job < c.args.desk.now.jobs) c.loop-job.searched.items f c.loop-job.invariant.jobs
           (subst (λ n. n < c.args.desk.now.jobs) (sym ended.ensures.job) (subst (λ (d : DeskView). c.in-Some.job < d.jobs) c.loop-job.invariant.desk c.in-Some.ensures.job.0)));
@@ -86,7 +86,7 @@ loop-job-preserved g c =
         c.loop-job.invariant.spent,
         ended.ensures.asks.granted,
         c.next_job.ensures.counts.0,
-        c.raise_for.ensures.counts.0,
+        c.raise_flag_if.ensures.counts.0,
       );
       few = omega (
         arith,
@@ -96,20 +96,21 @@ loop-job-preserved g c =
         ended.ensures.asks.granted,
         ended.ensures.asks.few,
         c.next_job.ensures.counts.0,
-        c.raise_for.ensures.counts.0,
+        c.raise_flag_if.ensures.counts.0,
       );
-      refused = λ h. c.raise_for.ensures.counts.1 ∙ refused_more c.loop-job.searched.items c.push_reserved.new.self.items f c.loop-job.grants.refused searched.refused all
+      refused = λ h. c.raise_flag_if.ensures.counts.1 ∙ refused_more c.loop-job.searched.items c.push_reserved.new.self.items f c.loop-job.grants.refused searched.refused all
           (λ stuck. ended.ensures.asks.refused (total_kept past made.end (subst (λ (r : JobResult). IsForTotal (end_of r)) end_is stuck)))
           (λ up. ended.ensures.asks.still (c.next_job.ensures.counts.1 ∙ up)) c.loop-job.invariant.refused h;
       searched = subst (All (IsResult line limits)) (sym all) more;
       wins = subst (WinsAreLast side after.seat.flag) (sym all)
           (wins_more side c.loop-job.grants.seat.flag after.seat.flag c.loop-job.searched.items f (λ up. down (marks_again c.loop-job.grants.seat.flag before.seat.flag c.next_job.ensures.seat.1 up))
-          (λ win. (marked after.seat.flag before.seat.flag won flag down).1 (c.is_won.ensures.1 (win_before side past made.end (subst (IsWinFor side) end_is win)))) c.loop-job.invariant.wins);
+          (λ win. (marked after.seat.flag before.seat.flag won flag down).1 (c.is_win_for_mover.ensures.1 (win_before side past made.end (subst
+          (IsWinFor side) end_is win)))) c.loop-job.invariant.wins);
       drawn = drawn_more c.args.seat.numbers c.loop-job.grants.seat.numbers before.seat.numbers after.seat.numbers c.loop-job.searched.items c.push_reserved.new.self.items
           f c.loop-job.invariant.drawn drawn numbers all;
       flag = λ up. inr (subst (SomeWin side) (sym all) (last_wins side c.loop-job.searched.items f
-          (subst (IsWinFor side) (sym end_is) (win_after side past made.end (c.is_won.ensures.0 ((marked after.seat.flag before.seat.flag won flag down).0 up))))));
-      stuck = λ up. subst SomeStuck (sym all) (stuck_more c.loop-job.searched.items f past c.loop-job.invariant.stuck (c.or_stuck-stuck.ensures up));
+          (subst (IsWinFor side) (sym end_is) (win_after side past made.end (c.is_win_for_mover.ensures.0 ((marked after.seat.flag before.seat.flag won flag down).0 up))))));
+      stuck = λ up. subst SomeStuck (sym all) (stuck_more c.loop-job.searched.items f past c.loop-job.invariant.stuck (c.was_or_is_stuck-stuck.ensures up));
       kept = subst KeepsFirstStuck (sym all) (kept_more c.loop-job.searched.items f past c.loop-job.invariant.stuck
           (λ down. λ dropped. ended.ensures.whole (subst IsDropped (end_is ∙ ap (λ b. kept_of b made.end) down) dropped)) c.loop-job.invariant.kept);
     }

@@ -1,5 +1,5 @@
 use Rattle.std.proofs.Common.{◌≡◌, drop}
-use Rattle.tt_proof.specs.Proven.{AreChildren, turns_of}
+use Rattle.tt_proof.specs.ProofClaim.{AreChildren, turns_of}
 use Rattle.tt_tests.proofs.proof_tests.are_children.Given as goal
 
 abbrev pub invariant-loop-place : goal.invariant-loop-place

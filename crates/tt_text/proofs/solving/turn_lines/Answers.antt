@@ -5,8 +5,8 @@ use Rattle.tt_game.specs.Turns.{IsTurnOnBoard}
 use Rattle.tt_text.proofs.Turns.{all_lines, legal_turn_is_on_board, legal_there, next_line}
 use Rattle.tt_text.proofs.solving.turn_lines.Goals as goal
 
-pub value_behind-value-requires-clause-legal : goal.value_behind-value-requires-clause-legal
-value_behind-value-requires-clause-legal g c =
+pub value_after_turn-value-requires-clause-legal : goal.value_after_turn-value-requires-clause-legal
+value_after_turn-value-requires-clause-legal g c =
     let items : List Turn = c.as_slice-turn-items.result.now in
     let n : ℕ = c.loop-turn.turn-index in
     let turn : Turn = c.turn-item.result in
@@ -34,8 +34,8 @@ loop-turn-preserved g c =
     let is : turn ≡ get_or items n turn = search rules in
     record {
       all = c.loop-turn.invariant.all;
-      lines = next_line c.args.line.now c.args.options.limits c.args.options.total items n turn c.loop-turn.lines.items _ c.value_behind-value.result lt is
-          c.loop-turn.invariant.lines c.value_behind-value.ensures c.in_ok-put_value_line.ensures;
+      lines = next_line c.args.line.now c.args.options.limits c.args.options.total items n turn c.loop-turn.lines.items _ c.value_after_turn-value.result lt is
+          c.loop-turn.invariant.lines c.value_after_turn-value.ensures c.in_ok-put_value_line.ensures;
     }
 
 pub returns : goal.returns

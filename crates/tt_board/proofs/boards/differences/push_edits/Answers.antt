@@ -12,7 +12,7 @@ loop-k-preserved c =
     let six : k < 6 = omega (arith, c.loop-k-test.true, c.len.ensures.value, c.len.ensures.small) in
     let next : 64 * k + 64 ≡ 64 * (k + 1) = omega arith in
     let alike : AreAlikeBy (get_or words k 0) (64 * k) here there = λ i small none.
-    c.apart.ensures (64 * k + i) (omega (arith, six, small)) (ap (λ w. bit_in w (64 * k + i)) (sym c.words-words.ensures) ∙ word_bit words k i small none) in
+    c.differing_points.ensures (64 * k + i) (omega (arith, six, small)) (ap (λ w. bit_in w (64 * k + i)) (sym c.words-words.ensures) ∙ word_bit words k i small none) in
     record {
       half = λ x from. subst (λ n. IsHalf here there n (led x c.push_word_edits.new.edits.items)) next
           (c.in_ok-push_word_edits.ensures.half here x c.requires alike (c.loop-k.invariant.half x from));

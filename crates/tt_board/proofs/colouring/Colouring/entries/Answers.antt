@@ -16,9 +16,9 @@ none_anywhere xs e k = ap (λ (ys : Colouring). entry_at ys k) e ∙ elim (cases
 
 pub loop-p-init : goal.loop-p-init
 loop-p-init c = record {
-  wide = ap length c.no_stones-entries.ensures ∙ length-replicate {A = Option Colour} 361 None;
+  wide = ap length c.empty_entries-entries.ensures ∙ length-replicate {A = Option Colour} 361 None;
   done = λ k below. absurd (omega arith);
-  rest = λ k above. none_anywhere c.no_stones-entries.result c.no_stones-entries.ensures k;
+  rest = λ k above. none_anywhere c.empty_entries-entries.result c.empty_entries-entries.ensures k;
 }
 
 pub at-requires : goal.at-requires

@@ -4,7 +4,7 @@ use Rattle.std.proofs.lemmas.List.{length-set, get_or-set_same, get_or-set_other
 use Rattle.tt_sgf.specs.Sizes.{point_count}
 use Rattle.tt_board.specs.Reach.{entry_at}
 use Rattle.tt_board.specs.inside.Chains.{name_at}
-use Rattle.tt_sgf.specs.laws.SizeLaws.{few_points}
+use Rattle.tt_sgf.specs.laws.SizeLaws.{point_count_is_bounded}
 use Rattle.tt_board.proofs.CaptureLemmas.{stones_here, stones_not_here, none_from}
 use Rattle.tt_board.proofs.counted.captures.lift_named.Goals as goal
 use Rattle.tt_board.proofs.counted.captures.lift_named.Goals.{then-names-p, else-names-p}
@@ -16,7 +16,7 @@ pub loop-p-preserved : goal.loop-p-preserved
 loop-p-preserved c =
     let i = c.loop-p.invariant in let d = c.loop-p.points in let p = c.loop-p.p in let ns = c.args.names.now in
     let in_p : p < length d = omega (arith, i.fits, c.requires.fits) in
-    let in_names : p < length ns = omega (arith, c.requires.chain.wide, few_points c.args.size) in
+    let in_names : p < length ns = omega (arith, c.requires.chain.wide, point_count_is_bounded c.args.size) in
     elim c.if-names-p.branch [
       | then-names-p w ↦
           rw (w.points-is, w.left-is, w.set.ensures) (record {

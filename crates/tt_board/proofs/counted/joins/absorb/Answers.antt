@@ -2,7 +2,7 @@ use Rattle.std.proofs.Common.{◌≡◌, ◌<◌, ◌+◌, map, arith, rules, sy
 use Rattle.std.proofs.lemmas.List.{length-map}
 use Rattle.tt_board.specs.inside.Chains.{name_at, root_of, renamed, liberty_count}
 use Rattle.tt_board.proofs.NameLemmas.{liberty_count_le}
-use Rattle.tt_sgf.specs.laws.SizeLaws.{few_points}
+use Rattle.tt_sgf.specs.laws.SizeLaws.{point_count_is_bounded}
 use Rattle.tt_board.proofs.JoinLemmas.{joined_stones, joined_liberties, counted_joined, stone_count_le}
 use Rattle.tt_board.proofs.counted.joins.absorb.Goals as goal
 use Rattle.tt_board.proofs.counted.joins.absorb.Goals.{then-count-eq1, else-count-eq1}
@@ -17,7 +17,7 @@ overflow_add-liberties c =
     let h = joined_liberties s ns c.args.stones.now c.args.liberties.now a b c.if-count-eq1.gained k.counted two.living.0 two.living.1 two.apart
     two.rooted.0 two.rooted.1 (k.wide.1 ∙ sym k.wide.0) (k.wide.2 ∙ sym k.wide.0) gain in
     let most = liberty_count_le s (map (renamed a b) ns) b in
-    let small : name_at c.args.liberties.now (root_of b) + c.if-count-eq1.gained < 65536 = omega (arith, h, most, few_points s) in
+    let small : name_at c.args.liberties.now (root_of b) + c.if-count-eq1.gained < 65536 = omega (arith, h, most, point_count_is_bounded s) in
     rw c.root_of-root.ensures.value (search rules)
 
 pub overflow_add-stones : goal.overflow_add-stones

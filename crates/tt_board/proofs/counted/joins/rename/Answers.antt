@@ -4,7 +4,7 @@ use Rattle.std.proofs.lemmas.List.{get_or-set_same, get_or-set_other}
 use Rattle.tt_sgf.specs.Sizes.{point_count}
 use Rattle.tt_board.specs.inside.Chains.{name_at, stone_count}
 use Rattle.tt_board.proofs.NameLemmas.{count_joined, liberty_count_le}
-use Rattle.tt_sgf.specs.laws.SizeLaws.{few_points}
+use Rattle.tt_sgf.specs.laws.SizeLaws.{point_count_is_bounded}
 use Rattle.tt_board.proofs.JoinLemmas.{partly_none, partly_more, partly_whole, partly_on_board, some_stone, stones_fewer, none_stones}
 use Rattle.tt_board.proofs.counted.joins.rename.Goals as goal
 
@@ -32,7 +32,7 @@ pub overflow_add-gained : goal.overflow_add-gained
 overflow_add-gained c =
     let i = c.loop.invariant in
     let ns = c.loop.names in let p = c.next_named-p.result in let found = c.next_named-p.ensures.found in
-    let few = few_points c.args.size in
+    let few = point_count_is_bounded c.args.size in
     let on : p < point_count c.args.size
     = partly_on_board c.args.size c.args.from c.args.to c.args.names.now ns p c.requires.chain.ends c.requires.chain.living i.partly found.1 in
     let joined = count_joined c.args.size ns p c.args.to on found.0 (λ e. c.requires.chain.living (sym found.1 ∙ e)) c.requires.other.0 (λ e. c.requires.other.1 (sym found.1 ∙ e)) in

@@ -5,22 +5,22 @@ use Rattle.tt_board.proofs.PlayKindLemmas.{one_touches, bare_index}
 use Rattle.tt_board.proofs.counted.play_kind.names_beside.Goals as goal
 
 pub name_there-above-requires : goal.name_there-above-requires
-name_there-above-requires c = λ q is. let n = (c.beside-near.ensures.all q).0 (inl is) in omega (arith, n.0, c.requires.wide)
+name_there-above-requires c = λ q is. let n = (c.neighbours_of-near.ensures.all q).0 (inl is) in omega (arith, n.0, c.requires.wide)
 
 pub name_there-left-requires : goal.name_there-left-requires
-name_there-left-requires c = λ q is. let n = (c.beside-near.ensures.all q).0 (inr (inl is)) in omega (arith, n.0, c.requires.wide)
+name_there-left-requires c = λ q is. let n = (c.neighbours_of-near.ensures.all q).0 (inr (inl is)) in omega (arith, n.0, c.requires.wide)
 
 pub name_there-right-requires : goal.name_there-right-requires
-name_there-right-requires c = λ q is. let n = (c.beside-near.ensures.all q).0 (inr (inr (inl is))) in omega (arith, n.0, c.requires.wide)
+name_there-right-requires c = λ q is. let n = (c.neighbours_of-near.ensures.all q).0 (inr (inr (inl is))) in omega (arith, n.0, c.requires.wide)
 
 pub name_there-below-requires : goal.name_there-below-requires
-name_there-below-requires c = λ q is. let n = (c.beside-near.ensures.all q).0 (inr (inr (inr is))) in omega (arith, n.0, c.requires.wide)
+name_there-below-requires c = λ q is. let n = (c.neighbours_of-near.ensures.all q).0 (inr (inr (inr is))) in omega (arith, n.0, c.requires.wide)
 
 pub returns : goal.returns
 returns c =
-    let s = c.args.size in let ns = c.args.names.now in let p = c.args.p in let all = c.beside-near.ensures.all in
+    let s = c.args.size in let ns = c.args.names.now in let p = c.args.p in let all = c.neighbours_of-near.ensures.all in
     let h1 = c.name_there-above.ensures in let h2 = c.name_there-left.ensures in let h3 = c.name_there-right.ensures in let h4 = c.name_there-below.ensures in
-    let sum = beside_counted s (λ q. name_at ns q == 0) p _ _ _ _ all c.beside-near.ensures.once in
+    let sum = beside_counted s (λ q. name_at ns q == 0) p _ _ _ _ all c.neighbours_of-near.ensures.once in
     record {
       touching = λ m apart. one_touches s ns p m _ _ _ _ _ _ _ _ all h1 h2 h3 h4 apart;
       bare = omega (
@@ -30,9 +30,9 @@ returns c =
         bare_index ns _ _ h2,
         bare_index ns _ _ h3,
         bare_index ns _ _ h4,
-        c.empty_one.ensures,
-        c.empty_one-2.ensures,
-        c.empty_one-3.ensures,
-        c.empty_one-4.ensures,
+        c.empty_count.ensures,
+        c.empty_count-2.ensures,
+        c.empty_count-3.ensures,
+        c.empty_count-4.ensures,
       );
     }

@@ -9,4 +9,4 @@ returns c = λ col has stone.
     let from = c.args.from in let there = c.boards.result.now in
     let behind : drop from (so_far c.args.self.now) ≡ colourings (take (length there - from) (drop from there)) =
     ap (drop from) (sym c.boards.ensures.colourings) ∙ drop-map (λ (b : Position). b.points) from there ∙ ap colourings (sym (take_rest there from)) in
-    c.stood.ensures col (subst (λ h. HasBeen h col) behind has) stone
+    c.stone_stood.ensures col (subst (λ h. HasBeen h col) behind has) stone

@@ -15,7 +15,7 @@ returns-then-same_beginning c =
 pub returns : goal.returns
 returns c =
     let there = c.args.boards.now in let begun = c.args.root.now.begun in
-    let n : c.count-begun.result ≡ length begun = c.count-begun.ensures.value in (
-      λ y. c.began_with.ensures.0 y ∙ ap (λ k. take k there) n,
-      λ e. c.began_with.ensures.1 (e ∙ ap (λ k. take k there) (sym n)),
+    let n : c.board_count-begun.result ≡ length begun = c.board_count-begun.ensures.value in (
+      λ y. c.is_beginning.ensures.0 y ∙ ap (λ k. take k there) n,
+      λ e. c.is_beginning.ensures.1 (e ∙ ap (λ k. take k there) (sym n)),
     )

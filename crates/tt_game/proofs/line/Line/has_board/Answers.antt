@@ -1,20 +1,20 @@
 use Rattle.std.proofs.Common.{◌≡◌, sym, ap, ◌∙◌, arith}
-use Rattle.tt_sgf.specs.laws.SizeLaws.{size_by_sides}
+use Rattle.tt_sgf.specs.laws.SizeLaws.{size_is_fixed_by_sides}
 use Rattle.tt_game.specs.Line.{LineWithUndo}
 use Rattle.tt_game.proofs.line.Line.has_board.Goals as goal
 
-pub is_among-requires : goal.is_among-requires
-is_among-requires c =
+pub has_colouring_of-requires : goal.has_colouring_of-requires
+has_colouring_of-requires c =
     let here = c.size.result in let there = c.self.inside.frame.size in
     let columns : here.columns ≡ there.columns = grind arith in
     let rows : here.rows ≡ there.rows = grind arith in
-    sym c.size.ensures.value ∙ size_by_sides here there columns rows ∙ ap (λ (l : LineWithUndo). l.frame.size) c.self.view_is
+    sym c.size.ensures.value ∙ size_is_fixed_by_sides here there columns rows ∙ ap (λ (l : LineWithUndo). l.frame.size) c.self.view_is
 
 pub returns : goal.returns
 returns c =
     let here = c.size.result in let there = c.self.inside.frame.size in
     let columns : here.columns ≡ there.columns = grind arith in
     let rows : here.rows ≡ there.rows = grind arith in (
-      λ y. (sym c.size.ensures.value ∙ size_by_sides here there columns rows ∙ ap (λ (l : LineWithUndo). l.frame.size) c.self.view_is, c.is_among.ensures.0 y),
-      λ h. c.is_among.ensures.1 h.1,
+      λ y. (sym c.size.ensures.value ∙ size_is_fixed_by_sides here there columns rows ∙ ap (λ (l : LineWithUndo). l.frame.size) c.self.view_is, c.has_colouring_of.ensures.0 y),
+      λ h. c.has_colouring_of.ensures.1 h.1,
     )

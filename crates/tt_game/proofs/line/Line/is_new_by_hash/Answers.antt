@@ -17,17 +17,17 @@ pub stone_has_stood-requires-clause-within : goal.stone_has_stood-requires-claus
 stone_has_stood-requires-clause-within c =
     let i = c.self.inside in let begun = (arc_value i.root).begun in
     let found : c.deref-2.result.now ≡ arc_value i.root = search rules in
-    let count : c.count.result ≡ length begun = c.count.ensures.value ∙ ap (λ (r : Rooted). length r.begun) found in
+    let count : c.board_count.result ≡ length begun = c.board_count.ensures.value ∙ ap (λ (r : Rooted). length r.begun) found in
     omega (arith, count, begins_long begun (so_far i.history) (rooted_here begun (state_at i.history i.to_move) _ c.self.invariant.rooted))
 
 pub returns : goal.returns
 returns c = λ new has.
-    let i = c.self.inside in let h = so_far i.history in let n = c.count.result in let begun = (arc_value i.root).begun in
+    let i = c.self.inside in let h = so_far i.history in let n = c.board_count.result in let begun = (arc_value i.root).begun in
     let l = c.args.self.now in let p = c.args.p in let r = c.requires in
     let col : Colouring = set l.state.present p (Some c.args.colour) in
     let one : c.deref.result.now ≡ arc_value i.root = search rules in
     let two : c.deref-2.result.now ≡ arc_value i.root = search rules in
-    let count : n ≡ length begun = c.count.ensures.value ∙ ap (λ (x : Rooted). length x.begun) two in
+    let count : n ≡ length begun = c.board_count.ensures.value ∙ ap (λ (x : Rooted). length x.begun) two in
     let all : h ≡ history l.state = search rules in
     let size : c.deref.result.now.frame.size ≡ l.frame.size = search rules in
     let begins : take n h ≡ colourings c.deref.result.now.begun =
@@ -37,6 +37,6 @@ returns c = λ new has.
     let hash : filter_index c.deref.result.now.frame.size col ≡ c.filter_index_with_stone.result =
     ap (λ g. filter_index g col) size ∙ sym (c.filter_index_with_stone.ensures l.frame.size l.state.present r.fits r.on_board r.free r.sum) in
     elim (Contains-append_cases (take n h) (drop n h) col parts) [
-      | inl early ↦ c.has_hash.ensures c.if-has_hash.false col hash (subst (λ x. Contains x col) begins early)
+      | inl early ↦ c.may_have_hash.ensures c.if-may_have_hash.false col hash (subst (λ x. Contains x col) begins early)
       | inr later ↦ false≢true (sym (ap not (c.stone_has_stood.ensures col later stone)) ∙ new)
     ]

@@ -2,7 +2,7 @@ use Rattle.std.proofs.Common.{rules, ◌≡◌, ℕ, ◌<◌, ◌≤◌, ◌↔�
 use Rattle.std.proofs.lemmas.Bool.{false≢true}
 use Rattle.std.specs.FinSet as set
 use Rattle.tt_sgf.specs.Sizes.{point_count}
-use Rattle.tt_sgf.specs.laws.SizeLaws.{few_points}
+use Rattle.tt_sgf.specs.laws.SizeLaws.{point_count_is_bounded}
 use Rattle.tt_sgf.specs.MachineWords.{bit_in}
 use Rattle.tt_board.specs.Reach.{entry_at}
 use Rattle.tt_board.specs.Stones.{IsEmptyIn}
@@ -19,10 +19,10 @@ next_is : (f : Frame) (s : State) (ws : List ℕ) → ((p : ℕ) → p < point_c
     (λ p. (p < point_count f.size) × (from ≤ p) × ((q : ℕ) → from ≤ q → q < p → IsLegal f s (Play q) → ⊥)
     × IsTrue (set.contains f.region p) × (entry_at s.present p ≡ None))
 next_is f s ws told from start m begins after none some None past = λ q behind l.
-    let few : point_count f.size ≤ 361 = few_points f.size in
+    let few : point_count f.size ≤ 361 = point_count_is_bounded f.size in
     false≢true (sym (none q (omega (arith, begins, behind)) (omega (arith, past, l.1)) (omega (arith, l.1, few))) ∙ (told q l.1).1 (l.1, l.2, l.3))
 next_is f s ws told from start m begins after none some (Some p) here =
-    let few : point_count f.size ≤ 361 = few_points f.size in
+    let few : point_count f.size ≤ 361 = point_count_is_bounded f.size in
     let small : m < 384 = omega (arith, here.1, few) in
     let free : IsEmptyIn f.size f.region s.present p = subst (IsEmptyIn f.size f.region s.present) (sym here.0) ((told m here.1).0 (some small)) in (
       free.0,

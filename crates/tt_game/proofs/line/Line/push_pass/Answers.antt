@@ -13,15 +13,15 @@ invariant_of-self-2 c =
     let i = c.self.inside in
     let bs = (arc_value i.root).begun in
     let pushed : c.push.new.self.items ≡ i.pushes.items ++ UndoPass ∷ [] = search rules in
-    let passed : c.pass.new.self ≡ with_pass i.history = search rules in
-    let turned : c.opponent-self-inside.result ≡ opponent i.to_move = search rules in
-    let rooted : AreRooted bs (state_at c.pass.new.self c.opponent-self-inside.result) (reverse c.push.new.self.items) =
-    rw (pushed, passed, turned) (rooted_pass bs i.history i.to_move i.pushes.items c.self.invariant.rooted) in
+    let passed : c.add_pass.new.self ≡ with_pass i.history = search rules in
+    let game_after_turn : c.opponent-self-inside.result ≡ opponent i.to_move = search rules in
+    let rooted : AreRooted bs (state_at c.add_pass.new.self c.opponent-self-inside.result) (reverse c.push.new.self.items) =
+    rw (pushed, passed, game_after_turn) (rooted_pass bs i.history i.to_move i.pushes.items c.self.invariant.rooted) in
     record {
       size = search rules;
       targets = c.self.invariant.targets;
       board = rw passed c.self.invariant.board;
-      undoable = rw (pushed, passed, turned) (undoable_pass i.frame.size i.history i.to_move i.pushes.items i.stack.below c.self.invariant.undoable);
+      undoable = rw (pushed, passed, game_after_turn) (undoable_pass i.frame.size i.history i.to_move i.pushes.items i.stack.below c.self.invariant.undoable);
       same_frame = c.self.invariant.same_frame;
       rooted = rooted;
     }

@@ -14,15 +14,15 @@ pub stone_has_stood-requires-2-clause-within : goal.stone_has_stood-requires-2-c
 stone_has_stood-requires-2-clause-within c =
     let i = c.self.inside in let begun = (arc_value i.root).begun in
     let found : c.deref-2.result.now ≡ arc_value i.root = search rules in
-    let count : c.count.result ≡ length begun = c.count.ensures.value ∙ ap (λ (r : Rooted). length r.begun) found in
+    let count : c.board_count.result ≡ length begun = c.board_count.ensures.value ∙ ap (λ (r : Rooted). length r.begun) found in
     omega (arith, count, begins_long begun (so_far i.history) (rooted_here begun (state_at i.history i.to_move) _ c.self.invariant.rooted))
 
 pub returns : goal.returns
 returns c = λ col has stone.
-    let i = c.self.inside in let h = so_far i.history in let n = c.count.result in let begun = (arc_value i.root).begun in
+    let i = c.self.inside in let h = so_far i.history in let n = c.board_count.result in let begun = (arc_value i.root).begun in
     let one : c.deref.result.now ≡ arc_value i.root = search rules in
     let two : c.deref-2.result.now ≡ arc_value i.root = search rules in
-    let count : n ≡ length begun = c.count.ensures.value ∙ ap (λ (r : Rooted). length r.begun) two in
+    let count : n ≡ length begun = c.board_count.ensures.value ∙ ap (λ (r : Rooted). length r.begun) two in
     let all : h ≡ history c.args.self.now.state = search rules in
     let begins : take n h ≡ colourings c.deref.result.now.begun =
     ap (λ k. take k h) count ∙ rooted_here begun (state_at i.history i.to_move) _ c.self.invariant.rooted ∙ ap (λ (r : Rooted). colourings r.begun) (sym one) in

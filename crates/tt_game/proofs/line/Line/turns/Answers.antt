@@ -2,7 +2,7 @@ use Rattle.std.proofs.Common.{◌≡◌, ◌++◌, None, map, subst, sym, ap, �
 use Rattle.tt_game.specs.declared.turns.Turn.{Turn}
 use Rattle.tt_game.specs.Turns.{TurnWithWinner, PlaysFrom, legal_turns, IsRising}
 use Rattle.tt_game.specs.Game.{IsLegal, winner_of}
-use Rattle.tt_game.specs.laws.TurnLaws.{contains-legal_turns, rising-legal_turns, length-legal_turns, from_all}
+use Rattle.tt_game.specs.laws.TurnLaws.{contains-legal_turns, rising-legal_turns, length-legal_turns, turns_from_0_are_all}
 use Rattle.tt_game.proofs.TurnsLemmas.{turns_of, none_over, one_more}
 use Rattle.tt_game.proofs.line.Line.turns.Goals as goal
 
@@ -25,7 +25,7 @@ loop-p-init c =
     record {
       frame = ap (λ (x : PlaysFrom). x.frame) c.legal_plays-plays.ensures;
       state = ap (λ (x : PlaysFrom). x.state) c.legal_plays-plays.ensures;
-      list = rw (from, c.new-turns.ensures) (ap (map (λ (x : TurnWithWinner). x.turn)) (from_all f s) ∙ turns_of f s);
+      list = rw (from, c.new-turns.ensures) (ap (map (λ (x : TurnWithWinner). x.turn)) (turns_from_0_are_all f s) ∙ turns_of f s);
       few = omega (arith, ap (λ (ts : List Turn). length ts) c.new-turns.ensures);
       inside = omega (arith, from);
     }

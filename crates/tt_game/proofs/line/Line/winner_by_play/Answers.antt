@@ -2,7 +2,7 @@ use Rattle.std.proofs.Common.{rules, ◌≡◌, Some, None, set, Contains, sym, 
 use Rattle.std.proofs.lemmas.List.Elements.{Contains-push}
 use Rattle.tt_board.specs.Reach.{entry_at}
 use Rattle.tt_game.specs.Game.{history, made, side_colour}
-use Rattle.tt_game.specs.MoveGenerators.{IsKindAt}
+use Rattle.tt_game.specs.MoveGenerators.{IsForetoldKind}
 use Rattle.tt_game.proofs.MoveGeneratorLemmas.{nobody_put}
 use Rattle.tt_game.proofs.line.Line.winner_by_play.Goals as goal
 
@@ -10,13 +10,13 @@ pub returns-in-NoCapture : goal.returns-in-NoCapture
 returns-in-NoCapture c =
     let l = c.args.self.now in let p = c.args.p in
     let free : entry_at l.state.present p ≡ None = c.requires.free in
-    let is = subst (λ g. IsKindAt g l.frame l.state p) c.in-NoCapture.is c.kind_by-kind_here.ensures.kind_here in
+    let is = subst (λ g. IsForetoldKind g l.frame l.state p) c.in-NoCapture.is c.foretold_kinds-kind_here.ensures.kind_here in
     ((c.requires.open, c.requires.on_board, free, c.requires.inside, is.0), sym (nobody_put l.frame l.state p c.requires.open free is.1))
 
 pub returns-in-SingleStoneSuicide : goal.returns-in-SingleStoneSuicide
 returns-in-SingleStoneSuicide c = λ legal.
     let l = c.args.self.now in let s = l.state in
-    let same = subst (λ g. IsKindAt g l.frame s c.args.p) c.in-SingleStoneSuicide.is c.kind_by-kind_here.ensures.kind_here in
+    let same = subst (λ g. IsForetoldKind g l.frame s c.args.p) c.in-SingleStoneSuicide.is c.foretold_kinds-kind_here.ensures.kind_here in
     legal.4 (subst (Contains (history s)) (sym same) (Contains-push s.earlier s.present))
 
 pub returns-then-is_new : goal.returns-then-is_new

@@ -5,8 +5,8 @@ use Rattle.tt_proof.proofs.footprints.Footprint.picked.Goals as goal
 
 pub returns : goal.returns
 returns c =
-    let needs = rw c.requires.board at c.take_made.ensures in
-    let played = rw c.requires.board at c.in_ok-put_played.ensures in
+    let needs = rw c.requires.board at c.remove_made_board.ensures in
+    let played = rw c.requires.board at c.in_ok-add_made_board.ensures in
     λ u foot. foot_pick c.args.line.now.frame c.args.line.now.state c.args.turn.now u c.args.behind _ c.requires.legal foot
     (record {
       needed = needs;

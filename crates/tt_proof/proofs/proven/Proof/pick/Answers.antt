@@ -14,12 +14,12 @@ invariant_of-result c =
     let own = c.in_ok-snapshot.ensures in
     let f = c.args.line.now.frame in
     let s = c.args.line.now.state in
-    let behind = foot_moved _ f _ (after f s c.args.t) _ _ c.requires.child.stands.0 c.requires.child.stands.1 c.into_parts-below.ensures.footprint in
-    rw (c.in_ok-measured_tree.ensures, c.into_parts-below.ensures.measured_tree, c.side-side.ensures.side)
+    let behind = foot_moved _ f _ (after f s c.args.t) _ _ c.requires.child.stands.0 c.requires.child.stands.1 c.into_tree_and_footprint-below.ensures.footprint in
+    rw (c.in_ok-measured_tree.ensures, c.into_tree_and_footprint-below.ensures.measured_tree, c.side-side.ensures.side)
     (record {
       won =
           won_pick f _ s _ c.args.t c.args.child (ap (λ (l : SnapshotState). l.frame) own) (ap (λ (l : SnapshotState). l.state) own) c.requires.legal
-          c.requires.child c.into_parts-below.ensures.wins;
+          c.requires.child c.into_tree_and_footprint-below.ensures.wins;
       footprint =
           foot_moved f _ s _ (pick c.args.t c.args.child.tree) _ (sym (ap (λ (l : SnapshotState). l.frame) own)) (sym (ap (λ (l : SnapshotState). l.state) own))
           (c.in_ok-footprint.ensures c.args.child.tree behind);
@@ -30,5 +30,5 @@ returns c =
     let own = c.in_ok-snapshot.ensures in (
       (ap (λ (l : SnapshotState). l.frame) own, ap (λ (l : SnapshotState). l.state) own),
       c.side-side.ensures.side,
-      c.in_ok-measured_tree.ensures ∙ ap (λ x. pick c.args.t x) c.into_parts-below.ensures.measured_tree,
+      c.in_ok-measured_tree.ensures ∙ ap (λ x. pick c.args.t x) c.into_tree_and_footprint-below.ensures.measured_tree,
     )

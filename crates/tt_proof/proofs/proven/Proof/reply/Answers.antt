@@ -5,7 +5,7 @@ use Rattle.tt_game.specs.Game.{IsLegal, after, opponent}
 use Rattle.tt_game.specs.Line.{SnapshotState}
 use Rattle.tt_game.specs.laws.TurnLaws.{contains-legal_turns}
 use Rattle.tt_game.specs.declared.turns.Turn.{Turn}
-use Rattle.tt_proof.specs.Proven.{AreChildren, trees_by_turn, turns_of}
+use Rattle.tt_proof.specs.ProofClaim.{AreChildren, trees_by_turn, turns_of}
 use Rattle.tt_proof.specs.KeptFootprints.{IsFootprint}
 use Rattle.tt_proof.specs.Strategy.{reply, entries_of}
 use Rattle.tt_game.specs.laws.Members.{IsIn, contains_of_in}
@@ -17,13 +17,13 @@ at_end : {X : Type 0} (xs ys zs : List X) → xs ++ ys ≡ zs → length ys ≡ 
 at_end xs [] zs e h = sym (append-nil xs) ∙ e
 at_end xs (y ∷ ys) zs e h = absurd (omega (arith, h))
 
-pub join-requires-clause-legal : goal.join-requires-clause-legal
-join-requires-clause-legal c =
+pub add_entry-requires-clause-legal : goal.add_entry-requires-clause-legal
+add_entry-requires-clause-legal c =
     subst (λ xs. (t : Turn) → IsIn (turns_of xs) t → IsLegal c.args.line.now.frame c.args.line.now.state t) c.in-Some.ensures.steps.0
     c.loop-turn.invariant.legal c.in-Some.turn (inl refl)
 
-pub join-requires-clause-board : goal.join-requires-clause-board
-join-requires-clause-board c =
+pub add_entry-requires-clause-board : goal.add_entry-requires-clause-board
+add_entry-requires-clause-board c =
     let left = subst (λ xs. AreChildren c.args.line.now.frame c.args.line.now.state xs) c.in-Some.ensures.steps.0 c.loop-turn.invariant.left in
     board_there c.in-Some.child _ _ _ c.present-board.ensures left.0.stands
 
@@ -35,22 +35,22 @@ loop-turn-preserved c =
     let child = c.in-Some.child in
     let left = subst (λ xs. AreChildren f s xs) c.in-Some.ensures.steps.0 c.loop-turn.invariant.left in
     let legal = subst (λ xs. (t : Turn) → IsIn (turns_of xs) t → IsLegal f s t) c.in-Some.ensures.steps.0 c.loop-turn.invariant.legal in
-    let behind = foot_moved _ f _ (after f s turn) _ _ left.0.stands.0 left.0.stands.1 c.into_parts-measured_tree.ensures.footprint in
+    let behind = foot_moved _ f _ (after f s turn) _ _ left.0.stands.0 left.0.stands.1 c.into_tree_and_footprint-measured_tree.ensures.footprint in
     record {
       order =
           append_snoc c.loop-turn.yielded (turn, child) _
           ∙ ap (λ r. c.loop-turn.yielded ++ r) (sym c.in-Some.ensures.steps.0) ∙ c.loop-turn.invariant.order;
       same =
           c.in_ok-push.ensures.ok
-          ∙ ap (λ xs. xs ++ ((turn, c.into_parts-measured_tree.result.0) ∷ [])) c.loop-turn.invariant.same
-          ∙ ap (λ y. trees_by_turn c.loop-turn.yielded ++ ((turn, y) ∷ [])) c.into_parts-measured_tree.ensures.measured_tree
+          ∙ ap (λ xs. xs ++ ((turn, c.into_tree_and_footprint-measured_tree.result.0) ∷ [])) c.loop-turn.invariant.same
+          ∙ ap (λ y. trees_by_turn c.loop-turn.yielded ++ ((turn, y) ∷ [])) c.into_tree_and_footprint-measured_tree.ensures.measured_tree
           ∙ sym (trees_of_push c.loop-turn.yielded (turn, child));
-      won = all_won_push c.loop-turn.yielded (turn, child) c.loop-turn.invariant.won c.into_parts-measured_tree.ensures.wins;
+      won = all_won_push c.loop-turn.yielded (turn, child) c.loop-turn.invariant.won c.into_tree_and_footprint-measured_tree.ensures.wins;
       left = left.1;
       legal = λ t i. legal t (inr i);
       joined =
-          subst (λ es. IsFootprint f s (reply (entries_of es)) c.join.new.self) (sym (trees_of_push c.loop-turn.yielded (turn, child)))
-          (c.in_ok-join.ensures child.tree behind (trees_by_turn c.loop-turn.yielded) c.loop-turn.invariant.joined);
+          subst (λ es. IsFootprint f s (reply (entries_of es)) c.add_entry.new.self) (sym (trees_of_push c.loop-turn.yielded (turn, child)))
+          (c.in_ok-add_entry.ensures child.tree behind (trees_by_turn c.loop-turn.yielded) c.loop-turn.invariant.joined);
     }
 
 pub invariant_of-result : goal.invariant_of-result

@@ -3,7 +3,7 @@ use Rattle.std.specs.Vec.Iter.{into_iter_items}
 use Rattle.tt_game.specs.Game.{IsLegal}
 use Rattle.tt_game.specs.declared.turns.Turn.{Turn}
 use Rattle.tt_proof.specs.Strategy.{reply, entries_of}
-use Rattle.tt_proof.specs.Proven.{AreChildren, trees_by_turn, turns_of}
+use Rattle.tt_proof.specs.ProofClaim.{AreChildren, trees_by_turn, turns_of}
 use Rattle.tt_proof.specs.KeptFootprints.{IsFootprint}
 use Rattle.tt_game.specs.laws.Members.{IsIn}
 use Rattle.tt_proof.proofs.ProvenLemmas.{AllWon}

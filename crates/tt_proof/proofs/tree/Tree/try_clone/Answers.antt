@@ -1,5 +1,5 @@
 use Rattle.std.proofs.Common.{◌∙◌, ap, sym}
-use Rattle.tt_proof.specs.Strategy.{pick, reply, strategy_of, entries_of_list}
+use Rattle.tt_proof.specs.Strategy.{pick, reply, strategy_of, entries_of_reply}
 use Rattle.tt_proof.proofs.StrategyLemmas.{strategy_of_pick, strategy_of_reply}
 use Rattle.tt_proof.proofs.tree.Tree.try_clone.Goals as goal
 
@@ -10,5 +10,5 @@ returns-in_ok-child-in-Pick c =
 
 pub returns-in_ok-list-in-Reply : goal.returns-in_ok-list-in-Reply
 returns-in_ok-list-in-Reply c =
-    strategy_of_reply _ ∙ ap (λ x. reply (entries_of_list x.items)) c.in_ok-list-in-Reply.ensures
+    strategy_of_reply _ ∙ ap (λ x. reply (entries_of_reply x.items)) c.in_ok-list-in-Reply.ensures
     ∙ sym (strategy_of_reply _) ∙ ap strategy_of (sym c.in-Reply.is)

@@ -1,6 +1,6 @@
 use Rattle.std.proofs.Common.{◌≤◌, IfOk, sym, subst}
 use Rattle.tt_search.specs.inside.Within.{StaysWithin}
-use Rattle.tt_search.specs.Searched.{Searched}
+use Rattle.tt_search.specs.SearchState.{SearchState}
 use Rattle.tt_search.specs.RunEnds.{IsProofOf}
 use Rattle.tt_search.proofs.Ends.{is_proof}
 use Rattle.tt_search.proofs.Steps.{offerable}
@@ -14,7 +14,7 @@ proof-requires c =
 
 pub returns-clause-exact : goal.returns-clause-exact
 returns-clause-exact c =
-    let search : Searched = record { line = c.self.inside.walk.line; limits = c.self.inside.limits; tree = c.self.inside.root } in
+    let search : SearchState = record { line = c.self.inside.walk.line; limits = c.self.inside.limits; tree = c.self.inside.root } in
     let within = subst (λ d. StaysWithin c.self.inside.walk.line.frame.size d c.self.inside.root) c.self.invariant.room c.self.invariant.stays in
     subst (λ s. IfOk c.proof.result (λ p. IsProofOf s p)) c.self.view_is
     (is_proof search c.in-Some.side c.proof.result c.in-Some.ensures within c.proof.ensures.stands c.proof.ensures.side c.proof.ensures.tree)

@@ -1,8 +1,8 @@
 use Rattle.std.proofs.Common.{◌∙◌, sym, ap, subst, arith}
-use Rattle.tt_search.specs.Searched.{Searched}
-use Rattle.tt_search.specs.RunEnds.{RanTo, HasSpent}
+use Rattle.tt_search.specs.SearchState.{SearchState}
+use Rattle.tt_search.specs.RunEnds.{HasRunTo, HasSpent}
 use Rattle.tt_search.specs.declared.limits.Limits.{Limits}
-use Rattle.tt_search.specs.declared.descent.Stop.TheVariants.{NumbersChange}
+use Rattle.tt_search.specs.declared.descent.StopAfter.TheVariants.{NumbersChange}
 use Rattle.tt_search.proofs.Advanced.{advanced_falls, advanced_reached, settled_reached, stuck_reached}
 use Rattle.tt_search.proofs.Asking.{kept_refused, settled_refused, spent_stuck}
 use Rattle.tt_search.proofs.search.Search.run.Goals as goal
@@ -46,8 +46,8 @@ returns-in-Err g c =
     let spent : HasSpent c.args.self first c.advance.new.self new = omega (arith, run.spent, c.advance.ensures.spent) in
     let same = settled_refused NumbersChange (g.G.Grants.asked c.loop-search.grants) new c.in-Settled.ensures.asked in
     let stays = sym c.proof.ensures.same in record {
-      end = (subst (RanTo c.args.self) stays reached, tt);
-      spent = (subst (λ (s : Searched). HasSpent c.args.self first s new) stays spent, same ∙ run.same);
+      end = (subst (HasRunTo c.args.self) stays reached, tt);
+      spent = (subst (λ (s : SearchState). HasSpent c.args.self first s new) stays spent, same ∙ run.same);
       source = c.advance.ensures.source ∙ run.source;
       few = omega (arith, spent, c.advance.ensures.few, ap (λ (l : Limits). l.budget) reached.problem.limits);
     }

@@ -11,5 +11,5 @@ pub loop-edge-preserved : goal.loop-edge-preserved
 loop-edge-preserved c = record {
   rest = λ behind. c.loop-edge.invariant.rest
       (rw (drop_more c.args.edges.now c.loop-edge.edge-index first c.loop-edge-test.true)
-      (fresh_edge_state (get_or c.args.edges.now c.loop-edge.edge-index first) (omega (arith, c.if-edge-ge-TURNS.false)), behind));
+      (fresh_edge_state (get_or c.args.edges.now c.loop-edge.edge-index first) (omega (arith, c.if-edge-ge-TURN_NUMBER_BOUND.false)), behind));
 }

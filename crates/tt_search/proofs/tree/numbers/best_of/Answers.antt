@@ -51,14 +51,14 @@ module _ (mover : Side) (es : List Edge) (rest behind : List PartialTree) (i x :
 
 pub returns-then-number-from-clause-index : goal.returns-then-number-from-clause-index
 returns-then-number-from-clause-index c =
-    let is = c.number-number.ensures ∙ ap (number c.args.mover) c.first.ensures.child in
-    (ends c.args.mover c.args.edges.now c.loop-i.rest.now c.first.result.1.now c.loop-i.i c.number-number.result c.loop-i-test.true is c.first.ensures.behind
+    let is = c.number-number.ensures ∙ ap (number c.args.mover) c.first_and_rest.ensures.child in
+    (ends c.args.mover c.args.edges.now c.loop-i.rest.now c.first_and_rest.result.1.now c.loop-i.i c.number-number.result c.loop-i-test.true is c.first_and_rest.ensures.behind
     c.loop-i.index c.loop-i.least c.args.from _ c.if-number-from.true c.loop-i.invariant.higher c.requires.lowest c.loop-i.invariant.least).0 ∙ c.loop-i.invariant.index
 
 pub returns-then-number-from-clause-least : goal.returns-then-number-from-clause-least
 returns-then-number-from-clause-least c =
-    let is = c.number-number.ensures ∙ ap (number c.args.mover) c.first.ensures.child in
-    (ends c.args.mover c.args.edges.now c.loop-i.rest.now c.first.result.1.now c.loop-i.i c.number-number.result c.loop-i-test.true is c.first.ensures.behind
+    let is = c.number-number.ensures ∙ ap (number c.args.mover) c.first_and_rest.ensures.child in
+    (ends c.args.mover c.args.edges.now c.loop-i.rest.now c.first_and_rest.result.1.now c.loop-i.i c.number-number.result c.loop-i-test.true is c.first_and_rest.ensures.behind
     c.loop-i.index c.loop-i.least c.args.from _ c.if-number-from.true c.loop-i.invariant.higher c.requires.lowest c.loop-i.invariant.least).1
 
 pub loop-i-init : goal.loop-i-init
@@ -78,9 +78,9 @@ loop-i-init c = record {
 pub loop-i-preserved : goal.loop-i-preserved
 loop-i-preserved c =
     let e : Edge = get_or c.args.edges.now c.loop-i.i first in
-    let is = c.number-number.ensures ∙ ap (number c.args.mover) c.first.ensures.child in
-    let least = least_here c.args.mover c.args.edges.now c.loop-i.rest.now c.first.result.1.now c.loop-i.i c.number-number.result c.loop-i-test.true is
-    c.first.ensures.behind c.loop-i.index c.loop-i.least in
+    let is = c.number-number.ensures ∙ ap (number c.args.mover) c.first_and_rest.ensures.child in
+    let least = least_here c.args.mover c.args.edges.now c.loop-i.rest.now c.first_and_rest.result.1.now c.loop-i.i c.number-number.result c.loop-i-test.true is
+    c.first_and_rest.ensures.behind c.loop-i.index c.loop-i.least in
     record {
       most = search rules;
       higher = elim c.if-number-least.branch [
@@ -90,21 +90,21 @@ loop-i-preserved c =
       index = elim c.if-number-least.branch [
         | then-number-least w ↦
             rw (w.index-is, w.least-is)
-            (less c.args.mover c.args.edges.now c.loop-i.rest.now c.first.result.1.now c.loop-i.i c.number-number.result c.loop-i-test.true is
-            c.first.ensures.behind c.loop-i.index c.loop-i.least w.if-number-least.true ∙ c.loop-i.invariant.index)
+            (less c.args.mover c.args.edges.now c.loop-i.rest.now c.first_and_rest.result.1.now c.loop-i.i c.number-number.result c.loop-i-test.true is
+            c.first_and_rest.ensures.behind c.loop-i.index c.loop-i.least w.if-number-least.true ∙ c.loop-i.invariant.index)
         | else-number-least w ↦
             rw (w.index-is, w.least-is)
-            (same c.args.mover c.args.edges.now c.loop-i.rest.now c.first.result.1.now c.loop-i.i c.number-number.result c.loop-i-test.true is
-            c.first.ensures.behind c.loop-i.index c.loop-i.least w.if-number-least.false ∙ c.loop-i.invariant.index)
+            (same c.args.mover c.args.edges.now c.loop-i.rest.now c.first_and_rest.result.1.now c.loop-i.i c.number-number.result c.loop-i-test.true is
+            c.first_and_rest.ensures.behind c.loop-i.index c.loop-i.least w.if-number-least.false ∙ c.loop-i.invariant.index)
       ];
       least = elim c.if-number-least.branch [
         | then-number-least w ↦ omega (arith, w.least-is, w.if-number-least.true, least, c.loop-i.invariant.least)
         | else-number-least w ↦ omega (arith, w.least-is, w.if-number-least.false, least, c.loop-i.invariant.least)
       ];
       looked_at = elim c.if-number-least.branch [ then-number-least w ↦ search rules | else-number-least w ↦ search rules ];
-      few = omega (arith, c.counted-passed.ensures, counted_most (edge_state_of e) c.loop-i.passed, c.loop-i.invariant.few);
+      few = omega (arith, c.plus_one_if_grown-passed.ensures, counted_most (edge_state_of e) c.loop-i.passed, c.loop-i.invariant.few);
       fewer = elim c.if-number-least.branch [ then-number-least w ↦ search rules | else-number-least w ↦ search rules ];
-      passed = c.counted-passed.ensures ∙ ap (counted (edge_state_of e)) c.loop-i.invariant.passed ∙ sym (rank_next c.args.edges.now c.loop-i.i first c.loop-i-test.true);
+      passed = c.plus_one_if_grown-passed.ensures ∙ ap (counted (edge_state_of e)) c.loop-i.invariant.passed ∙ sym (rank_next c.args.edges.now c.loop-i.i first c.loop-i-test.true);
       rank = elim c.if-number-least.branch [ then-number-least w ↦ search rules | else-number-least w ↦ search rules ];
-      whole = whole_behind c.args.edges.now c.loop-i.rest.now c.loop-i.i first c.loop-i-test.true c.loop-i.invariant.whole ∙ ap length (sym c.first.ensures.behind);
+      whole = whole_behind c.args.edges.now c.loop-i.rest.now c.loop-i.i first c.loop-i-test.true c.loop-i.invariant.whole ∙ ap length (sym c.first_and_rest.ensures.behind);
     }

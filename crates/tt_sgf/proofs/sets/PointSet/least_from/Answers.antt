@@ -12,7 +12,7 @@ pub returns : goal.returns
 returns c =
     let words = c.self.inside.bits.words in
     let n = c.first_from-n.result in
-    let is : n ≡ c.point_numbered.result = sym c.point_numbered.ensures in
+    let is : n ≡ c.point_from_number.result = sym c.point_from_number.ensures in
     let there : set.contains c.args.self.now n ≡ true =
     ap (λ s. set.contains s n) (sym c.self.view_is) ∙ has_point words n (omega (arith, c.if-n-gt360.false)) ∙ c.first_from-n.ensures.found (omega (arith, c.if-n-gt360.false)) in (
       ap (set.contains c.args.self.now) (sym is) ∙ there,

@@ -11,5 +11,5 @@ pub loop-number-preserved : goal.loop-number-preserved
 loop-number-preserved c =
     let n = c.loop-number.number in
     let up : n + 1 ≡ suc n = omega arith in
-    c.with-made.ensures ∙ ap (set.insert c.loop-number.made) c.point_numbered.ensures ∙ ap (λ s. set.insert s n) c.loop-number.invariant
+    c.with-made.ensures ∙ ap (set.insert c.loop-number.made) c.point_from_number.ensures ∙ ap (λ s. set.insert s n) c.loop-number.invariant
     ∙ sym (ap (passing (λ q. true)) up ∙ passing-in (λ q. true) n refl)

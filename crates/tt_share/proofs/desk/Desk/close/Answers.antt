@@ -1,7 +1,7 @@
 use Rattle.std.proofs.Common.{◌≡◌, ℕ, List, Option, MatchOption, min, sym, ap, ◌∙◌, subst, arith}
 use lib.ListN.{get_elem?}
 use mathlib.Core.Option.{some-injective}
-use Rattle.tt_share.specs.Seats.{DeskView, SeatView, EachOnce, Spends}
+use Rattle.tt_share.specs.Seats.{DeskView, SeatView, EachOnce, AreGrantsOfTotal}
 use Rattle.tt_share.specs.inside.Gathering.{Gathers}
 use Rattle.tt_share.proofs.DeskClosing.{End, closes, grants_by}
 use Rattle.tt_share.proofs.desk.Desk.close.Goals as goal
@@ -18,7 +18,7 @@ returns c =
     let words = sym end.2 ∙ kept.3 in
     let draws : kept.0 ≡ c.word-draws.result = some-injective _ _ (sym (ap (λ (l : List ℕ). get_elem? l 0) words) ∙ c.word-draws.ensures) in
     let asked : kept.2 ≡ c.word.result = some-injective _ _ (sym (ap (λ (l : List ℕ). get_elem? l 2) words) ∙ c.word.ensures) in
-    let all = subst (λ (l : List SeatView). Gathers l c.join_all-whole.result.me.0) (sym c.in-Some.ensures.items) c.join_all-whole.ensures.knowledge in
+    let all = subst (λ (l : List SeatView). Gathers l c.join_all_seats-whole.result.me.0) (sym c.in-Some.ensures.items) c.join_all_seats-whole.ensures.knowledge in
     let shown : End desk seats kept.0 kept.2 = closes desk _ _ _ _ _ _ _ seats (omega arith) (omega arith) (omega arith) (omega arith) (omega arith) all kept.4 end.1.1 in record {
       seats_are_all = omega arith;
       draws_each_once = subst (λ (n : ℕ). EachOnce (λ (s : SeatView). s.numbers) n seats) draws shown.draws;
@@ -26,6 +26,7 @@ returns c =
       draws_most = let e = shown.draws_most in omega arith;
       draws_are = λ each. let e = shown.draws_are each in omega arith;
       sighted = shown.sighted;
-      granted = subst (λ (o : Option ℕ). MatchOption o (c.capped-granted.result ≡ 0) (λ n. Spends n c.capped-granted.result seats)) total
-          (grants_by c.self.inside.total _ _ c.word.result seats c.capped-granted.ensures c.self.invariant.total_is (λ n p. subst (λ (w : ℕ). Spends n (min w n) seats) asked (shown.grants n p)));
+      granted = subst (λ (o : Option ℕ). MatchOption o (c.granted_of_total-granted.result ≡ 0) (λ n. AreGrantsOfTotal n c.granted_of_total-granted.result seats)) total
+          (grants_by c.self.inside.total _ _ c.word.result seats c.granted_of_total-granted.ensures c.self.invariant.total_is (λ n p. subst (λ (w : ℕ). AreGrantsOfTotal n
+          (min w n) seats) asked (shown.grants n p)));
     }

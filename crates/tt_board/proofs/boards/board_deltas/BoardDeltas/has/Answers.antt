@@ -9,7 +9,7 @@ pub loop-next-preserved : goal.loop-next-preserved
 loop-next-preserved c =
     let f = c.in-Some.ensures.next in
     let g = c.size-size.result in
-    let next = c.lead.new.points in
+    let next = c.apply_next.new.points in
     record {
       behind = f.inside;
       held = λ b m. c.loop-next.invariant.held b (subst (λ cs. Contains (map (board_of g) cs) b) (sym f.colourings)

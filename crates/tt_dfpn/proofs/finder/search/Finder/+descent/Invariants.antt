@@ -5,11 +5,11 @@ use Rattle.tt_dfpn.proofs.finder.search.Finder.+descent.Given as goal
 abbrev pub decreases-search : goal.decreases-search
 decreases-search l = l.room * 3 + 2
 
-abbrev pub decreases-expand : goal.decreases-expand
-decreases-expand l = l.room * 3 + 1
+abbrev pub decreases-search_best_children : goal.decreases-search_best_children
+decreases-search_best_children l = l.room * 3 + 1
 
-abbrev pub decreases-visit : goal.decreases-visit
-decreases-visit l = l.room * 3
+abbrev pub decreases-search_after_turn : goal.decreases-search_after_turn
+decreases-search_after_turn l = l.room * 3
 
-abbrev pub invariant-expand-loop : goal.invariant-expand-loop
-invariant-expand-loop l = l.visits.left ≤ l.fn.visits.left
+abbrev pub invariant-search_best_children-loop : goal.invariant-search_best_children-loop
+invariant-search_best_children-loop l = l.visits.left ≤ l.fn.visits.left

@@ -18,8 +18,8 @@ of-requires c =
     let base = arc_value c.base.result.now in
     let found : c.deref.result.now ≡ root = search rules in
     let same : c.args.history.now.size ≡ base.size = c.requires.size ∙ sym (c.base.ensures ∙ ap (λ (r : Rooted). r.frame.size) found) in
-    subst (λ bs. All (λ (b : Position). b.size ≡ base.size) bs) (sym (take_rest c.boards.result.now c.count.result))
-    (All-drop (λ (b : Position). b.size ≡ base.size) c.count.result c.boards.result.now
+    subst (λ bs. All (λ (b : Position). b.size ≡ base.size) bs) (sym (take_rest c.boards.result.now c.board_count.result))
+    (All-drop (λ (b : Position). b.size ≡ base.size) c.board_count.result c.boards.result.now
     (subst (λ (z : Size). All (λ (b : Position). b.size ≡ z) c.boards.result.now) same c.boards.ensures.sizes))
 
 pub invariant_of-result : goal.invariant_of-result
@@ -28,15 +28,15 @@ invariant_of-result c =
     let there = c.boards.result.now in
     let g = root.frame.size in
     let same_root : arc_value c.in_ok-try_clone.field-0 ≡ root = search rules in
-    let behind : c.in_ok-later.later ≡ drop c.count.result there = c.in_ok-later.ensures ∙ take_rest there c.count.result in
+    let behind : c.in_ok-later.later ≡ drop c.board_count.result there = c.in_ok-later.ensures ∙ take_rest there c.board_count.result in
     let found : c.deref-2.result.now ≡ root = search rules in
     let sizes : All (λ (b : Position). b.size ≡ g) there = subst (λ (z : Size). All (λ (b : Position). b.size ≡ z) there) c.requires.size c.boards.ensures.sizes in
     let later : All (λ (b : Position). b.size ≡ g) c.in_ok-later.later =
-    subst (λ bs. All (λ (b : Position). b.size ≡ g) bs) (sym behind) (All-drop (λ (b : Position). b.size ≡ g) c.count.result there sizes) in
-    let some : 0 < length root.begun = subst (λ (r : Rooted). 0 < length r.begun) found c.count.ensures.some in
-    let begun : All (λ (b : Position). b.size ≡ g) root.begun = subst (λ (r : Rooted). All (λ (b : Position). b.size ≡ r.frame.size) r.begun) found c.count.ensures.sizes in
+    subst (λ bs. All (λ (b : Position). b.size ≡ g) bs) (sym behind) (All-drop (λ (b : Position). b.size ≡ g) c.board_count.result there sizes) in
+    let some : 0 < length root.begun = subst (λ (r : Rooted). 0 < length r.begun) found c.board_count.ensures.some in
+    let begun : All (λ (b : Position). b.size ≡ g) root.begun = subst (λ (r : Rooted). All (λ (b : Position). b.size ≡ r.frame.size) r.begun) found c.board_count.ensures.sizes in
     let h = c.args.history.now in
-    let count : c.count.result ≡ length root.begun = c.count.ensures.value ∙ ap (λ (r : Rooted). length r.begun) found in
+    let count : c.board_count.result ≡ length root.begun = c.board_count.ensures.value ∙ ap (λ (r : Rooted). length r.begun) found in
     let passes : c.passes.result ≡ h.passes = c.passes.ensures.value in
     let shown : state_at (game_history_of h.size (root.begun ++ drop (length root.begun) there) h.passes) c.args.to_move ≡ state_at h c.args.to_move =
     kept_shows h root.begun there c.args.to_move c.boards.ensures.colourings c.requires.begins in
@@ -54,9 +54,9 @@ returns c =
     let there = c.boards.result.now in
     let h = c.args.history.now in
     let same_root : arc_value c.in_ok-try_clone.field-0 ≡ root = search rules in
-    let behind : c.in_ok-later.later ≡ drop c.count.result there = c.in_ok-later.ensures ∙ take_rest there c.count.result in
+    let behind : c.in_ok-later.later ≡ drop c.board_count.result there = c.in_ok-later.ensures ∙ take_rest there c.board_count.result in
     let found : c.deref-2.result.now ≡ root = search rules in
-    let count : c.count.result ≡ length root.begun = c.count.ensures.value ∙ ap (λ (r : Rooted). length r.begun) found in
+    let count : c.board_count.result ≡ length root.begun = c.board_count.ensures.value ∙ ap (λ (r : Rooted). length r.begun) found in
     let passes : c.passes.result ≡ h.passes = c.passes.ensures.value in
     let shown : state_at (game_history_of h.size (root.begun ++ drop (length root.begun) there) h.passes) c.args.to_move ≡ state_at h c.args.to_move =
     kept_shows h root.begun there c.args.to_move c.boards.ensures.colourings c.requires.begins in

@@ -1,0 +1,61 @@
+//! Handing a text over to the caller.
+ghost use Rattle.std.specs.Prelude.{◌≡◌, ◌<◌, ◌≤◌, ◌++◌, Ok, drop, false, length, true};
+ghost use Rattle.tsumego_c.specs.Calls.{CallEnds};
+
+use tt_sgf::NoMemory;
+
+/// The status where memory was refused.
+const NO_MEMORY: u32 = 2;
+
+/// The status where the text has no room.
+const NO_ROOM: u32 = 3;
+
+/// A text and its status: 1 where something was refused or the certificate is invalid, else 0.
+#[derive(Drop)]
+pub struct TextAndStatus {
+    pub bytes: Vec<u8>,
+    pub status: u32,
+}
+
+/// Writes the text at the front.
+fn copy_to_front(text: &[u8], out: &mut [u8])
+    requires { length text.now ≤ length out.old }
+    ensures { out.new ≡ text.now ++ drop (length text.now) out.old }
+{
+    out[..text.len()].copy_from_slice(text);
+}
+
+/// Says how many bytes a text takes, writes it where it has room, and answers whether it has.
+fn copy_if_room(text: &[u8], out: &mut [u8], taken: &mut usize) -> bool
+    ensures taken { taken.new ≡ length text.now }
+    ensures written { result ≡ true → (length text.now ≤ length out.old) × (out.new ≡ text.now ++ drop (length text.now) out.old) }
+    ensures no_room { result ≡ false → (length out.old < length text.now) × (out.new ≡ out.old) }
+{
+    *taken = text.len();
+    if text.len() > out.len() {
+        return false;
+    }
+    copy_to_front(text, out);
+    true
+}
+
+/// Hands a text over where it has room, says how many bytes it takes, and answers the status.
+fn hand_over_text(text: &[u8], status: u32, out: &mut [u8], taken: &mut usize) -> u32
+    ensures { CallEnds (λ bytes s. (bytes ≡ text.now) × (s ≡ status)) out.old out.new taken.new result }
+{
+    let has_room = copy_if_room(text, out, taken);
+    if has_room { status } else { NO_ROOM }
+}
+
+/// Hands over the text that was made, where memory wasn't refused to it.
+pub fn hand_over(made: &Result<TextAndStatus, NoMemory>, out: &mut [u8], taken: &mut usize) -> u32
+    ensures { CallEnds (λ bytes status. (t : TextAndStatus) × (made.now ≡ Ok t) × (bytes ≡ t.bytes.items) × (status ≡ t.status)) out.old out.new taken.new result }
+{
+    match made {
+        Ok(text) => hand_over_text(text.bytes.as_slice(), text.status, out, taken),
+        Err(NoMemory) => {
+            *taken = 0;
+            NO_MEMORY
+        }
+    }
+}

@@ -1,8 +1,0 @@
-use Rattle.std.proofs.Common.{rules}
-use Rattle.tsumego_show.proofs.Told.{problem_behind}
-use Rattle.tsumego_show.proofs.showing.put_drawn.Goals as goal
-
-pub returns : goal.returns
-returns c =
-    problem_behind c.put_behind.result c.args.number c.args.nodes.now c.args.line.now c.args.behind.now c.args.out.now.items c.put_problem.new.out.items c.put_behind.new.out.items
-    (search (rules, c.in_ok-put_problem.ensures)) c.put_behind.ensures

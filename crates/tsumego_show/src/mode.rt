@@ -1,0 +1,18 @@
+//! What is written on each problem.
+
+/// What is written: pictures of characters, diagrams as SVG, or game trees of SGF: with variations to so many turns, or with the marks for
+/// the stone in a place, or for any.
+#[derive(Clone, Copy)]
+pub enum Mode {
+    Picture,
+    Diagram,
+    Variations(usize),
+    Marks(Option<StonePlace>),
+}
+
+/// A point by its column and row. Columns count from 0 on the left; rows from 0 above as in SGF, or from 1 below as in editors.
+#[derive(Clone, Copy)]
+pub enum StonePlace {
+    FromAbove(usize, usize),
+    FromBelow(usize, usize),
+}

@@ -1,5 +1,0 @@
-use Rattle.tt_game.proofs.OneSide.{not_both}
-use Rattle.tt_game.proofs.laws.one_side_forces.Goals as goal
-
-pub returns : goal.returns
-returns c = λ f s m n a d. not_both m n f s a d

@@ -1,5 +1,0 @@
-use Rattle.tt_game.proofs.OpenProblems.{problem_open}
-use Rattle.tt_game.proofs.laws.problems_are_open.Goals as goal
-
-pub returns : goal.returns
-returns c = problem_open

@@ -1,5 +1,0 @@
-use Rattle.tt_game.proofs.SomeSide.{values_forced}
-use Rattle.tt_game.proofs.laws.values.Goals as goal
-
-pub returns : goal.returns
-returns c = values_forced

@@ -1,7 +1,0 @@
-use Rattle.std.proofs.Common.{ℕ, ◌<◌, get_or}
-use Rattle.tt_board.specs.Position.{Position}
-use Rattle.tt_game.specs.Line.{HasBoard}
-use Rattle.tt_proof.proofs.board_set.BoardSet.none_in.Given as goal
-
-abbrev pub invariant-loop-held : goal.invariant-loop-held
-invariant-loop-held l = (k : ℕ) (d : Position) → k < l.held-index → HasBoard l.line.frame l.line.state (get_or l.self k d) → ⊥

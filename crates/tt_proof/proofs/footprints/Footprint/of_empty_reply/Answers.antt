@@ -1,0 +1,7 @@
+use Rattle.std.proofs.Common.{ap}
+use Rattle.std.specs.FinSet as set
+use Rattle.std.specs.Ordering.{nat_cmp}
+use Rattle.tt_proof.proofs.footprints.Footprint.of_empty_reply.Goals as goal
+
+pub of_empty_reply_with_legal-requires : goal.of_empty_reply_with_legal-requires
+of_empty_reply_with_legal-requires c = λ p there. absurd (cc (there, ap (λ s. set.contains s p) c.empty.ensures, set.contains-empty nat_cmp p))

@@ -1,7 +1,0 @@
-use Rattle.std.proofs.Common.{ap}
-use Rattle.std.specs.FinSet as set
-use Rattle.std.specs.Ordering.{nat_cmp}
-use Rattle.tt_proof.proofs.footprints.Footprint.of_repeats.Goals as goal
-
-pub of_repeats_beside-requires : goal.of_repeats_beside-requires
-of_repeats_beside-requires c = λ p there. absurd (cc (there, ap (λ s. set.contains s p) c.empty.ensures, set.contains-empty nat_cmp p))

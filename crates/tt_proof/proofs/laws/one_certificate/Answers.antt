@@ -1,5 +1,0 @@
-use Rattle.tt_proof.proofs.CertificateLemmas.{same_certificate}
-use Rattle.tt_proof.proofs.laws.one_certificate.Goals as goal
-
-pub returns : goal.returns
-returns c = same_certificate
