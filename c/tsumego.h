@@ -51,9 +51,9 @@ typedef struct {
     uint32_t depth;  /* how many turns deep a search may go from the problem: 1 to 512 */
     uint32_t total;  /* how many nodes may be expanded after all first turns together: to 362000000; 0: no such bound */
     uint32_t dfpn;   /* how many positions df-pn may visit before the search begins: to 100000000; 0: no df-pn */
-    uint32_t cert;   /* 1: the certificate follows the verdict on a line of its own, without shared parts; 0: it doesn't. A
+    uint32_t cert;   /* 0: no certificate; 1: it follows the verdict on a line of its own; 2: the same, with shared parts. A
                         strategy of df-pn whose certificate is too long for a check isn't used, so 1 may answer `unsettled`
-                        where 0 answers `killed` or `lives`: then `tsumego solve --cert --parts` has a certificate */
+                        where 0 answers `killed` or `lives`, and 2 seldom does */
 } tsumego_options;
 
 /* What `tsumego solve` takes without options: tsumego_options options = TSUMEGO_DEFAULTS; */

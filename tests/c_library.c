@@ -84,7 +84,7 @@ static void refusals(void) {
     see(tsumego_solve(sgf, size, &options, out, huge, &length) == TSUMEGO_BAD_POINTER && !length, "a huge output");
     see(tsumego_check(NULL, 1, 0, out, 64, &length) == TSUMEGO_BAD_POINTER && tsumego_score(sgf, size, out, 64, NULL) == TSUMEGO_BAD_POINTER, "null elsewhere");
     const tsumego_options bad[] = {{0, 512, 0, 0, 0}, {1000001, 512, 0, 0, 0}, {1, 0, 0, 0, 0}, {1, 513, 0, 0, 0}, {1, 65536 + 512, 0, 0, 0},
-                                   {1, 512, 362000001, 0, 0}, {1, 512, 0, 100000001, 0}};
+                                   {1, 512, 362000001, 0, 0}, {1, 512, 0, 100000001, 0}, {1, 512, 0, 0, 3}};
     for (size_t i = 0; i < sizeof bad / sizeof *bad; i++)
         see(tsumego_solve(sgf, size, &bad[i], out, 64, &length) == TSUMEGO_BAD_OPTION && !length, "an option out of range");
     see(!memcmp(out, "##", 3), "nothing is written");

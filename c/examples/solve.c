@@ -16,6 +16,7 @@ int main(int count, char **words) {
         for (size_t k = 0; k < 6; k++)
             if (!strncmp(words[i], names[k], strlen(names[k])))
                 *at[k] = strchr(words[i], '=') ? (uint32_t)strtoul(strchr(words[i], '=') + 1, NULL, 10) : 1;
+    if (parts) options.cert = 2;
     char *line = malloc(capacity);
     int status = TSUMEGO_NO_ROOM;
     /* A certificate may take more room than there is: then the answer is asked for again, with room for it. */

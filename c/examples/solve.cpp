@@ -1,4 +1,4 @@
-// The line on standard input, in C++: solve.cpp WORD [cert].
+// The line on standard input, in C++: solve.cpp WORD [cert | parts].
 #include <cstdio>
 #include <iostream>
 #include <iterator>
@@ -27,7 +27,7 @@ Answer answer(const std::string &word, const std::string &sgf, const tsumego_opt
 int main(int count, char **words) {
     std::string sgf((std::istreambuf_iterator<char>(std::cin)), {});
     tsumego_options options = TSUMEGO_DEFAULTS;
-    options.cert = count > 2 && std::string(words[2]) == "cert";
+    if (count > 2) options.cert = std::string(words[2]) == "parts" ? 2 : 1;
     Answer it = answer(count > 1 ? words[1] : "score", sgf, options);
     std::cout << it.line;
     return it.refused;

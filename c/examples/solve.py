@@ -1,5 +1,5 @@
 #!/usr/bin/env python3
-"""The line on standard input, in Python: solve.py LIBRARY WORD [cert]."""
+"""The line on standard input, in Python: solve.py LIBRARY WORD [cert | parts]."""
 import ctypes
 import sys
 
@@ -26,6 +26,6 @@ class Tsumego:
 
 
 if __name__ == "__main__":
-    line, refused = Tsumego(sys.argv[1]).answer(sys.argv[2], sys.stdin.buffer.read(), cert=int("cert" in sys.argv))
+    line, refused = Tsumego(sys.argv[1]).answer(sys.argv[2], sys.stdin.buffer.read(), cert=("", "cert", "parts").index("".join(sys.argv[3:])))
     sys.stdout.buffer.write(line)
     sys.exit(refused)

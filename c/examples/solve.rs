@@ -1,4 +1,4 @@
-//! The line on standard input, in Rust: solve.rs WORD [cert]. rustc -L lib -l static=tsumego builds it.
+//! The line on standard input, in Rust: solve.rs WORD [cert | parts]. rustc -L lib -l static=tsumego builds it.
 use std::io::{self, Read, Write};
 
 #[repr(C)]
@@ -32,7 +32,7 @@ fn main() -> io::Result<()> {
     let words: Vec<String> = std::env::args().collect();
     let mut sgf = Vec::new();
     io::stdin().read_to_end(&mut sgf)?;
-    let options = Options { budget: 100_000, depth: 512, total: 0, dfpn: 0, cert: words.iter().any(|w| w == "cert") as u32 };
+    let options = Options { budget: 100_000, depth: 512, total: 0, dfpn: 0, cert: words.get(2).map_or(0, |w| 1 + (w == "parts") as u32) };
     let (line, refused) = answer(&words[1], &sgf, &options).map_err(|status| io::Error::other(format!("status {status}")))?;
     io::stdout().write_all(&line)?;
     std::process::exit(refused as i32)

@@ -2,13 +2,16 @@
 ghost use Rattle.std.specs.Prelude.{◌≡◌, ◌≤◌, ◌↔◌, IfSome, IsSome};
 ghost use Rattle.tt_proof.specs.declared.tree.TheConstants.{MOST_DEPTH};
 ghost use Rattle.tt_search.specs.declared.limits.TheConstants.{MOST_EXPANDED};
-ghost use Rattle.tsumego_c.specs.Options.{MeansOptions, AreInRange, cert_unless_zero, unless_zero};
+ghost use Rattle.tsumego_c.specs.Options.{MeansOptions, AreInRange, cert_kind_numbered, unless_zero};
 
 use tt_dfpn::MOST_POSITIONS;
 use tt_search::Limits;
 use tt_text::{CertKind, MOST_TOTAL, Options};
 
-/// What a caller asks for, in plain numbers. A total, df-pn's positions and a certificate are asked for by a number that isn't 0.
+/// The number that asks for a certificate with shared parts.
+pub const SHARED_CERT: u32 = 2;
+
+/// What a caller asks for, in plain numbers. A total and df-pn's positions are asked for by a number that isn't 0.
 #[repr(C)]
 #[derive(Clone, Copy)]
 pub struct CallOptions {
@@ -20,7 +23,7 @@ pub struct CallOptions {
     pub total: u32,
     /// How many positions df-pn may visit before the search begins.
     pub dfpn: u32,
-    /// Whether the certificate is written.
+    /// Which certificate is written: none (0), one (1), one with shared parts (2).
     pub cert: u32,
 }
 
@@ -33,14 +36,14 @@ fn unless_zero(n: u32, most: u32) -> Option<u32>
     if n == 0 { None } else { Some(n) }
 }
 
-/// The certificate, where it is asked for.
-fn cert_unless_zero(n: u32) -> CertKind
-    ensures { result ≡ cert_unless_zero n }
+/// The kind of certificate that a number asks for.
+fn cert_kind_numbered(n: u32) -> CertKind
+    ensures { result ≡ cert_kind_numbered n }
 {
-    if n == 0 {
-        CertKind::Unasked
-    } else {
-        CertKind::Plain
+    match n {
+        0 => CertKind::Unasked,
+        1 => CertKind::Plain,
+        _ => CertKind::Shared,
     }
 }
 
@@ -60,7 +63,7 @@ pub fn options_of(numbers: &CallOptions) -> Option<Options>
     ensures in_range { IsSome result ↔ AreInRange numbers.now }
     ensures asked { IfSome result (MeansOptions numbers.now) }
 {
-    if numbers.total > MOST_TOTAL || numbers.dfpn > MOST_POSITIONS {
+    if numbers.total > MOST_TOTAL || numbers.dfpn > MOST_POSITIONS || numbers.cert > SHARED_CERT {
         return None;
     }
     let limits = limits_of(numbers.budget, numbers.depth)?;
@@ -69,7 +72,7 @@ pub fn options_of(numbers: &CallOptions) -> Option<Options>
         total: unless_zero(numbers.total, MOST_TOTAL),
         dfpn: unless_zero(numbers.dfpn, MOST_POSITIONS),
         workers: 1,
-        cert: cert_unless_zero(numbers.cert),
+        cert: cert_kind_numbered(numbers.cert),
         turns: false,
     })
 }
