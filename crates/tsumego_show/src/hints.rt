@@ -317,7 +317,7 @@ pub fn put_missing_mover_line(out: &mut Vec<u8>, nodes: &[Node]) -> Result<(), N
     Ok(())
 }
 
-/// Whether a bracket with this name in front is open where a value ends, no `]` behind it.
+/// Whether these bytes, which open something, stand in a value without a `]` behind them.
 #[tactic(auto, using(crate::proofs::Said::left_none, crate::proofs::Said::left_closed, crate::proofs::Said::left_here, crate::proofs::Said::left_further))]
 fn is_left_open(name: &[u8], value: &[u8]) -> bool
     ensures { result ≡ is_left_open name.now false value.now }
@@ -335,7 +335,7 @@ fn is_left_open(name: &[u8], value: &[u8]) -> bool
     found
 }
 
-/// Whether a value of a property has such a bracket.
+/// Whether such bytes stand in a value of a property.
 fn has_left_open(property: &Property, name: &[u8]) -> bool
     ensures { result ≡ list_any (is_left_open name.now false) property.now.values }
 {
@@ -345,7 +345,7 @@ fn has_left_open(property: &Property, name: &[u8]) -> bool
         .any(|value| is_left_open(name, value.as_slice()))
 }
 
-/// Whether a property is a comment with such a bracket.
+/// Whether a property is a comment with such bytes.
 fn is_open_comment(property: &Property, name: &[u8]) -> bool
     ensures { result ≡ is_open_comment name.now property.now }
 {
@@ -369,7 +369,7 @@ fn have_open_comment(nodes: &[Node], name: &[u8]) -> bool
     nodes.iter().any(|node| has_open_comment(node, name))
 }
 
-/// Writes which name stands there, and a question, behind the text.
+/// Writes which bytes stand there, and a question, behind the text.
 fn put_question(out: &mut Vec<u8>, name: &[u8]) -> Result<(), NoMemory>
     ensures { OnOk result (out.new.items ≡ out.old.items ++ (name.now ++ codes ": is its ] missing?\n")) }
 {
@@ -388,9 +388,9 @@ fn put_comment(out: &mut Vec<u8>, nodes: &[Node], name: &[u8]) -> Result<(), NoM
     Ok(())
 }
 
-/// Writes a line for each of PL, TR, SQ, AB and AW that stands with an open bracket in a comment of a main line behind the text: the
-/// `]` of the comment is likely missing, so that the property is a part of it. `NoMemory` where memory was refused; a part may stand
-/// there then.
+/// Writes a line for each of `PL[`, `TR[`, `SQ[`, `AB[`, `AW[` and `(;` that stands in a comment of a main line, with no `]` behind it,
+/// behind the text: the `]` of the comment is likely missing, so that the property or the tree is a part of it. `NoMemory` where memory
+/// was refused; a part may stand there then.
 pub fn put_comments(out: &mut Vec<u8>, nodes: &[Node]) -> Result<(), NoMemory>
     ensures { OnOk result (out.new.items ≡ out.old.items ++ comment_lines nodes.now) }
 {
@@ -398,5 +398,6 @@ pub fn put_comments(out: &mut Vec<u8>, nodes: &[Node]) -> Result<(), NoMemory>
     put_comment(out, nodes, b"TR[")?;
     put_comment(out, nodes, b"SQ[")?;
     put_comment(out, nodes, b"AB[")?;
-    put_comment(out, nodes, b"AW[")
+    put_comment(out, nodes, b"AW[")?;
+    put_comment(out, nodes, b"(;")
 }
