@@ -116,7 +116,7 @@ module _ (p : LineWithUndo) where
 abbrev pub is_side_to_move_given_after : Bool → Node → Bool
 is_side_to_move_given_after before n = if is_setup n then has PL n else (has B n || (has W n || before))
 
--- and at the first of these nodes that has TR, where the problem stands
+-- and at the first of these nodes that has TR, or behind the last, where the problem stands
 unfoldable pub is_side_to_move_given : Bool → List Node → Bool
 is_side_to_move_given before [] = before
 is_side_to_move_given before (n ∷ ns) = if has TR n then is_side_to_move_given_after before n else is_side_to_move_given (is_side_to_move_given_after before n) ns

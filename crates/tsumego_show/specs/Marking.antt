@@ -25,7 +25,7 @@ use Rattle.tsumego_show.specs.declared.mode.StonePlace.TheVariants.{FromAbove, F
 use Rattle.tsumego_show.specs.declared.mark_proposals.StoneWithPoints.{StoneWithPoints}
 use Rattle.tsumego_show.specs.declared.tree_bytes.LexicalState.TheVariants.{Outside}
 use Rattle.tsumego_show.specs.declared.variations.RootPointProperty.TheVariants.{Squares, Triangles}
-use Rattle.tsumego_show.specs.Hints.{both_point_names, comment_lines, hints, point_names_line}
+use Rattle.tsumego_show.specs.Hints.{both_point_names, comment_lines, hints, missing_mover_line, point_names_line}
 use Rattle.tsumego_show.specs.Picture.{colour_name}
 use Rattle.tsumego_show.specs.Refusals.{fault_text, refusal_line}
 use Rattle.tsumego_show.specs.Regions.{nearby_empties, is_closed, is_inner, proposed_region, stones, ways_out}
@@ -195,9 +195,12 @@ module _ (s : GameState) where
   proposal_or_reason is_squared place k n tree None = refusal_line k (code_of NoTarget) ++ (codes "why: " ++ (why_unmarked is_squared place ++ tree_as_given tree))
   proposal_or_reason is_squared place k n tree (Some m) = hints_and_marked_tree n (problem_with_proposal s m) tree
 
--- what is written of a main line without triangles: up to where it asks it comes to a game, and comments may go on too far; or it is refused
+-- what is written of a main line without triangles: up to where it asks it comes to a game, and perhaps nobody says who moves there, and
+-- comments go on too far; or it is refused
 abbrev pub game_marked_or_kept : Option StonePlace → ℕ → List ℕ → List Node → Result GameState GameFault → List ℕ
-game_marked_or_kept place k tree ns (Ok s) = comment_lines ns ++ proposal_or_reason s (is_last_node_squared ns) place k (nodes_before_solution false ns) tree (proposal_unless_squared s (is_last_node_squared ns) place)
+game_marked_or_kept place k tree ns (Ok s) =
+    missing_mover_line (problem_nodes ns) ++ (comment_lines ns
+    ++ proposal_or_reason s (is_last_node_squared ns) place k (nodes_before_solution false ns) tree (proposal_unless_squared s (is_last_node_squared ns) place))
 game_marked_or_kept place k tree ns (Err e) = fault_text k ns e ++ tree_as_given tree
 
 -- what is written of a main line that is no problem, by this fault: where nothing is proposed, the tree as it was stands behind the lines

@@ -289,7 +289,7 @@ fn is_side_to_move_given_after(before: bool, node: &Node) -> bool
     has_property(node, b"B") || has_property(node, b"W") || before
 }
 
-/// Whether it is said who moves at the first of these nodes that has TR.
+/// Whether it is said who moves at the first of these nodes that has TR, or behind the last.
 #[tactic(auto, using(crate::proofs::Said::said_none, crate::proofs::Said::said_here, crate::proofs::Said::said_further))]
 fn is_side_to_move_given(nodes: &[Node]) -> bool
     ensures { result ≡ is_side_to_move_given false nodes.now }
@@ -307,7 +307,7 @@ fn is_side_to_move_given(nodes: &[Node]) -> bool
 }
 
 /// Writes the line on a main line in which nobody says who moves behind the text: neither PL beside the last setup nor a move
-/// behind it, up to the first node with TR. `NoMemory` where memory was refused; a part may stand there then.
+/// behind it, up to the first node with TR, or the last. `NoMemory` where memory was refused; a part may stand there then.
 pub fn put_missing_mover_line(out: &mut Vec<u8>, nodes: &[Node]) -> Result<(), NoMemory>
     ensures { OnOk result (out.new.items ≡ out.old.items ++ missing_mover_line nodes.now) }
 {

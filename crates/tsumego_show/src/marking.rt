@@ -12,7 +12,9 @@ ghost use Rattle.tsumego_show.specs.Marking.{why_unmarked, why_unmarked_at_place
 ghost use Rattle.tsumego_show.specs.Refusals.{fault_text};
 ghost use Rattle.tsumego_show.specs.TreeBytes.{tree_as_given};
 
-use crate::hints::{put_both_point_names, put_comments, put_hints, put_point_names_line};
+use crate::hints::{
+    put_both_point_names, put_comments, put_hints, put_missing_mover_line, put_point_names_line,
+};
 use crate::mark_proposals::{StoneWithPoints, least_open, point_of_place, proposal_unless_squared};
 use crate::mode::StonePlace;
 use crate::node_values::has_property;
@@ -388,6 +390,7 @@ fn put_game_marked_or_kept(
 {
     match game_before_solution(alloc, &main) {
         Ok(game) => {
+            put_missing_mover_line(out, problem_nodes(main.nodes.as_slice()))?;
             put_comments(out, main.nodes.as_slice())?;
             put_proposal_or_reason(alloc, out, place, number, &main, tree, game)
         }
