@@ -1,6 +1,6 @@
 -- The diagram of a problem as SVG 1.1: black and white as in books, the part of the board that matters, with the coordinates of
 -- editors. A cell is 24 wide; the middle of the first one is at 36, 36.
-use Rattle.std.specs.Prelude.{ℕ, zero, suc, ◌+◌, ◌-◌, ◌*◌, ◌%◌, ◌&&◌, ◌||◌, not, max, min, nat_eq, nat_lt, Bool, false, List, [], ◌∷◌, ◌++◌, codes, decimal, Option, Some, None, is_none, if◌then◌else◌}
+use Rattle.std.specs.Prelude.{ℕ, zero, suc, ◌+◌, ◌-◌, ◌*◌, ◌%◌, ◌&&◌, ◌||◌, not, max, min, nat_eq, nat_lt, Bool, false, List, [], ◌∷◌, ◌++◌, codes, decimal, Option, Some, None, if◌then◌else◌}
 use Rattle.std.specs.List.{flat_map, range_with_len}
 use Rattle.std.specs.FinSet as set
 use Rattle.tt_sgf.specs.declared.size.Size.{Size}
@@ -16,6 +16,7 @@ use Rattle.tsumego_show.specs.declared.windows.Axis.TheVariants.{Columns, Rows}
 use Rattle.tsumego_show.specs.declared.windows.Window.{Window}
 use Rattle.tsumego_show.specs.Picture.{colour_name, editor_column_letter, row_number}
 use Rattle.tsumego_show.specs.Regions.{adjacent_points}
+use Rattle.tsumego_show.specs.TreeBytes.{is_nil}
 
 -- ---- what matters: the columns and rows with a target, a point of the region or a stone beside one, and one more on each side
 
@@ -149,14 +150,16 @@ module _ (p : LineWithUndo) where
   numbered_stone_if_any x y None = []
   numbered_stone_if_any x y (Some n) = numbered_stone x y (numbered_stone_colour n) n
 
-module _ (p : LineWithUndo) (plays : List ℕ) where
-  -- a point of a region that isn't the whole board, where no number stands
+  -- a point of a region that isn't the whole board
   abbrev pub has_square : ℕ → Bool
-  has_square q = is_in_region p q && (is_none (number_of_play 1 plays q) && not (nat_eq (set.len p.frame.region) (point_count p.frame.size)))
+  has_square q = is_in_region p q && not (nat_eq (set.len p.frame.region) (point_count p.frame.size))
 
+module _ (p : LineWithUndo) (plays : List ℕ) where
+  -- where plays are numbered there are no squares
   abbrev pub mark_text : ℕ → ℕ → ℕ → List ℕ
   mark_text x y q =
-      if is_target p q then triangle_text x y (entry_at p.state.present q) else (if has_square q then square_text x y (entry_at p.state.present q) else [])
+      if is_target p q then triangle_text x y (entry_at p.state.present q)
+      else (if is_nil plays && has_square p q then square_text x y (entry_at p.state.present q) else [])
 
   -- the stone, the mark and the number on q
   unfoldable pub point_shapes : ℕ → ℕ → ℕ → List ℕ

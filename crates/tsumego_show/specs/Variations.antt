@@ -66,7 +66,7 @@ module _ (p : LineWithUndo) where
   is_point_listed Blacks q = has_stone_of_colour Black q
   is_point_listed Whites q = has_stone_of_colour White q
   is_point_listed Triangles q = is_target p q
-  is_point_listed Squares q = has_square p [] q
+  is_point_listed Squares q = has_square p q
 
   unfoldable pub listed_value : RootPointProperty → ℕ → List ℕ
   listed_value points q = if is_point_listed points q then bracketed (turn_text p.frame.size (Play q)) else []

@@ -193,13 +193,13 @@ fn number_of_play(plays: &[usize], point: usize) -> Option<usize>
     None
 }
 
-/// Whether a square is drawn on the point of this number.
-pub fn has_square(line: &Line, plays: &[usize], number: usize) -> bool
+/// Whether the point of this number is in a region that isn't the whole board.
+pub fn has_square(line: &Line, number: usize) -> bool
     requires { number < point_count line.now.frame.size }
-    ensures { result ≡ has_square line.now plays.now number }
+    ensures { result ≡ has_square line.now number }
 {
     let is_whole = usize::from(line.frame().region.count()) == line.frame().size.point_count();
-    is_in_region(line, number) && (number_of_play(plays, number).is_none() && !is_whole)
+    is_in_region(line, number) && !is_whole
 }
 
 /// What stands on the point of this number.
@@ -244,7 +244,7 @@ fn put_mark(
     if is_target(line, number) {
         return put_triangle(alloc, out, x, y, stone_at(line, number));
     }
-    if has_square(line, plays, number) {
+    if plays.is_empty() && has_square(line, number) {
         return put_square(alloc, out, x, y, stone_at(line, number));
     }
     Ok(())
@@ -538,7 +538,7 @@ fn put_caption(alloc: Global, out: &mut Vec<u8>, line: &Line, w: Window) -> Resu
 }
 
 /// Writes the diagram of the problem at a line as SVG behind the text: what matters of the board, with the coordinates of editors,
-/// the targets and the region marked, and these plays as stones with the numbers 1, 2, 3 and so on; below, who moves.
+/// the targets marked, and the region or these plays, as stones with the numbers 1, 2, 3 and so on; below, who moves.
 /// `NoMemory` where memory was refused; a part may stand there then.
 pub fn put_svg(
     alloc: Global,

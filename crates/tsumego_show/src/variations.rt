@@ -59,7 +59,7 @@ fn is_point_listed(line: &Line, points: RootPointProperty, number: usize) -> boo
         RootPointProperty::Blacks => has_stone_of_colour(line, number, Colour::Black),
         RootPointProperty::Whites => has_stone_of_colour(line, number, Colour::White),
         RootPointProperty::Triangles => is_target(line, number),
-        RootPointProperty::Squares => has_square(line, &[], number),
+        RootPointProperty::Squares => has_square(line, number),
     }
 }
 
