@@ -1,24 +1,25 @@
 -- What is drawn or written of a strategy that was found.
-use Rattle.std.proofs.Common.{◌≡◌, ℕ, true, false, List, ◌++◌, Option, refl, ap, subst, Ok, Err, OnOk}
+use Rattle.std.proofs.Common.{◌≡◌, ℕ, true, false, List, ◌++◌, Option, refl, ap₂, subst, Ok, Err, OnOk}
 use Rattle.std.specs.declared.result.Result.{Result}
 use Rattle.tt_sgf.specs.declared.nodes.Node.{Node}
 use Rattle.tt_game.specs.declared.frame.Frame.{Frame}
+use Rattle.tt_game.specs.declared.frame.Side.{Side}
 use Rattle.tt_game.specs.Line.{LineWithUndo}
 use Rattle.tsumego_show.specs.declared.mode.Mode.TheVariants.{Marks, Variations}
 use Rattle.tsumego_show.specs.Diagram.{svg_text}
-use Rattle.tsumego_show.specs.FollowingStrategy.{FollowingStrategy, IsFollowingStrategy}
+use Rattle.tsumego_show.specs.FollowingStrategy.{FollowingStrategy, IsFollowingStrategy, claimed_winner}
 use Rattle.tsumego_show.specs.declared.mode.StonePlace.{StonePlace}
 use Rattle.tsumego_show.specs.Marking.{kept_problem_text}
 use Rattle.tsumego_show.specs.Shown.{IsDiagram, IsProblemText, not_drawn_line, no_strategy_words}
 use Rattle.tsumego_show.specs.NumberedPlays.{numbered_plays}
 use Rattle.tsumego_show.specs.Variations.{sgf_text}
 
-pub found_drawn : {A E : Type 0} (r : Result A E) (p : LineWithUndo) (f : Frame) (behind old new plays : List ℕ) (b : FollowingStrategy) → f ≡ p.frame
-    → IsFollowingStrategy f.size behind b → plays ≡ numbered_plays p b → OnOk r (new ≡ old ++ svg_text p plays)
+pub found_drawn : {A E : Type 0} (r : Result A E) (p : LineWithUndo) (f : Frame) (behind old new plays : List ℕ) (winner : Option Side) (b : FollowingStrategy) → f ≡ p.frame
+    → IsFollowingStrategy f.size behind b → plays ≡ numbered_plays p b → winner ≡ claimed_winner b → OnOk r (new ≡ old ++ svg_text p plays winner)
     → (k : ℕ) → OnOk r ((x : List ℕ) × IsDiagram true k p behind x × (new ≡ old ++ x))
-found_drawn (Ok y) p f behind old new plays b same h is w k =
-    (svg_text p plays, (b, subst (λ (g : Frame). IsFollowingStrategy g.size behind b) same h, ap (λ x. svg_text p x) is), w)
-found_drawn (Err y) p f behind old new plays b same h is w k = w
+found_drawn (Ok y) p f behind old new plays winner b same h is wins w k =
+    (svg_text p plays winner, (b, subst (λ (g : Frame). IsFollowingStrategy g.size behind b) same h, ap₂ (svg_text p) is wins), w)
+found_drawn (Err y) p f behind old new plays winner b same h is wins w k = w
 
 pub found_written : {A E : Type 0} (r : Result A E) (p : LineWithUndo) (f : Frame) (behind old new : List ℕ) (b : FollowingStrategy) → f ≡ p.frame → IsFollowingStrategy f.size behind b
     → (depth : ℕ) → OnOk r (new ≡ old ++ sgf_text p depth (no_strategy_words behind) b)

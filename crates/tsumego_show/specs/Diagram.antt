@@ -9,6 +9,8 @@ use Rattle.tt_board.specs.declared.Colour.{Colour}
 use Rattle.tt_board.specs.declared.Colour.TheVariants.{Black, White}
 use Rattle.tt_board.specs.Play.{is_empty, other}
 use Rattle.tt_board.specs.Reach.{entry_at}
+use Rattle.tt_game.specs.declared.frame.Side.{Side}
+use Rattle.tt_game.specs.declared.frame.Side.TheVariants.{Attacker, Defender}
 use Rattle.tt_game.specs.Game.{opponent, side_colour}
 use Rattle.tt_game.specs.Line.{LineWithUndo}
 use Rattle.tsumego_show.specs.declared.windows.Axis.{Axis}
@@ -187,7 +189,7 @@ module _ (w : Window) where
 
   -- the middle of the document, which has room for the line below the board
   abbrev pub document_centre : ℕ
-  document_centre = max 42 (12 * (w.right - w.left) + 30)
+  document_centre = max 80 (12 * (w.right - w.left) + 30)
 
   abbrev pub width : ℕ
   width = 2 * document_centre
@@ -233,12 +235,20 @@ module _ (size : Size) (w : Window) where
   unfoldable pub row_line_and_number : ℕ → List ℕ
   row_line_and_number j = row_elements (grid_left w) (cell_middle j) grid_right (cell_middle j + 4) (row_number size (w.top + j))
 
-module _ (p : LineWithUndo) (w : Window) where
-  -- `Black to play`, as books have it below a diagram
-  unfoldable pub caption : List ℕ
-  caption =
+module _ (p : LineWithUndo) where
+  -- what a winner does, by the side to move: a side kills or lives by its own play, or whatever the other one plays
+  abbrev pub winner_text : Side → Option Side → List ℕ
+  winner_text mover None = []
+  winner_text Attacker (Some Attacker) = codes " and kill"
+  winner_text Defender (Some Defender) = codes " and live"
+  winner_text Attacker (Some Defender) = codes ": " ++ (colour_name (side_colour p.frame Defender) ++ codes " lives")
+  winner_text Defender (Some Attacker) = codes ": " ++ (colour_name (side_colour p.frame Attacker) ++ codes " kills")
+
+  -- `Black to play and kill`, as books have it below a diagram
+  unfoldable pub caption : Option Side → Window → List ℕ
+  caption winner w =
       codes "<text x='" ++ (decimal (document_centre w) ++ (codes "' y='" ++ (decimal (caption_baseline w)
-      ++ (codes "'>" ++ (colour_name (side_colour p.frame p.state.to_move) ++ codes " to play</text>\n")))))
+      ++ (codes "'>" ++ (colour_name (side_colour p.frame p.state.to_move) ++ (codes " to play" ++ (winner_text p.state.to_move winner ++ codes "</text>\n")))))))
 
 module _ (p : LineWithUndo) (plays : List ℕ) (w : Window) where
   -- the shapes on the points of a row
@@ -248,10 +258,10 @@ module _ (p : LineWithUndo) (plays : List ℕ) (w : Window) where
   abbrev pub row_points_shapes : ℕ → List ℕ
   row_points_shapes j = flat_map (cell_shapes j) (range_with_len 0 (shown_column_count w))
 
-  abbrev pub svg_of_window : List ℕ
-  svg_of_window = svg_head (width w) (height w) ++ (flat_map (column_line_and_letter p.frame.size w) (range_with_len 0 (shown_column_count w)) ++ (flat_map (row_line_and_number p.frame.size w) (range_with_len 0 (shown_row_count w))
-      ++ (flat_map row_points_shapes (range_with_len 0 (shown_row_count w)) ++ (caption p w ++ codes "</svg>\n"))))
+  abbrev pub svg_of_window : Option Side → List ℕ
+  svg_of_window winner = svg_head (width w) (height w) ++ (flat_map (column_line_and_letter p.frame.size w) (range_with_len 0 (shown_column_count w)) ++ (flat_map (row_line_and_number p.frame.size w) (range_with_len 0 (shown_row_count w))
+      ++ (flat_map row_points_shapes (range_with_len 0 (shown_row_count w)) ++ (caption p winner w ++ codes "</svg>\n"))))
 
--- the problem with these plays, numbered from 1 on
-abbrev pub svg_text : LineWithUndo → List ℕ → List ℕ
-svg_text p plays = svg_of_window p plays (window p)
+-- the problem with these plays, numbered from 1 on, and with who wins, where that is said
+abbrev pub svg_text : LineWithUndo → List ℕ → Option Side → List ℕ
+svg_text p plays winner = svg_of_window p plays (window p) winner

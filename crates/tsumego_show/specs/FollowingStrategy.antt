@@ -1,5 +1,5 @@
 -- What stands behind a problem: a strategy, or none.
-use Rattle.std.specs.Prelude.{◌≡◌, ◌⊎◌, List, [], ℕ}
+use Rattle.std.specs.Prelude.{◌≡◌, ◌⊎◌, List, [], ℕ, Option, Some, None}
 use Rattle.tt_sgf.specs.declared.size.Size.{Size}
 use Rattle.tt_sgf.specs.Grammar.{HasOpeningParenthesis}
 use Rattle.tt_sgf.specs.Values.{trimmed}
@@ -15,6 +15,11 @@ IsCertificateFor size bytes side u = (o : Outline) × IsSharedCertificate size b
 pub data FollowingStrategy : Type 0 where
   no_strategy : FollowingStrategy
   found : Side → Strategy → FollowingStrategy
+
+-- who wins, by what the certificate says
+abbrev pub claimed_winner : FollowingStrategy → Option Side
+claimed_winner no_strategy = None
+claimed_winner (found side u) = Some side
 
 -- no tree may follow, and the bytes, without the white space at both ends, are a certificate of this side and strategy; or there
 -- is no such strategy

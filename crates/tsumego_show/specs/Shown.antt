@@ -13,7 +13,7 @@ use Rattle.tsumego_show.specs.declared.mode.Mode.{Mode}
 use Rattle.tsumego_show.specs.declared.mode.Mode.TheVariants.{Picture, Diagram, Marks, Variations}
 use Rattle.tsumego_show.specs.Diagram.{svg_text}
 use Rattle.tsumego_show.specs.StrategyListing.{IsCertificateListing}
-use Rattle.tsumego_show.specs.FollowingStrategy.{FollowingStrategy, IsFollowingStrategy}
+use Rattle.tsumego_show.specs.FollowingStrategy.{FollowingStrategy, IsFollowingStrategy, claimed_winner}
 use Rattle.tsumego_show.specs.Hints.{comment_lines, hints, missing_mover_line}
 use Rattle.tsumego_show.specs.Marking.{is_left_unmarked, tree_marked_or_kept, unsquared_triangle_node, kept_problem_text}
 use Rattle.tsumego_show.specs.Picture.{picture}
@@ -39,7 +39,7 @@ not_drawn_line k = decimal k ++ codes " not drawn: give each problem a file of i
 -- the diagram of a problem that is alone, with the strategy that stands behind it
 abbrev pub IsDiagram : Bool → ℕ → LineWithUndo → List ℕ → List ℕ → Type 0
 IsDiagram false k p behind text = text ≡ not_drawn_line k
-IsDiagram true k p behind text = (b : FollowingStrategy) × IsFollowingStrategy p.frame.size behind b × (text ≡ svg_text p (numbered_plays p b))
+IsDiagram true k p behind text = (b : FollowingStrategy) × IsFollowingStrategy p.frame.size behind b × (text ≡ svg_text p (numbered_plays p b) (claimed_winner b))
 
 -- what is said where no strategy stands behind a problem
 abbrev pub no_strategy_words : List ℕ → List ℕ

@@ -1,19 +1,21 @@
 //! The diagram of a problem as SVG.
-ghost use Rattle.std.specs.Prelude.{◌≡◌, ◌++◌, ◌<◌, ◌≤◌, OnOk};
+ghost use Rattle.std.specs.Prelude.{◌≡◌, ◌++◌, ◌<◌, ◌≤◌, OnOk, codes};
 ghost use Rattle.std.specs.List.{flat_map, range_with_len};
 ghost use Rattle.tt_sgf.specs.Sizes.{point_count};
 ghost use Rattle.tt_board.specs.Reach.{entry_at};
+ghost use Rattle.tt_game.specs.Game.{side_colour};
 ghost use Rattle.tsumego_show.specs.inside.Windows.{IsWindow};
 ghost use Rattle.tsumego_show.specs.Diagram.{grid_bottom, caption, cell_shapes, document_centre, column_line_and_letter, numbered_stone_colour, column_head, shown_column_count, stone_number_text, stone_if_any_text, numbered_stone_if_any, grid_overhang, has_square, fill_colour};
 ghost use Rattle.tsumego_show.specs.Diagram.{square_fill, mark_colour, mark_text, number_end, number_head, number_of_play, numbered_stone, point_shapes, row_points_shapes, grid_right, row_line_and_number, row_elements, shown_row_count, square_text, stone_head, stone_text};
-ghost use Rattle.tsumego_show.specs.Diagram.{svg_head, svg_text, triangle_head, triangle_text};
+ghost use Rattle.tsumego_show.specs.Diagram.{svg_head, svg_text, triangle_head, triangle_text, winner_text};
+ghost use Rattle.tsumego_show.specs.Picture.{colour_name};
 
 use crate::picture::{colour_name, editor_column_letter, side_colour};
 use crate::points::{is_in_region, is_target, point_numbered};
 use crate::windows::{Window, point_number_at, window_of};
 use std::alloc::Global;
 use tt_board::Colour;
-use tt_game::Line;
+use tt_game::{Line, Side};
 use tt_sgf::{NoMemory, Size};
 
 /// The word for a colour.
@@ -502,7 +504,7 @@ fn document_centre(size: Size, w: Window) -> usize
     ensures value { result ≡ document_centre w }
     ensures most { result ≤ 1000 }
 {
-    (12 * (w.right - w.left) + 30).max(42)
+    (12 * (w.right - w.left) + 30).max(80)
 }
 
 /// Writes the beginning of the document behind the text.
@@ -522,31 +524,78 @@ fn put_svg_head(
     Ok(())
 }
 
-/// Writes who moves behind the text.
+/// Writes that this side kills or lives, though the other one is to move, behind the text.
+fn put_opponent_wins(
+    out: &mut Vec<u8>,
+    line: &Line,
+    side: Side,
+    word: &[u8],
+) -> Result<(), NoMemory>
+    ensures { OnOk result (out.new.items ≡ out.old.items ++ (codes ": " ++ (colour_name (side_colour line.now.frame side) ++ word.now))) }
+{
+    out.extend_from_slice(b": ")?;
+    out.extend_from_slice(colour_name(side_colour(line, side)))?;
+    out.extend_from_slice(word)?;
+    Ok(())
+}
+
+/// Writes what a winner does, where there is one, behind the text.
+fn put_winner(
+    out: &mut Vec<u8>,
+    line: &Line,
+    mover: Side,
+    winner: Option<Side>,
+) -> Result<(), NoMemory>
+    ensures { OnOk result (out.new.items ≡ out.old.items ++ winner_text line.now mover winner) }
+{
+    match (mover, winner) {
+        (_, None) => Ok(()),
+        (Side::Attacker, Some(Side::Attacker)) => Ok(out.extend_from_slice(b" and kill")?),
+        (Side::Defender, Some(Side::Defender)) => Ok(out.extend_from_slice(b" and live")?),
+        (Side::Attacker, Some(Side::Defender)) => {
+            put_opponent_wins(out, line, Side::Defender, b" lives")
+        }
+        (Side::Defender, Some(Side::Attacker)) => {
+            put_opponent_wins(out, line, Side::Attacker, b" kills")
+        }
+    }
+}
+
+/// Writes who moves, and who wins, where that is said, behind the text.
 #[tactic(auto, unfolding(crate::specs::Diagram::caption))]
-fn put_caption(alloc: Global, out: &mut Vec<u8>, line: &Line, w: Window) -> Result<(), NoMemory>
+fn put_caption(
+    alloc: Global,
+    out: &mut Vec<u8>,
+    line: &Line,
+    winner: Option<Side>,
+    w: Window,
+) -> Result<(), NoMemory>
     requires { IsWindow line.now.frame.size w }
-    ensures { OnOk result (out.new.items ≡ out.old.items ++ caption line.now w) }
+    ensures { OnOk result (out.new.items ≡ out.old.items ++ caption line.now winner w) }
 {
     let x = document_centre(line.frame().size, w);
     let below = 24 * (w.bottom - w.top) + 72;
     let text = format!(in alloc; "<text x='{x}' y='{below}'>")?;
     out.extend_from_slice(text.as_bytes())?;
     out.extend_from_slice(colour_name(side_colour(line, line.to_move())))?;
-    out.extend_from_slice(b" to play</text>\n")?;
+    out.extend_from_slice(b" to play")?;
+    put_winner(out, line, line.to_move(), winner)?;
+    out.extend_from_slice(b"</text>\n")?;
     Ok(())
 }
 
 /// Writes the diagram of the problem at a line as SVG behind the text: what matters of the board, with the coordinates of editors,
-/// the targets marked, and the region or these plays, as stones with the numbers 1, 2, 3 and so on; below, who moves.
+/// the targets marked, and the region or these plays, as stones with the numbers 1, 2, 3 and so on; below, who moves, and
+/// who wins, where that is said.
 /// `NoMemory` where memory was refused; a part may stand there then.
 pub fn put_svg(
     alloc: Global,
     out: &mut Vec<u8>,
     line: &Line,
     plays: &[usize],
+    winner: Option<Side>,
 ) -> Result<(), NoMemory>
-    ensures { OnOk result (out.new.items ≡ out.old.items ++ svg_text line.now plays.now) }
+    ensures { OnOk result (out.new.items ≡ out.old.items ++ svg_text line.now plays.now winner) }
 {
     let size = line.frame().size;
     let w = window_of(line);
@@ -555,7 +604,7 @@ pub fn put_svg(
     put_column_lines(alloc, out, size, w)?;
     put_row_lines_and_numbers(alloc, out, size, w)?;
     put_all_points_shapes(alloc, out, line, plays, w)?;
-    put_caption(alloc, out, line, w)?;
+    put_caption(alloc, out, line, winner, w)?;
     out.extend_from_slice(b"</svg>\n")?;
     Ok(())
 }

@@ -1,7 +1,7 @@
 //! Reads the strategy that stands behind a problem.
-ghost use Rattle.std.specs.Prelude.{IfOk, IfSome};
+ghost use Rattle.std.specs.Prelude.{◌≡◌, IfOk, IfSome};
 ghost use Rattle.tt_proof.specs.Strategy.{IsInOrder, strategy_of};
-ghost use Rattle.tsumego_show.specs.FollowingStrategy.{IsFollowingStrategy};
+ghost use Rattle.tsumego_show.specs.FollowingStrategy.{IsFollowingStrategy, claimed_winner};
 ghost use Rattle.tsumego_show.specs.inside.Trees.{found_of};
 
 use crate::certificates::read_plain_or_shared;
@@ -28,5 +28,15 @@ pub fn read_following_strategy(
         Err(CertFault::NoMemory) => Err(NoMemory),
         Err(CertFault::Syntax) => Ok(None),
         Err(CertFault::TooDeep) => Ok(None),
+    }
+}
+
+/// Who wins, by what the certificate says.
+pub fn claimed_winner(found: &Option<(Side, Tree)>) -> Option<Side>
+    ensures { result ≡ claimed_winner (found_of found.now) }
+{
+    match found {
+        None => None,
+        Some((side, _)) => Some(*side),
     }
 }

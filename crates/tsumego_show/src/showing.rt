@@ -5,7 +5,7 @@ ghost use Rattle.tsumego_show.specs.declared.mode.Mode.TheVariants.{Picture, Var
 ghost use Rattle.tsumego_show.specs.Shown.{IsFollowingText, IsDiagram, IsProblemText, IsShown, IsGameTreeText, non_problem_text, is_only_tree, is_non_problem_refused, is_problem_refused, is_tree_refused, picture_and_hints_text, not_drawn_line, no_strategy_words};
 
 use crate::diagram::put_svg;
-use crate::following_strategy::read_following_strategy;
+use crate::following_strategy::{claimed_winner, read_following_strategy};
 use crate::hints::{put_comments, put_hints, put_missing_mover_line};
 use crate::marking::{put_kept_problem, put_tree_marked_or_kept, unsquared_triangle_node};
 use crate::mode::Mode;
@@ -83,7 +83,7 @@ fn put_not_drawn_line(alloc: Global, out: &mut Vec<u8>, number: usize) -> Result
     Ok(())
 }
 
-/// Writes a problem, with the solution of the strategy behind it, as a diagram behind the text.
+/// Writes a problem, with the solution of the strategy behind it and who wins by it, as a diagram behind the text.
 fn put_sole_diagram(
     alloc: Global,
     out: &mut Vec<u8>,
@@ -95,7 +95,7 @@ fn put_sole_diagram(
 {
     let found = read_following_strategy(alloc, line.frame().size, behind)?;
     let plays = numbered_plays(alloc, line, &found)?;
-    put_svg(alloc, out, line, plays.as_slice())
+    put_svg(alloc, out, line, plays.as_slice(), claimed_winner(&found))
 }
 
 /// Writes the diagram of a problem behind the text, or that it isn't drawn.
