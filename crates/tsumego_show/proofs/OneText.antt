@@ -21,7 +21,7 @@ use Rattle.tsumego_show.specs.Diagram.{svg_text}
 use Rattle.tsumego_show.specs.NumberedPlays.{numbered_plays}
 use Rattle.tsumego_show.specs.Variations.{sgf_text}
 use Rattle.tsumego_show.specs.FollowingStrategy.{FollowingStrategy, IsCertificateFor, IsFollowingStrategy, claimed_winner, no_strategy, found}
-use Rattle.tsumego_show.specs.Shown.{IsFollowingText, IsDiagram, IsShown, IsInputText, IsProblemText, IsGameTreeText, IsTextOfRest, ended, is_only_tree, is_tree_refused, last_tree, more_trees, picture_and_hints_text, stopped, too_long, tree, trees, no_strategy_words}
+use Rattle.tsumego_show.specs.Shown.{IsFollowingText, IsDiagram, IsShown, IsInputText, IsProblemText, IsGameTreeText, IsTextOfRest, ended, is_only_tree, mode_refuses_tree, last_tree, more_trees, picture_and_hints_text, stopped, too_long, tree, trees, no_strategy_words}
 
 module _ (one : OneOutlinePerCertificate) where
   -- a certificate is that of one side and strategy
@@ -97,8 +97,8 @@ module _ (one : OneOutlinePerCertificate) where
         (subst (λ q. IsGameTreeText mode k (take q bytes) (main_line g) (problem_of (main_line g)) (drop q bytes) x) same.0 is) in
         let go = told_same mode whole (k + 1) (drop m bytes) more more' refused refused' (subst (λ q. IsTextOfRest mode whole (k + 1) (drop q bytes) more refused) same.0 rest) rest' in (
           ap₂ (λ (q w : List ℕ). q ++ w) (tree_text_same mode k (take m bytes) (main_line h) (problem_of (main_line h)) (drop m bytes) x y its is') go.0,
-          ap₂ (λ (q : GameTree) (w : Bool). is_tree_refused mode k (main_line q) (problem_of (main_line q)) (drop n bytes) || w) same.1 go.1
-              ∙ ap (λ q. is_tree_refused mode k (main_line h) (problem_of (main_line h)) (drop q bytes) || refused') same.0,
+          ap₂ (λ (q : GameTree) (w : Bool). mode_refuses_tree mode k (main_line q) (problem_of (main_line q)) (drop n bytes) || w) same.1 go.1
+              ∙ ap (λ q. mode_refuses_tree mode k (main_line h) (problem_of (main_line h)) (drop q bytes) || refused') same.0,
         )
     told_same mode whole k bytes s t a b (tree _ _ n g x more refused spells is rest) (ended _ _ many none) = absurd (none (tree_has_parenthesis bytes n g spells))
     told_same mode whole k bytes s t a b (tree _ _ n g x more refused spells is rest) (stopped _ _ why none) = absurd (none g n spells)

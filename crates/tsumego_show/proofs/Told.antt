@@ -12,7 +12,7 @@ use Rattle.std.proofs.lemmas.List.{take_all, length-drop}
 use Rattle.tt_sgf.specs.declared.nodes.Node.{Node}
 use Rattle.tt_sgf.specs.Grammar.{GameTree, HasNoTree, FirstTreeEndsAt, main_line, HasOpeningParenthesis}
 use Rattle.tt_game.specs.Problems.{problem_of}
-use Rattle.tsumego_show.specs.Shown.{IsFollowingText, IsShown, IsInputText, IsProblemText, IsGameTreeText, IsTextOfRest, ended, is_tree_refused, last_tree, more_trees, picture_and_hints_text, stopped}
+use Rattle.tsumego_show.specs.Shown.{IsFollowingText, IsShown, IsInputText, IsProblemText, IsGameTreeText, IsTextOfRest, ended, mode_refuses_tree, last_tree, more_trees, picture_and_hints_text, stopped}
 use Rattle.tsumego_show.specs.Shown.{too_long, tree, trees}
 use Rattle.tsumego_show.specs.Refusals.{too_long_text, no_tree_text}
 
@@ -38,19 +38,19 @@ IsSoFar mode input k rest text refused =
 pub tree_more : (mode : Mode) (input : List ℕ) (k : ℕ) (rest text : List ℕ) (refused : Bool) (used : ℕ) (t : GameTree) (nodes : List Node) (text' : List ℕ) (bad : Bool)
     → IsSoFar mode input k rest text refused → FirstTreeEndsAt rest used t → nodes ≡ main_line t
     → (x : List ℕ) × IsGameTreeText mode k (take used rest) nodes (problem_of nodes) (take (length rest - used) (drop used rest)) x × (text' ≡ text ++ x)
-    → bad ≡ is_tree_refused mode k nodes (problem_of nodes) (take (length rest - used) (drop used rest)) → IsSoFar mode input (k + 1) (take (length rest - used) (drop used rest)) text' (refused || bad)
+    → bad ≡ mode_refuses_tree mode k nodes (problem_of nodes) (take (length rest - used) (drop used rest)) → IsSoFar mode input (k + 1) (take (length rest - used) (drop used rest)) text' (refused || bad)
 tree_more mode input k rest text refused used t nodes text' bad far s same w b = λ more other h.
     let all : take (length rest - used) (drop used rest) ≡ drop used rest = take_all (length rest - used) (drop used rest) (omega (arith, length-drop used rest)) in
     let its_text : IsGameTreeText mode k (take used rest) (main_line t) (problem_of (main_line t)) (drop used rest) w.0 =
     subst (λ (x : List Node). IsGameTreeText mode k (take used rest) x (problem_of x) (drop used rest) w.0) same (subst (λ (x : List ℕ). IsGameTreeText mode k (take used rest) nodes (problem_of nodes) x w.0) all w.1) in
     let one = tree k rest used t w.0 more other s its_text (subst (λ (x : List ℕ). IsTextOfRest mode input (k + 1) x more other) all h) in
-    let its : is_tree_refused mode k (main_line t) (problem_of (main_line t)) (drop used rest) ≡ bad =
-    ap (λ (x : List Node). is_tree_refused mode k x (problem_of x) (drop used rest)) (sym same) ∙ ap (is_tree_refused mode k nodes (problem_of nodes)) (sym all) ∙ sym b in
+    let its : mode_refuses_tree mode k (main_line t) (problem_of (main_line t)) (drop used rest) ≡ bad =
+    ap (λ (x : List Node). mode_refuses_tree mode k x (problem_of x) (drop used rest)) (sym same) ∙ ap (mode_refuses_tree mode k nodes (problem_of nodes)) (sym all) ∙ sym b in
     let words : text ++ (w.0 ++ more) ≡ text' ++ more = sym (append_assoc text w.0 more) ∙ ap (λ (x : List ℕ). x ++ more) (sym w.2) in
-    let flag : (refused || (is_tree_refused mode k (main_line t) (problem_of (main_line t)) (drop used rest) || other)) ≡ ((refused || bad) || other) =
+    let flag : (refused || (mode_refuses_tree mode k (main_line t) (problem_of (main_line t)) (drop used rest) || other)) ≡ ((refused || bad) || other) =
     ap (λ (x : Bool). refused || (x || other)) its ∙ sym (or_assoc refused bad other) in
     subst (λ (x : Bool). IsTextOfRest mode input 1 input (text' ++ more) x) flag
-    (subst (λ (x : List ℕ). IsTextOfRest mode input 1 input x (refused || (is_tree_refused mode k (main_line t) (problem_of (main_line t)) (drop used rest) || other))) words (far _ _ one))
+    (subst (λ (x : List ℕ). IsTextOfRest mode input 1 input x (refused || (mode_refuses_tree mode k (main_line t) (problem_of (main_line t)) (drop used rest) || other))) words (far _ _ one))
 
 -- what is read and told so far; an input with a tree is not too long
 pub record Progress (mode : Mode) (input rest text : List ℕ) (k : ℕ) (refused : Bool) : Type 0 where
@@ -69,7 +69,7 @@ module _ {mode : Mode} {input rest text : List ℕ} {k : ℕ} {refused : Bool} (
   -- one more tree is read and told
   pub progress_step : (used : ℕ) (t : GameTree) (nodes : List Node) (text' : List ℕ) (bad : Bool) → FirstTreeEndsAt rest used t → nodes ≡ main_line t
       → length rest ≤ MAX_BYTES → (x : List ℕ) × IsGameTreeText mode k (take used rest) nodes (problem_of nodes) (take (length rest - used) (drop used rest)) x × (text' ≡ text ++ x)
-      → bad ≡ is_tree_refused mode k nodes (problem_of nodes) (take (length rest - used) (drop used rest))
+      → bad ≡ mode_refuses_tree mode k nodes (problem_of nodes) (take (length rest - used) (drop used rest))
       → Progress mode input (take (length rest - used) (drop used rest)) text' (k + 1) (refused || bad)
   progress_step used t nodes text' bad s same small e b = record {
     some = omega (arith, p.some);

@@ -78,9 +78,9 @@ module _ (p : LineWithUndo) where
     bottom = last_shown (matters_along Rows) p.frame.size.rows;
   }
 
-abbrev pub count_along : Size → Axis → ℕ
-count_along size Columns = size.columns
-count_along size Rows = size.rows
+abbrev pub board_extent_along : Size → Axis → ℕ
+board_extent_along size Columns = size.columns
+board_extent_along size Rows = size.rows
 
 -- ---- shapes, by the middle of their cell
 

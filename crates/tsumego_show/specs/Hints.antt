@@ -128,19 +128,19 @@ missing_mover_line ns = if is_side_to_move_given false ns then [] else codes "hi
 -- ---- comments that go on too far
 
 -- whether these bytes, which open something, stand in a value without a `]` behind them; or whether some did before
-unfoldable pub is_left_open : List ℕ → Bool → List ℕ → Bool
-is_left_open name before [] = before
-is_left_open name before (b ∷ bs) = is_left_open name (if nat_eq b close_value then false else (starts_with ◌==◌ (b ∷ bs) name || before)) bs
+unfoldable pub is_unclosed_opening : List ℕ → Bool → List ℕ → Bool
+is_unclosed_opening name before [] = before
+is_unclosed_opening name before (b ∷ bs) = is_unclosed_opening name (if nat_eq b close_value then false else (starts_with ◌==◌ (b ∷ bs) name || before)) bs
 
 -- a comment with such bytes: its `]` is likely missing, and the property or the tree behind has become a part of it
-abbrev pub is_open_comment : List ℕ → Property → Bool
-is_open_comment name p = pointwise ◌==◌ p.ident (codes "C") && list_any (is_left_open name false) p.values
+abbrev pub is_unclosed_comment : List ℕ → Property → Bool
+is_unclosed_comment name p = pointwise ◌==◌ p.ident (codes "C") && list_any (is_unclosed_opening name false) p.values
 
-abbrev pub has_open_comment : List ℕ → Node → Bool
-has_open_comment name n = list_any (is_open_comment name) n.properties
+abbrev pub has_unclosed_comment : List ℕ → Node → Bool
+has_unclosed_comment name n = list_any (is_unclosed_comment name) n.properties
 
 abbrev pub comment_line : List ℕ → List Node → List ℕ
-comment_line name ns = if list_any (has_open_comment name) ns then codes "hint: a comment holds " ++ (name ++ codes ": is its ] missing?\n") else []
+comment_line name ns = if list_any (has_unclosed_comment name) ns then codes "hint: a comment holds " ++ (name ++ codes ": is its ] missing?\n") else []
 
 -- the lines on who moves, the marks, the stones and the next tree
 abbrev pub comment_lines : List Node → List ℕ

@@ -157,9 +157,9 @@ unfoldable pub ways_text : Size → StoneWithPoints → List ℕ
 ways_text size m = chain_name size m.colour m.stone ++ (codes ", which gets out at" ++ point_names_line size m.points)
 
 -- the chain that is open least, where one is
-abbrev pub least_open_text : Size → Option StoneWithPoints → List ℕ
-least_open_text size None = codes "no group is enclosed with 2 to 40 points: close the wall, or name a stone of the group\n"
-least_open_text size (Some m) = codes "no group is enclosed with 2 to 40 points: least open is " ++ ways_text size m
+abbrev pub no_enclosed_group_text : Size → Option StoneWithPoints → List ℕ
+no_enclosed_group_text size None = codes "no group is enclosed with 2 to 40 points: close the wall, or name a stone of the group\n"
+no_enclosed_group_text size (Some m) = codes "no group is enclosed with 2 to 40 points: least open is " ++ ways_text size m
 
 -- the board has so many columns and rows
 abbrev pub off_board_line : Size → List ℕ
@@ -168,7 +168,7 @@ off_board_line size = codes "the board has no such point: it is " ++ (decimal si
 module _ (s : GameState) where
   -- where there are black stones, and white ones: no group is enclosed; without both there is no wall
   abbrev pub why_no_group_enclosed : Bool → Bool → List ℕ
-  why_no_group_enclosed true true = least_open_text s.size (least_open s (point_count s.size))
+  why_no_group_enclosed true true = no_enclosed_group_text s.size (least_open s (point_count s.size))
   why_no_group_enclosed true false = codes "no White stone is on the board, so there is no wall\n"
   why_no_group_enclosed false true = codes "no Black stone is on the board, so there is no wall\n"
   why_no_group_enclosed false false = codes "no stone is on the board\n"

@@ -83,9 +83,9 @@ is_problem_refused Diagram k ns behind = not (is_only_tree k behind)
 is_problem_refused (Variations depth) k ns behind = false
 is_problem_refused (Marks place) k ns behind = is_some (unsquared_triangle_node 0 ns)
 
-abbrev pub is_tree_refused : Mode → ℕ → List Node → Result LineWithUndo GameFault → List ℕ → Bool
-is_tree_refused mode k ns (Ok p) behind = is_problem_refused mode k ns behind
-is_tree_refused mode k ns (Err e) behind = is_non_problem_refused mode ns
+abbrev pub mode_refuses_tree : Mode → ℕ → List Node → Result LineWithUndo GameFault → List ℕ → Bool
+mode_refuses_tree mode k ns (Ok p) behind = is_problem_refused mode k ns behind
+mode_refuses_tree mode k ns (Err e) behind = is_non_problem_refused mode ns
 
 -- The text on bytes at the end of an input, whose first tree has number k, and whether something is refused: a tree
 -- and what follows it; or no tree is left, and none was wanted; or none is spelled where one is wanted: at a `(`, or where no
@@ -93,7 +93,7 @@ is_tree_refused mode k ns (Err e) behind = is_non_problem_refused mode ns
 pub data IsTextOfRest (mode : Mode) (input : List ℕ) : ℕ → List ℕ → List ℕ → Bool → Type 0 where
   tree : (k : ℕ) (bytes : List ℕ) (count : ℕ) (t : GameTree) (text more : List ℕ) (refused : Bool) → FirstTreeEndsAt bytes count t
       → IsGameTreeText mode k (take count bytes) (main_line t) (problem_of (main_line t)) (drop count bytes) text → IsTextOfRest mode input (k + 1) (drop count bytes) more refused
-      → IsTextOfRest mode input k bytes (text ++ more) (is_tree_refused mode k (main_line t) (problem_of (main_line t)) (drop count bytes) || refused)
+      → IsTextOfRest mode input k bytes (text ++ more) (mode_refuses_tree mode k (main_line t) (problem_of (main_line t)) (drop count bytes) || refused)
   ended : (k : ℕ) (bytes : List ℕ) → 1 < k → (HasOpeningParenthesis bytes → ⊥) → IsTextOfRest mode input k bytes [] false
   stopped : (k : ℕ) (bytes : List ℕ) → (k ≡ 1) ⊎ HasOpeningParenthesis bytes → HasNoTree bytes → IsTextOfRest mode input k bytes (no_tree_text k input bytes) true
 

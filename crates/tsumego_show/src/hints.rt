@@ -5,7 +5,7 @@ ghost use Rattle.tt_sgf.specs.Sizes.{point_count};
 ghost use Rattle.tt_game.specs.Nodes.{is_setup};
 ghost use Rattle.tsumego_show.specs.Hints.{attacker_stones, both_point_names, defender_stones, editor_point_name, enclosed_points, defending_chains, hints, is_side_to_move_given, is_side_to_move_given_after, is_region_too_wide, leaks, leaks_line};
 ghost use Rattle.tsumego_show.specs.Hints.{points_line_if_any, member_name, point_names_line, missing_mover_line, point_names_text, other_defender_stones, other_defender_stones_line, capturable_stones, capturable_stones_line, target_chains};
-ghost use Rattle.tsumego_show.specs.Hints.{comment_line, comment_lines, has_open_comment, is_left_open, is_open_comment, unfillable_points, wide_region_line};
+ghost use Rattle.tsumego_show.specs.Hints.{comment_line, comment_lines, has_unclosed_comment, is_unclosed_opening, is_unclosed_comment, unfillable_points, wide_region_line};
 
 use crate::node_values::has_property;
 use crate::picture::editor_column_letter;
@@ -319,8 +319,8 @@ pub fn put_missing_mover_line(out: &mut Vec<u8>, nodes: &[Node]) -> Result<(), N
 
 /// Whether these bytes, which open something, stand in a value without a `]` behind them.
 #[tactic(auto, using(crate::proofs::Said::left_none, crate::proofs::Said::left_closed, crate::proofs::Said::left_here, crate::proofs::Said::left_further))]
-fn is_left_open(name: &[u8], value: &[u8]) -> bool
-    ensures { result ≡ is_left_open name.now false value.now }
+fn is_unclosed_opening(name: &[u8], value: &[u8]) -> bool
+    ensures { result ≡ is_unclosed_opening name.now false value.now }
 {
     let mut found = false;
     let mut rest = value;
@@ -336,37 +336,37 @@ fn is_left_open(name: &[u8], value: &[u8]) -> bool
 }
 
 /// Whether such bytes stand in a value of a property.
-fn has_left_open(property: &Property, name: &[u8]) -> bool
-    ensures { result ≡ list_any (is_left_open name.now false) property.now.values }
+fn has_unclosed_opening(property: &Property, name: &[u8]) -> bool
+    ensures { result ≡ list_any (is_unclosed_opening name.now false) property.now.values }
 {
     let values = property.values.as_slice();
     values
         .iter()
-        .any(|value| is_left_open(name, value.as_slice()))
+        .any(|value| is_unclosed_opening(name, value.as_slice()))
 }
 
 /// Whether a property is a comment with such bytes.
-fn is_open_comment(property: &Property, name: &[u8]) -> bool
-    ensures { result ≡ is_open_comment name.now property.now }
+fn is_unclosed_comment(property: &Property, name: &[u8]) -> bool
+    ensures { result ≡ is_unclosed_comment name.now property.now }
 {
-    property.ident.as_slice() == b"C".as_slice() && has_left_open(property, name)
+    property.ident.as_slice() == b"C".as_slice() && has_unclosed_opening(property, name)
 }
 
 /// Whether a node has such a comment.
-fn has_open_comment(node: &Node, name: &[u8]) -> bool
-    ensures { result ≡ has_open_comment name.now node.now }
+fn has_unclosed_comment(node: &Node, name: &[u8]) -> bool
+    ensures { result ≡ has_unclosed_comment name.now node.now }
 {
     let properties = node.properties.as_slice();
     properties
         .iter()
-        .any(|property| is_open_comment(property, name))
+        .any(|property| is_unclosed_comment(property, name))
 }
 
 /// Whether one of these nodes has such a comment.
 fn have_open_comment(nodes: &[Node], name: &[u8]) -> bool
-    ensures { result ≡ list_any (has_open_comment name.now) nodes.now }
+    ensures { result ≡ list_any (has_unclosed_comment name.now) nodes.now }
 {
-    nodes.iter().any(|node| has_open_comment(node, name))
+    nodes.iter().any(|node| has_unclosed_comment(node, name))
 }
 
 /// Writes which bytes stand there, and a question, behind the text.

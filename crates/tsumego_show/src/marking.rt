@@ -7,7 +7,7 @@ ghost use Rattle.tt_board.specs.Reach.{entry_at};
 ghost use Rattle.tt_game.specs.Nodes.{SQ, TR, has};
 ghost use Rattle.tt_game.specs.Problems.{nodes_before_solution, game_of};
 ghost use Rattle.tsumego_show.specs.Marking.{problem_nodes, chain_name, game_marked_or_kept, is_some_with_property, is_proposal_missing, is_last_node_squared, has_stones, has_triangles, is_game_left_unmarked, is_left_unmarked};
-ghost use Rattle.tsumego_show.specs.Marking.{tree_marked_or_kept, problem_with_proposal, least_open_text, hints_and_marked_tree, unsquared_triangle_node, off_board_line, open_group_line, open_text, openings, kept_problem_text, proposal_unless_squared, why_no_group_enclosed, ways_text, why_unmarked_at_point};
+ghost use Rattle.tsumego_show.specs.Marking.{tree_marked_or_kept, problem_with_proposal, no_enclosed_group_text, hints_and_marked_tree, unsquared_triangle_node, off_board_line, open_group_line, open_text, openings, kept_problem_text, proposal_unless_squared, why_no_group_enclosed, ways_text, why_unmarked_at_point};
 ghost use Rattle.tsumego_show.specs.Marking.{why_unmarked, why_unmarked_at_place, why_unmarked_or_off_board, proposal_or_reason, tree_with_marks, unsquared_node_line};
 ghost use Rattle.tsumego_show.specs.Refusals.{fault_text};
 ghost use Rattle.tsumego_show.specs.TreeBytes.{tree_as_given};
@@ -201,7 +201,7 @@ fn put_least_open(
     opening: &Option<StoneWithPoints>,
 ) -> Result<(), NoMemory>
     requires { IfSome opening.now (λ m. m.stone < point_count size) }
-    ensures { OnOk result (out.new.items ≡ out.old.items ++ least_open_text size opening.now) }
+    ensures { OnOk result (out.new.items ≡ out.old.items ++ no_enclosed_group_text size opening.now) }
 {
     match opening {
         Some(opening) => {

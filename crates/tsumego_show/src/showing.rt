@@ -2,7 +2,7 @@
 ghost use Rattle.std.specs.Prelude.{◌≡◌, ◌++◌, if◌then◌else◌, ℕ, List, [], true, IfOk, OnOk};
 ghost use Rattle.tt_game.specs.Problems.{problem_of};
 ghost use Rattle.tsumego_show.specs.declared.mode.Mode.TheVariants.{Picture, Variations};
-ghost use Rattle.tsumego_show.specs.Shown.{IsFollowingText, IsDiagram, IsProblemText, IsShown, IsGameTreeText, non_problem_text, is_only_tree, is_non_problem_refused, is_problem_refused, is_tree_refused, picture_and_hints_text, not_drawn_line, no_strategy_words};
+ghost use Rattle.tsumego_show.specs.Shown.{IsFollowingText, IsDiagram, IsProblemText, IsShown, IsGameTreeText, non_problem_text, is_only_tree, is_non_problem_refused, is_problem_refused, mode_refuses_tree, picture_and_hints_text, not_drawn_line, no_strategy_words};
 
 use crate::diagram::put_svg;
 use crate::following_strategy::{claimed_winner, read_following_strategy};
@@ -207,7 +207,7 @@ fn put_game_tree_text(
 ) -> Result<bool, NoMemory>
     ensures text { OnOk result ((text : List ℕ) × IsGameTreeText mode number tree.now main.nodes (problem_of main.nodes) behind.now text
         × (out.new.items ≡ out.old.items ++ text)) }
-    ensures refused { IfOk result (λ refused. refused ≡ is_tree_refused mode number main.nodes (problem_of main.nodes) behind.now) }
+    ensures refused { IfOk result (λ refused. refused ≡ mode_refuses_tree mode number main.nodes (problem_of main.nodes) behind.now) }
 {
     match problem(alloc, &main) {
         Ok(mut line) => {

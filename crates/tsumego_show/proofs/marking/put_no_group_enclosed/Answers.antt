@@ -2,7 +2,7 @@ use Rattle.std.proofs.Common.{◌≡◌, ◌++◌, OnOk, Option, subst}
 use Rattle.tt_sgf.specs.declared.size.Size.{Size}
 use Rattle.tt_sgf.specs.Sizes.{point_count}
 use Rattle.tsumego_show.specs.declared.mark_proposals.StoneWithPoints.{StoneWithPoints}
-use Rattle.tsumego_show.specs.Marking.{least_open, least_open_text}
+use Rattle.tsumego_show.specs.Marking.{least_open, no_enclosed_group_text}
 use Rattle.tsumego_show.proofs.marking.put_no_group_enclosed.Goals as goal
 
 pub returns : goal.returns
@@ -10,5 +10,5 @@ returns c =
     let game = c.args.game.now in
     let put = c.put_least_open in
     let old = c.args.out.now.items in
-    subst (λ (z : Size). OnOk put.result (put.new.out.items ≡ old ++ least_open_text z (least_open game (point_count game.size)))) c.size.ensures
-    (subst (λ (m : Option StoneWithPoints). OnOk put.result (put.new.out.items ≡ old ++ least_open_text c.size.result m)) c.least_open.ensures.value put.ensures)
+    subst (λ (z : Size). OnOk put.result (put.new.out.items ≡ old ++ no_enclosed_group_text z (least_open game (point_count game.size)))) c.size.ensures
+    (subst (λ (m : Option StoneWithPoints). OnOk put.result (put.new.out.items ≡ old ++ no_enclosed_group_text c.size.result m)) c.least_open.ensures.value put.ensures)

@@ -1,11 +1,11 @@
 use Rattle.std.proofs.Common.{◌≡◌, ◌≤◌}
-use Rattle.tsumego_show.specs.Diagram.{count_along, last_below, matters_along}
+use Rattle.tsumego_show.specs.Diagram.{board_extent_along, last_below, matters_along}
 use Rattle.tsumego_show.proofs.windows.last_that_matters.Given as goal
 
 abbrev pub invariant-loop-n : goal.invariant-loop-n
 invariant-loop-n l = record {
-  bound : l.n ≤ count_along l.line.frame.size l.along;
-  rest : last_below (matters_along l.line l.along) l.n ≡ last_below (matters_along l.line l.along) (count_along l.line.frame.size l.along);
+  bound : l.n ≤ board_extent_along l.line.frame.size l.along;
+  rest : last_below (matters_along l.line l.along) l.n ≡ last_below (matters_along l.line l.along) (board_extent_along l.line.frame.size l.along);
 }
 
 abbrev pub decreases-loop-n : goal.decreases-loop-n

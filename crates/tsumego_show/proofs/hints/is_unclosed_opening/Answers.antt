@@ -1,10 +1,10 @@
 use Rattle.std.proofs.Common.{◌≡◌, [], sym, ap, ◌∙◌}
 use Rattle.std.proofs.lemmas.List.{nil_from_length}
-use Rattle.tsumego_show.specs.Hints.{is_left_open}
+use Rattle.tsumego_show.specs.Hints.{is_unclosed_opening}
 use Rattle.tsumego_show.proofs.Said.{left_none}
-use Rattle.tsumego_show.proofs.hints.is_left_open.Goals as goal
+use Rattle.tsumego_show.proofs.hints.is_unclosed_opening.Goals as goal
 
 pub returns : goal.returns
 returns c =
     let e : c.loop-byte.rest.now ≡ [] = nil_from_length c.loop-byte.rest.now c.in_default.ensures.cases in
-    sym (left_none c.args.name.now c.loop-byte.found) ∙ sym (ap (is_left_open c.args.name.now c.loop-byte.found) e) ∙ c.loop-byte.invariant
+    sym (left_none c.args.name.now c.loop-byte.found) ∙ sym (ap (is_unclosed_opening c.args.name.now c.loop-byte.found) e) ∙ c.loop-byte.invariant
