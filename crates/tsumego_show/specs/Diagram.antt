@@ -1,6 +1,6 @@
 -- The diagram of a problem as SVG 1.1: black and white as in books, the part of the board that matters, with the coordinates of
 -- editors. A cell is 24 wide; the middle of the first one is at 36, 36.
-use Rattle.std.specs.Prelude.{ℕ, zero, suc, ◌+◌, ◌-◌, ◌*◌, ◌%◌, ◌&&◌, ◌||◌, not, max, min, nat_eq, nat_lt, Bool, false, List, [], ◌∷◌, ◌++◌, codes, decimal, Option, Some, None, if◌then◌else◌}
+use Rattle.std.specs.Prelude.{ℕ, zero, suc, ◌+◌, ◌-◌, ◌*◌, ◌%◌, ◌&&◌, ◌||◌, not, max, min, nat_eq, nat_lt, Bool, true, false, List, [], ◌∷◌, ◌++◌, codes, decimal, Option, Some, None, if◌then◌else◌}
 use Rattle.std.specs.List.{flat_map, range_with_len}
 use Rattle.std.specs.FinSet as set
 use Rattle.tt_sgf.specs.declared.size.Size.{Size}
@@ -16,6 +16,7 @@ use Rattle.tt_game.specs.Line.{LineWithUndo}
 use Rattle.tsumego_show.specs.declared.windows.Axis.{Axis}
 use Rattle.tsumego_show.specs.declared.windows.Axis.TheVariants.{Columns, Rows}
 use Rattle.tsumego_show.specs.declared.windows.Window.{Window}
+use Rattle.tsumego_show.specs.Hints.{editor_point_name}
 use Rattle.tsumego_show.specs.Picture.{colour_name, editor_column_letter, row_number}
 use Rattle.tsumego_show.specs.Regions.{adjacent_points}
 use Rattle.tsumego_show.specs.TreeBytes.{is_nil}
@@ -163,9 +164,13 @@ module _ (p : LineWithUndo) (plays : List ℕ) where
       if is_target p q then triangle_text x y (entry_at p.state.present q)
       else (if is_nil plays && has_square p q then square_text x y (entry_at p.state.present q) else [])
 
+  -- the number on q: that of the first play there, where no stone stood in the problem
+  abbrev pub number_on_point : ℕ → Option ℕ
+  number_on_point q = if is_empty (entry_at p.state.present q) then number_of_play 1 plays q else None
+
   -- the stone, the mark and the number on q
   unfoldable pub point_shapes : ℕ → ℕ → ℕ → List ℕ
-  point_shapes x y q = stone_if_any_text x y (entry_at p.state.present q) ++ (mark_text x y q ++ numbered_stone_if_any p x y (number_of_play 1 plays q))
+  point_shapes x y q = stone_if_any_text x y (entry_at p.state.present q) ++ (mark_text x y q ++ numbered_stone_if_any p x y (number_on_point q))
 
 -- ---- the board, by the number of the column or row in the window
 
@@ -197,7 +202,7 @@ module _ (w : Window) where
   abbrev pub height : ℕ
   height = 24 * (w.bottom - w.top) + 84
 
-  -- where that line stands
+  -- where that line stands, with the notes below it
   abbrev pub caption_baseline : ℕ
   caption_baseline = 24 * (w.bottom - w.top) + 72
 
@@ -250,6 +255,38 @@ module _ (p : LineWithUndo) where
       codes "<text x='" ++ (decimal (document_centre w) ++ (codes "' y='" ++ (decimal (caption_baseline w)
       ++ (codes "'>" ++ (colour_name (side_colour p.frame p.state.to_move) ++ (codes " to play" ++ (winner_text p.state.to_move winner ++ codes "</text>\n")))))))
 
+-- ---- the notes: a line for each play whose number isn't on its point
+
+-- the play with number n has a note, by the number on its point
+abbrev pub has_note : ℕ → Option ℕ → Bool
+has_note n None = true
+has_note n (Some k) = not (nat_eq n k)
+
+-- the point q of a play with a note: its name where a stone of the problem stood, else the number on it
+abbrev pub noted_point_text : Size → ℕ → Option ℕ → List ℕ
+noted_point_text size q None = editor_point_name size q
+noted_point_text size q (Some k) = decimal k
+
+unfoldable pub note_head : ℕ → ℕ → ℕ → List ℕ
+note_head x y n = codes "<text x='" ++ (decimal x ++ (codes "' y='" ++ (decimal y ++ (codes "'>" ++ (decimal n ++ codes " at ")))))
+
+module _ (p : LineWithUndo) (plays : List ℕ) where
+  -- `7 at 1`, or `5 at B6`
+  unfoldable pub note : ℕ → ℕ → ℕ → ℕ → List ℕ
+  note x y n q = note_head x y n ++ (noted_point_text p.frame.size q (number_on_point p plays q) ++ codes "</text>\n")
+
+  -- how many of the plays from number n on have a note
+  abbrev pub note_count : ℕ → List ℕ → ℕ
+  note_count n [] = 0
+  note_count n (q ∷ qs) = if has_note n (number_on_point p plays q) then note_count (n + 1) qs + 1 else note_count (n + 1) qs
+
+  -- their notes, from y on downwards
+  abbrev pub notes : ℕ → ℕ → ℕ → List ℕ → List ℕ
+  notes x y n [] = []
+  notes x y n (q ∷ qs) = if has_note n (number_on_point p plays q) then note x y n q ++ notes x (y + 14) (n + 1) qs else notes x y (n + 1) qs
+
+-- ---- the document
+
 module _ (p : LineWithUndo) (plays : List ℕ) (w : Window) where
   -- the shapes on the points of a row
   unfoldable pub cell_shapes : ℕ → ℕ → List ℕ
@@ -259,8 +296,10 @@ module _ (p : LineWithUndo) (plays : List ℕ) (w : Window) where
   row_points_shapes j = flat_map (cell_shapes j) (range_with_len 0 (shown_column_count w))
 
   abbrev pub svg_of_window : Option Side → List ℕ
-  svg_of_window winner = svg_head (width w) (height w) ++ (flat_map (column_line_and_letter p.frame.size w) (range_with_len 0 (shown_column_count w)) ++ (flat_map (row_line_and_number p.frame.size w) (range_with_len 0 (shown_row_count w))
-      ++ (flat_map row_points_shapes (range_with_len 0 (shown_row_count w)) ++ (caption p winner w ++ codes "</svg>\n"))))
+  svg_of_window winner =
+      svg_head (width w) (height w + 14 * note_count p plays 1 plays) ++ (flat_map (column_line_and_letter p.frame.size w) (range_with_len 0 (shown_column_count w))
+      ++ (flat_map (row_line_and_number p.frame.size w) (range_with_len 0 (shown_row_count w)) ++ (flat_map row_points_shapes (range_with_len 0 (shown_row_count w))
+      ++ (caption p winner w ++ (notes p plays (document_centre w) (caption_baseline w + 14) 1 plays ++ codes "</svg>\n")))))
 
 -- the problem with these plays, numbered from 1 on, and with who wins, where that is said
 abbrev pub svg_text : LineWithUndo → List ℕ → Option Side → List ℕ

@@ -1,10 +1,8 @@
--- The solution that a diagram numbers: the line of a strategy with the most plays, each on a point where no stone stands and no
--- number yet, and each with a stone that stands after it. So the loser holds out as long as a diagram can show.
-use Rattle.std.specs.Prelude.{ℕ, zero, suc, ◌&&◌, nat_lt, Bool, true, false, is_some, List, [], ◌∷◌, length, if◌then◌else◌}
-use Rattle.std.specs.FinSet as set
+-- The solution that a diagram numbers: the longest line of legal plays in a strategy, each with a stone that stands after it. So
+-- the loser holds out as long as a diagram can show.
+use Rattle.std.specs.Prelude.{ℕ, zero, suc, nat_lt, Bool, true, false, is_some, List, [], ◌∷◌, length, if◌then◌else◌}
 use Rattle.tt_board.specs.Play.{is_empty}
 use Rattle.tt_board.specs.Reach.{entry_at}
-use Rattle.tt_board.specs.Stones.{Points}
 use Rattle.tt_game.specs.declared.frame.Frame.{Frame}
 use Rattle.tt_game.specs.declared.frame.Side.{Side}
 use Rattle.tt_game.specs.declared.frame.Side.TheVariants.{Attacker, Defender}
@@ -16,41 +14,35 @@ use Rattle.tt_game.specs.Line.{LineWithUndo}
 use Rattle.tt_proof.specs.ProofClaim.{first_turn_of}
 use Rattle.tt_proof.specs.Strategy.{Strategy, Entries, done, pick, reply, none, entry}
 use Rattle.tsumego_show.specs.FollowingStrategy.{FollowingStrategy, no_strategy, found}
-use Rattle.tsumego_show.specs.Regions.{empties}
 use Rattle.tsumego_show.specs.Variations.{shown_depth}
 
 -- the line with more plays, the first of two with as many
 abbrev pub longer_plays : List ℕ → List ℕ → List ℕ
 longer_plays xs ys = if nat_lt (length xs) (length ys) then ys else xs
 
--- the free points behind a turn
-abbrev pub free_points_after : Points → Turn → Points
-free_points_after free (Play q) = set.difference free (set.insert set.empty q)
-free_points_after free Pass = free
-
 -- a play that led to this state, and the line behind it, where its stone stands: the play was no suicide
 abbrev pub standing_line : State → ℕ → List ℕ → List ℕ
 standing_line s q behind = if is_empty (entry_at s.present q) then [] else q ∷ behind
 
 module _ (f : Frame) where
-  -- a turn and the line behind it, where it is a legal play on a free point, and no suicide
-  abbrev pub plays_from_turn : State → Points → Turn → List ℕ → List ℕ
-  plays_from_turn s free (Play q) behind = if set.contains free q && is_legal f s (Play q) then standing_line (after f s (Play q)) q behind else []
-  plays_from_turn s free Pass behind = []
+  -- a turn and the line behind it, where it is a legal play, and no suicide
+  abbrev pub plays_from_turn : State → Turn → List ℕ → List ℕ
+  plays_from_turn s (Play q) behind = if is_legal f s (Play q) then standing_line (after f s (Play q)) q behind else []
+  plays_from_turn s Pass behind = []
 
   abbrev mutual
     -- the longest line of plays behind a state, to so many plays
-    pub longest_plays : State → Points → Strategy → ℕ → List ℕ
-    longest_plays s free done n = []
-    longest_plays s free (pick t u) zero = []
-    longest_plays s free (pick t u) (suc n) = plays_from_turn s free t (longest_plays (after f s t) (free_points_after free t) u n)
-    longest_plays s free (reply es) zero = []
-    longest_plays s free (reply es) (suc n) = longest_plays_of_replies s free es n
+    pub longest_plays : State → Strategy → ℕ → List ℕ
+    longest_plays s done n = []
+    longest_plays s (pick t u) zero = []
+    longest_plays s (pick t u) (suc n) = plays_from_turn s t (longest_plays (after f s t) u n)
+    longest_plays s (reply es) zero = []
+    longest_plays s (reply es) (suc n) = longest_plays_of_replies s es n
 
     -- the longest line of plays of all turns of the other side
-    pub longest_plays_of_replies : State → Points → Entries → ℕ → List ℕ
-    longest_plays_of_replies s free none n = []
-    longest_plays_of_replies s free (entry t u es) n = longer_plays (plays_from_turn s free t (longest_plays (after f s t) (free_points_after free t) u n)) (longest_plays_of_replies s free es n)
+    pub longest_plays_of_replies : State → Entries → ℕ → List ℕ
+    longest_plays_of_replies s none n = []
+    longest_plays_of_replies s (entry t u es) n = longer_plays (plays_from_turn s t (longest_plays (after f s t) u n)) (longest_plays_of_replies s es n)
 
 -- who plays first in a strategy of a side: the side, or its opponent where it answers
 abbrev pub side_to_begin : Side → Strategy → Side
@@ -70,4 +62,4 @@ most_numbers = 99
 abbrev pub numbered_plays : LineWithUndo → FollowingStrategy → List ℕ
 numbered_plays p no_strategy = []
 numbered_plays p (found side u) =
-    if are_same_side p.state.to_move (side_to_begin side u) then longest_plays p.frame p.state (empties p.frame.size p.state.present) u (shown_depth most_numbers u) else []
+    if are_same_side p.state.to_move (side_to_begin side u) then longest_plays p.frame p.state u (shown_depth most_numbers u) else []

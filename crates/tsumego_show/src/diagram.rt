@@ -4,12 +4,14 @@ ghost use Rattle.std.specs.List.{flat_map, range_with_len};
 ghost use Rattle.tt_sgf.specs.Sizes.{point_count};
 ghost use Rattle.tt_board.specs.Reach.{entry_at};
 ghost use Rattle.tt_game.specs.Game.{side_colour};
+ghost use Rattle.tsumego_show.specs.inside.Plays.{AreNumberedPlays};
 ghost use Rattle.tsumego_show.specs.inside.Windows.{IsWindow};
 ghost use Rattle.tsumego_show.specs.Diagram.{grid_bottom, caption, cell_shapes, document_centre, column_line_and_letter, numbered_stone_colour, column_head, shown_column_count, stone_number_text, stone_if_any_text, numbered_stone_if_any, grid_overhang, has_square, fill_colour};
-ghost use Rattle.tsumego_show.specs.Diagram.{square_fill, mark_colour, mark_text, number_end, number_head, number_of_play, numbered_stone, point_shapes, row_points_shapes, grid_right, row_line_and_number, row_elements, shown_row_count, square_text, stone_head, stone_text};
+ghost use Rattle.tsumego_show.specs.Diagram.{square_fill, mark_colour, mark_text, has_note, note, note_count, note_head, noted_point_text, notes, number_end, number_head, number_of_play, number_on_point, numbered_stone, point_shapes, row_points_shapes, grid_right, row_line_and_number, row_elements, shown_row_count, square_text, stone_head, stone_text};
 ghost use Rattle.tsumego_show.specs.Diagram.{svg_head, svg_text, triangle_head, triangle_text, winner_text};
 ghost use Rattle.tsumego_show.specs.Picture.{colour_name};
 
+use crate::hints::put_editor_point_name;
 use crate::picture::{colour_name, editor_column_letter, side_colour};
 use crate::points::{is_in_region, is_target, point_numbered};
 use crate::windows::{Window, point_number_at, window_of};
@@ -278,6 +280,17 @@ fn put_numbered_stone_if_any(
     }
 }
 
+/// The number on a point: that of the first play there, where no stone stood in the problem.
+fn number_on_point(line: &Line, plays: &[usize], number: usize) -> Option<usize>
+    requires { number < point_count line.now.frame.size }
+    ensures { result ≡ number_on_point line.now plays.now number }
+{
+    if stone_at(line, number).is_some() {
+        return None;
+    }
+    number_of_play(plays, number)
+}
+
 /// Writes the shapes on a point behind the text.
 #[tactic(auto, unfolding(crate::specs::Diagram::point_shapes))]
 fn put_point_shapes(
@@ -296,7 +309,7 @@ fn put_point_shapes(
 {
     put_stone_if_any(alloc, out, x, y, stone_at(line, number))?;
     put_mark(alloc, out, line, plays, x, y, number)?;
-    put_numbered_stone_if_any(alloc, out, line, x, y, number_of_play(plays, number))
+    put_numbered_stone_if_any(alloc, out, line, x, y, number_on_point(line, plays, number))
 }
 
 /// Half a cell, where the board goes on.
@@ -584,9 +597,120 @@ fn put_caption(
     Ok(())
 }
 
+/// Whether the play with number n has a note, by the number on its point.
+fn has_note(n: usize, on_point: Option<usize>) -> bool
+    ensures { result ≡ has_note n on_point }
+{
+    match on_point {
+        None => true,
+        Some(k) => n != k,
+    }
+}
+
+/// How many plays have a note.
+fn note_count(line: &Line, plays: &[usize]) -> usize
+    requires { AreNumberedPlays line.now.frame.size plays.now }
+    ensures value { result ≡ note_count line.now plays.now 1 plays.now }
+    ensures most { result ≤ 99 }
+{
+    let mut count = 0;
+    for i in 0..plays.len() {
+        if has_note(i + 1, number_on_point(line, plays, plays[i])) {
+            count += 1;
+        }
+    }
+    count
+}
+
+/// Writes the beginning of a note behind the text.
+#[tactic(auto, unfolding(crate::specs::Diagram::note_head))]
+fn put_note_head(
+    alloc: Global,
+    out: &mut Vec<u8>,
+    x: usize,
+    y: usize,
+    n: usize,
+) -> Result<(), NoMemory>
+    ensures { OnOk result (out.new.items ≡ out.old.items ++ note_head x y n) }
+{
+    let text = format!(in alloc; "<text x='{x}' y='{y}'>{n} at ")?;
+    out.extend_from_slice(text.as_bytes())?;
+    Ok(())
+}
+
+/// Writes the point of a play with a note behind the text: its name, or the number on it.
+fn put_noted_point(
+    alloc: Global,
+    out: &mut Vec<u8>,
+    size: Size,
+    number: usize,
+    on_point: Option<usize>,
+) -> Result<(), NoMemory>
+    requires { number < point_count size }
+    ensures { OnOk result (out.new.items ≡ out.old.items ++ noted_point_text size number on_point) }
+{
+    match on_point {
+        None => put_editor_point_name(alloc, out, size, number),
+        Some(k) => {
+            let text = format!(in alloc; "{k}")?;
+            Ok(out.extend_from_slice(text.as_bytes())?)
+        }
+    }
+}
+
+/// Writes the note of the play with number n on a point behind the text.
+#[tactic(auto, unfolding(crate::specs::Diagram::note))]
+fn put_note(
+    alloc: Global,
+    out: &mut Vec<u8>,
+    line: &Line,
+    plays: &[usize],
+    x: usize,
+    y: usize,
+    n: usize,
+    number: usize,
+) -> Result<(), NoMemory>
+    requires { number < point_count line.now.frame.size }
+    ensures { OnOk result (out.new.items ≡ out.old.items ++ note line.now plays.now x y n number) }
+{
+    put_note_head(alloc, out, x, y, n)?;
+    put_noted_point(
+        alloc,
+        out,
+        line.frame().size,
+        number,
+        number_on_point(line, plays, number),
+    )?;
+    out.extend_from_slice(b"</text>\n")?;
+    Ok(())
+}
+
+/// Writes the notes behind the text, from y on downwards.
+fn put_notes(
+    alloc: Global,
+    out: &mut Vec<u8>,
+    line: &Line,
+    plays: &[usize],
+    x: usize,
+    y: usize,
+) -> Result<(), NoMemory>
+    requires plays { AreNumberedPlays line.now.frame.size plays.now }
+    requires y { y ≤ 1000 }
+    ensures { OnOk result (out.new.items ≡ out.old.items ++ notes line.now plays.now x y 1 plays.now) }
+{
+    let mut below = y;
+    for i in 0..plays.len() {
+        if has_note(i + 1, number_on_point(line, plays, plays[i])) {
+            put_note(alloc, out, line, plays, x, below, i + 1, plays[i])?;
+            below += 14;
+        }
+    }
+    Ok(())
+}
+
 /// Writes the diagram of the problem at a line as SVG behind the text: what matters of the board, with the coordinates of editors,
 /// the targets marked, and the region or these plays, as stones with the numbers 1, 2, 3 and so on; below, who moves, and
-/// who wins, where that is said.
+/// who wins, where that is said, and which plays are on the point of an earlier play or of a stone.
 /// `NoMemory` where memory was refused; a part may stand there then.
 pub fn put_svg(
     alloc: Global,
@@ -595,16 +719,20 @@ pub fn put_svg(
     plays: &[usize],
     winner: Option<Side>,
 ) -> Result<(), NoMemory>
+    requires { AreNumberedPlays line.now.frame.size plays.now }
     ensures { OnOk result (out.new.items ≡ out.old.items ++ svg_text line.now plays.now winner) }
 {
     let size = line.frame().size;
     let w = window_of(line);
-    let height = 24 * (w.bottom - w.top) + 84;
-    put_svg_head(alloc, out, 2 * document_centre(size, w), height)?;
+    let x = document_centre(size, w);
+    let extent = 24 * (w.bottom - w.top);
+    let height = extent + 84 + 14 * note_count(line, plays);
+    put_svg_head(alloc, out, 2 * x, height)?;
     put_column_lines(alloc, out, size, w)?;
     put_row_lines_and_numbers(alloc, out, size, w)?;
     put_all_points_shapes(alloc, out, line, plays, w)?;
     put_caption(alloc, out, line, winner, w)?;
+    put_notes(alloc, out, line, plays, x, extent + 86)?;
     out.extend_from_slice(b"</svg>\n")?;
     Ok(())
 }

@@ -21,7 +21,7 @@ const MOST_SMALL_BOARD_POINTS: usize = 10;
 
 /// Writes the name of a point as editors have it behind the text.
 #[tactic(auto, using(crate::proofs::Sets::row_on_board))]
-fn put_editor_point_name(
+pub fn put_editor_point_name(
     alloc: Global,
     out: &mut Vec<u8>,
     size: Size,

@@ -1,20 +1,18 @@
 //! The solution that a diagram numbers.
 ghost use Rattle.std.specs.Prelude.{◌≡◌, ◌<◌, IfOk, IfSome, is_some};
-ghost use Rattle.std.specs.FinSet as set;
 ghost use Rattle.tt_sgf.specs.Sizes.{point_count};
 ghost use Rattle.tt_game.specs.Game.{after};
 ghost use Rattle.tt_proof.specs.Strategy.{AreInOrder, IsInOrder, IsOnBoard, entries_of_reply, strategy_of};
+ghost use Rattle.tsumego_show.specs.inside.Plays.{AreNumberedPlays};
 ghost use Rattle.tsumego_show.specs.inside.Trees.{found_of};
-ghost use Rattle.tsumego_show.specs.Regions.{empties};
-ghost use Rattle.tsumego_show.specs.NumberedPlays.{are_same_side, side_to_begin, free_points_after, longer_plays, longest_plays, longest_plays_of_replies, most_numbers, plays_from_turn, numbered_plays, standing_line};
+ghost use Rattle.tsumego_show.specs.NumberedPlays.{are_same_side, side_to_begin, longer_plays, longest_plays, longest_plays_of_replies, most_numbers, plays_from_turn, numbered_plays, standing_line};
 ghost use Rattle.tsumego_show.specs.Variations.{shown_depth};
 
 use crate::depths::shown_depth;
-use crate::regions::empties;
 use std::alloc::Global;
 use tt_game::{Line, Refused, Side, Turn};
 use tt_proof::Tree;
-use tt_sgf::{NoMemory, Point, PointSet};
+use tt_sgf::{NoMemory, Point};
 
 /// The most numbers in a diagram.
 const MOST_NUMBERS: usize = 99;
@@ -33,49 +31,42 @@ fn play_and_longest_rest(
     point: Point,
     child: &Tree,
     line: &mut Line,
-    free: &PointSet,
     left: usize,
 ) -> Result<Vec<usize>, NoMemory>
     requires on_board { point < point_count line.old.frame.size }
     requires in_order { IsInOrder line.old.frame.size (strategy_of child.now) }
-    ensures plays { IfOk result (λ l. l.items
-        ≡ standing_line line.old.state point (longest_plays line.old.frame line.old.state (set.difference free.now (set.insert set.empty point)) (strategy_of child.now) left)) }
+    ensures plays { IfOk result (λ l. l.items ≡ standing_line line.old.state point (longest_plays line.old.frame line.old.state (strategy_of child.now) left)) }
     ensures same { line.new ≡ line.old }
 {
     if line.present().at(point).is_none() {
         return Ok(Vec::new(alloc));
     }
-    let rest = free.minus(&PointSet::empty().with(point));
-    let mut plays = longest_plays(alloc, child, line, &rest, left)?;
+    let mut plays = longest_plays(alloc, child, line, left)?;
     plays.insert(0, usize::from(point.number()))?;
     Ok(plays)
 }
 
-/// A turn and the longest line of plays behind it, where it is a legal play on a free point, and no suicide.
+/// A turn and the longest line of plays behind it, where it is a legal play, and no suicide.
 #[cycle(number)]
 fn plays_from_turn(
     alloc: Global,
     turn: Turn,
     child: &Tree,
     line: &mut Line,
-    free: &PointSet,
     left: usize,
 ) -> Result<Vec<usize>, NoMemory>
     requires on_board { IsOnBoard line.old.frame.size turn }
     requires in_order { IsInOrder line.old.frame.size (strategy_of child.now) }
-    ensures plays { IfOk result (λ l. l.items ≡ plays_from_turn line.old.frame line.old.state free.now turn
-        (longest_plays line.old.frame (after line.old.frame line.old.state turn) (free_points_after free.now turn) (strategy_of child.now) left)) }
+    ensures plays { IfOk result (λ l. l.items ≡ plays_from_turn line.old.frame line.old.state turn
+        (longest_plays line.old.frame (after line.old.frame line.old.state turn) (strategy_of child.now) left)) }
     ensures same { line.new ≡ line.old }
 {
     let Turn::Play(point) = turn else {
         return Ok(Vec::new(alloc));
     };
-    if !free.has(point) {
-        return Ok(Vec::new(alloc));
-    }
     match line.push(turn) {
         Ok(()) => {
-            let made = play_and_longest_rest(alloc, point, child, line, free, left);
+            let made = play_and_longest_rest(alloc, point, child, line, left);
             line.pop();
             made
         }
@@ -90,16 +81,15 @@ fn longest_plays_of_replies(
     alloc: Global,
     list: &[(Turn, Tree)],
     line: &mut Line,
-    free: &PointSet,
     left: usize,
 ) -> Result<Vec<usize>, NoMemory>
     requires in_order { AreInOrder line.old.frame.size 0 (entries_of_reply list.now) }
-    ensures plays { IfOk result (λ l. l.items ≡ longest_plays_of_replies line.old.frame line.old.state free.now (entries_of_reply list.now) left) }
+    ensures plays { IfOk result (λ l. l.items ≡ longest_plays_of_replies line.old.frame line.old.state (entries_of_reply list.now) left) }
     ensures same { line.new ≡ line.old }
 {
     let mut best = Vec::new(alloc);
     for (turn, child) in list {
-        let plays = plays_from_turn(alloc, *turn, child, line, free, left)?;
+        let plays = plays_from_turn(alloc, *turn, child, line, left)?;
         best = longer_plays(best, plays);
     }
     Ok(best)
@@ -111,11 +101,10 @@ fn longest_plays(
     alloc: Global,
     tree: &Tree,
     line: &mut Line,
-    free: &PointSet,
     left: usize,
 ) -> Result<Vec<usize>, NoMemory>
     requires in_order { IsInOrder line.old.frame.size (strategy_of tree.now) }
-    ensures plays { IfOk result (λ l. l.items ≡ longest_plays line.old.frame line.old.state free.now (strategy_of tree.now) left) }
+    ensures plays { IfOk result (λ l. l.items ≡ longest_plays line.old.frame line.old.state (strategy_of tree.now) left) }
     ensures same { line.new ≡ line.old }
 {
     match tree {
@@ -124,13 +113,13 @@ fn longest_plays(
             if left == 0 {
                 return Ok(Vec::new(alloc));
             }
-            plays_from_turn(alloc, *turn, child, line, free, left - 1)
+            plays_from_turn(alloc, *turn, child, line, left - 1)
         }
         Tree::Reply(list) => {
             if left == 0 {
                 return Ok(Vec::new(alloc));
             }
-            longest_plays_of_replies(alloc, list, line, free, left - 1)
+            longest_plays_of_replies(alloc, list, line, left - 1)
         }
     }
 }
@@ -165,13 +154,12 @@ fn are_same_side(a: Side, b: Side) -> bool
 /// The longest line of plays of a strategy from the problem at a line on.
 fn longest_plays_of_problem(alloc: Global, line: &Line, tree: &Tree) -> Result<Vec<usize>, NoMemory>
     requires { IsInOrder line.now.frame.size (strategy_of tree.now) }
-    ensures { IfOk result (λ l. l.items ≡ longest_plays line.now.frame line.now.state (empties line.now.frame.size line.now.state.present) (strategy_of tree.now)
-        (shown_depth most_numbers (strategy_of tree.now))) }
+    ensures plays { IfOk result (λ l. l.items ≡ longest_plays line.now.frame line.now.state (strategy_of tree.now) (shown_depth most_numbers (strategy_of tree.now))) }
+    ensures numbered { IfOk result (λ l. AreNumberedPlays line.now.frame.size l.items) }
 {
     let mut played = line.try_clone()?;
-    let free = empties(line.present());
     let most = shown_depth(tree, MOST_NUMBERS);
-    longest_plays(alloc, tree, &mut played, &free, most)
+    longest_plays(alloc, tree, &mut played, most)
 }
 
 /// The points with the numbers 1, 2, 3 and so on in the diagram of the problem at a line, by the strategy that was found.
@@ -181,7 +169,8 @@ pub fn numbered_plays(
     found: &Option<(Side, Tree)>,
 ) -> Result<Vec<usize>, NoMemory>
     requires { IfSome found.now (λ f. IsInOrder line.now.frame.size (strategy_of f.1)) }
-    ensures { IfOk result (λ l. l.items ≡ numbered_plays line.now (found_of found.now)) }
+    ensures plays { IfOk result (λ l. l.items ≡ numbered_plays line.now (found_of found.now)) }
+    ensures numbered { IfOk result (λ l. AreNumberedPlays line.now.frame.size l.items) }
 {
     match found {
         None => Ok(Vec::new(alloc)),

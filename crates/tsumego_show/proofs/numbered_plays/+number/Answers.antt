@@ -1,5 +1,4 @@
-use Rattle.std.proofs.Common.{rules, ◌≡◌, IfOk, ℕ, List, true, ◌∙◌, subst}
-use Rattle.std.specs.FinSet as set
+use Rattle.std.proofs.Common.{rules, ◌≡◌, IfOk, ℕ, List, ◌∙◌, subst}
 use Rattle.tt_proof.specs.declared.tree.Tree.TheViews.{the_lemmas}
 use Rattle.tt_game.specs.Line.{IsRefusal}
 use Rattle.tt_proof.specs.Strategy.{strategy_of, entries_of_reply}
@@ -30,25 +29,23 @@ pub longest_plays-returns-else-left-eq0-clause-plays : goal.longest_plays-return
 longest_plays-returns-else-left-eq0-clause-plays t c =
     rw (c.in-Pick.is, trees_are_strategies.of_pick, ← c.deref.ensures)
     (subst (λ (x : List ℕ). IfOk c.plays_from_turn.result (λ l. l.items ≡ x))
-    (pick_line c.args.line.now.frame c.args.line.now.state c.args.free.now c.args.left c.in-Pick.turn (strategy_of c.deref.result.now) c.if-left-eq0.false) c.plays_from_turn.ensures.plays)
+    (pick_line c.args.line.now.frame c.args.line.now.state c.args.left c.in-Pick.turn (strategy_of c.deref.result.now) c.if-left-eq0.false) c.plays_from_turn.ensures.plays)
 
 pub longest_plays-returns-else-left-eq0-2-clause-plays : goal.longest_plays-returns-else-left-eq0-2-clause-plays
 longest_plays-returns-else-left-eq0-2-clause-plays t c =
     rw (c.in-Reply.is, trees_are_strategies.of_reply, ← c.deref-in-Reply.ensures, ← c.deref-in-Reply-2.ensures.value)
     (subst (λ (x : List ℕ). IfOk c.longest_plays_of_replies.result (λ l. l.items ≡ x))
-    (reply_line c.args.line.now.frame c.args.line.now.state c.args.free.now c.args.left (entries_of_reply c.deref-in-Reply-2.result.now) c.if-left-eq0-2.false) c.longest_plays_of_replies.ensures.plays)
+    (reply_line c.args.line.now.frame c.args.line.now.state c.args.left (entries_of_reply c.deref-in-Reply-2.result.now) c.if-left-eq0-2.false) c.longest_plays_of_replies.ensures.plays)
 
 pub plays_from_turn-returns-in-Ok-clause-plays : goal.plays_from_turn-returns-in-Ok-clause-plays
 plays_from_turn-returns-in-Ok-clause-plays t c =
-    let free : set.contains c.args.free.now c.in-Play.point ≡ true = search rules in
     rw c.in-Play.is
     (subst (λ (x : List ℕ). IfOk c.play_and_longest_rest-made.result (λ l. l.items ≡ x))
-    (made_line_is c.args.line.now c.push.new.self c.args.free.now c.in-Play.point c.args.left (strategy_of c.args.child.now) free c.in-Ok.ensures.ok.0 c.in-Ok.ensures.ok.1) c.play_and_longest_rest-made.ensures.plays)
+    (made_line_is c.args.line.now c.push.new.self c.in-Play.point c.args.left (strategy_of c.args.child.now) c.in-Ok.ensures.ok.0 c.in-Ok.ensures.ok.1) c.play_and_longest_rest-made.ensures.plays)
 
 pub plays_from_turn-returns-in-Err-Illegal-clause-plays : goal.plays_from_turn-returns-in-Err-Illegal-clause-plays
 plays_from_turn-returns-in-Err-Illegal-clause-plays t c =
-    let free : set.contains c.args.free.now c.in-Play.point ≡ true = search rules in
     let why : IsRefusal c.args.line.now.frame c.args.line.now.state c.args.turn c.in-Err-Illegal.field-0-0 = search rules in
     rw c.in-Play.is
     (c.new-in-Err-Illegal.ensures.items
-    ∙ refused c.args.line.now.frame c.args.line.now.state c.args.free.now c.in-Play.point _ free c.in-Err-Illegal.field-0-0 (rw c.in-Play.is at why))
+    ∙ refused c.args.line.now.frame c.args.line.now.state c.in-Play.point _ c.in-Err-Illegal.field-0-0 (rw c.in-Play.is at why))
