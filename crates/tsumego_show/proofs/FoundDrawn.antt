@@ -22,10 +22,10 @@ found_drawn (Ok y) p f behind old new plays winner b same h is wins w k =
 found_drawn (Err y) p f behind old new plays winner b same h is wins w k = w
 
 pub found_written : {A E : Type 0} (r : Result A E) (p : LineWithUndo) (f : Frame) (behind old new : List ℕ) (b : FollowingStrategy) → f ≡ p.frame → IsFollowingStrategy f.size behind b
-    → (depth : ℕ) → OnOk r (new ≡ old ++ sgf_text p depth (no_strategy_words behind) b)
-    → (k : ℕ) (tree : List ℕ) (ns : List Node) → OnOk r ((x : List ℕ) × IsProblemText (Variations depth) k tree ns p behind x × (new ≡ old ++ x))
-found_written (Ok y) p f behind old new b same h depth w k tree ns = (sgf_text p depth (no_strategy_words behind) b, (b, subst (λ (g : Frame). IsFollowingStrategy g.size behind b) same h, refl), w)
-found_written (Err y) p f behind old new b same h depth w k tree ns = w
+    → (ns : List Node) (depth : ℕ) → OnOk r (new ≡ old ++ sgf_text p ns depth (no_strategy_words behind) b)
+    → (k : ℕ) (tree : List ℕ) → OnOk r ((x : List ℕ) × IsProblemText (Variations depth) k tree ns p behind x × (new ≡ old ++ x))
+found_written (Ok y) p f behind old new b same h ns depth w k tree = (sgf_text p ns depth (no_strategy_words behind) b, (b, subst (λ (g : Frame). IsFollowingStrategy g.size behind b) same h, refl), w)
+found_written (Err y) p f behind old new b same h ns depth w k tree = w
 
 -- or that it isn't
 pub several_said : {A E : Type 0} (r : Result A E) (k : ℕ) (p : LineWithUndo) (behind old new : List ℕ) → OnOk r (new ≡ old ++ not_drawn_line k)

@@ -79,7 +79,7 @@ module _ (one : OneOutlinePerCertificate) where
   problem_text_same Diagram k its ns p behind s t a b = diagram_same (is_only_tree k behind) k p behind s t a b
   problem_text_same (Marks place) k its ns p behind s t a b = a ∙ sym b
   problem_text_same (Variations depth) k its ns p behind s t a b =
-      a.2 ∙ ap (λ (x : FollowingStrategy). sgf_text p depth (no_strategy_words behind) x) (found_same p.frame.size behind a.0 b.0 a.1 b.1) ∙ sym b.2
+      a.2 ∙ ap (λ (x : FollowingStrategy). sgf_text p ns depth (no_strategy_words behind) x) (found_same p.frame.size behind a.0 b.0 a.1 b.1) ∙ sym b.2
 
   -- and a tree
   tree_text_same : (mode : Mode) (k : ℕ) (its : List ℕ) (ns : List Node) (r : Result LineWithUndo GameFault) (behind s t : List ℕ)

@@ -55,7 +55,7 @@ picture_and_hints_text k ns p = decimal k ++ (space ∷ (picture p ++ (missing_m
 abbrev pub IsProblemText : Mode → ℕ → List ℕ → List Node → LineWithUndo → List ℕ → List ℕ → Type 0
 IsProblemText Picture k tree ns p behind text = (drawn : List ℕ) × IsFollowingText p behind drawn × (text ≡ picture_and_hints_text k ns p ++ drawn)
 IsProblemText Diagram k tree ns p behind text = IsDiagram (is_only_tree k behind) k p behind text
-IsProblemText (Variations depth) k tree ns p behind text = (b : FollowingStrategy) × IsFollowingStrategy p.frame.size behind b × (text ≡ sgf_text p depth (no_strategy_words behind) b)
+IsProblemText (Variations depth) k tree ns p behind text = (b : FollowingStrategy) × IsFollowingStrategy p.frame.size behind b × (text ≡ sgf_text p ns depth (no_strategy_words behind) b)
 IsProblemText (Marks place) k tree ns p behind text = text ≡ kept_problem_text k tree ns
 
 -- the text on tree number k with these bytes, whose main line is no problem, and whether it is refused: where marks are wanted and it has none, they may be proposed

@@ -3,6 +3,7 @@
 use Rattle.std.specs.Prelude.{ℕ, zero, suc, ◌+◌, nat_eq, nat_le, Bool, List, [], ◌∷◌, ◌++◌, codes, decimal, length, Option, Some, None, if◌then◌else◌}
 use Rattle.std.specs.List.{flat_map, range_with_len}
 use Rattle.tt_sgf.specs.Bytes.{close_tree, close_value, colon, newline, open_tree, open_value, semicolon}
+use Rattle.tt_sgf.specs.declared.nodes.Node.{Node}
 use Rattle.tt_sgf.specs.declared.size.Size.{Size}
 use Rattle.tt_sgf.specs.Sizes.{point_count}
 use Rattle.tt_board.specs.declared.Colour.{Colour}
@@ -15,6 +16,7 @@ use Rattle.tt_game.specs.declared.frame.Side.TheVariants.{Attacker, Defender}
 use Rattle.tt_game.specs.declared.turns.Turn.{Turn}
 use Rattle.tt_game.specs.declared.turns.Turn.TheVariants.{Play, Pass}
 use Rattle.tt_game.specs.Game.{State, after, side_colour, winner_of}
+use Rattle.tt_game.specs.Nodes.{values_of}
 use Rattle.tt_game.specs.Turns.{is_legal}
 use Rattle.tt_game.specs.Line.{LineWithUndo}
 use Rattle.tt_proof.specs.CertificateText.{turn_text}
@@ -85,6 +87,16 @@ module _ (p : LineWithUndo) where
   abbrev pub root_text : List ℕ
   root_text =
       game_text p.frame.size ++ (point_list_property Blacks ++ (point_list_property Whites ++ (mover_property ++ (point_list_property Triangles ++ point_list_property Squares))))
+
+-- the first value of GN, with its escapes
+abbrev pub game_name_text : List (List ℕ) → List ℕ
+game_name_text [] = []
+game_name_text (v ∷ vs) = codes "GN" ++ bracketed v
+
+-- the game's name, where the first node has it
+abbrev pub game_name_property : List Node → List ℕ
+game_name_property [] = []
+game_name_property (n ∷ ns) = game_name_text (values_of (codes "GN") n.properties)
 
 -- ---- the variations
 
@@ -178,6 +190,6 @@ module _ (p : LineWithUndo) where
   strategy_variations depth no_strategy = []
   strategy_variations depth (found side u) = variations p.frame p.state u (shown_depth depth u)
 
-  -- the problem with the strategy that was found, to so many turns deep at the most
-  abbrev pub sgf_text : ℕ → List ℕ → FollowingStrategy → List ℕ
-  sgf_text depth without b = root_text p ++ (name_property without b ++ (strategy_variations depth b ++ codes ")\n"))
+  -- the problem of these nodes with the strategy that was found, to so many turns deep at the most
+  abbrev pub sgf_text : List Node → ℕ → List ℕ → FollowingStrategy → List ℕ
+  sgf_text ns depth without b = root_text p ++ (game_name_property ns ++ (name_property without b ++ (strategy_variations depth b ++ codes ")\n")))

@@ -126,19 +126,21 @@ fn no_strategy_words(behind: &[u8]) -> &'static [u8]
     }
 }
 
-/// Writes a problem, with the strategy behind it as variations to so many turns, as a game tree behind the text.
+/// Writes the problem of these nodes, with the strategy behind it as variations to so many turns, as a game tree behind the text.
 fn put_sgf_with_strategy(
     alloc: Global,
     out: &mut Vec<u8>,
+    nodes: &[Node],
     line: &mut Line,
     behind: &[u8],
     depth: usize,
 ) -> Result<(), NoMemory>
-    ensures { (k : ℕ) (tree : List ℕ) (ns : List Node) → OnOk result ((text : List ℕ) × IsProblemText (Variations depth) k tree ns line.old behind.now text
+    ensures { (k : ℕ) (tree : List ℕ) → OnOk result ((text : List ℕ) × IsProblemText (Variations depth) k tree nodes.now line.old behind.now text
         × (out.new.items ≡ out.old.items ++ text)) }
 {
     let found = read_following_strategy(alloc, line.frame().size, behind)?;
-    put_sgf(alloc, out, line, no_strategy_words(behind), &found, depth)
+    let without = no_strategy_words(behind);
+    put_sgf(alloc, out, nodes, line, without, &found, depth)
 }
 
 /// Writes the text on the problem of these nodes, which these bytes follow, behind the text.
@@ -157,7 +159,7 @@ fn put_problem_in_mode(
     match mode {
         Mode::Picture => put_problem_and_strategy(alloc, out, number, nodes, line, behind),
         Mode::Diagram => put_diagram(alloc, out, number, line, behind),
-        Mode::Variations(depth) => put_sgf_with_strategy(alloc, out, line, behind, depth),
+        Mode::Variations(depth) => put_sgf_with_strategy(alloc, out, nodes, line, behind, depth),
         Mode::Marks(_) => put_kept_problem(alloc, out, number, nodes, tree),
     }
 }

@@ -3,21 +3,23 @@ ghost use Rattle.std.specs.Prelude.{◌≡◌, ◌++◌, ◌∷◌, ◌<◌, ℕ
 ghost use Rattle.tt_sgf.specs.Bytes.{close_tree};
 ghost use Rattle.tt_sgf.specs.Sizes.{point_count};
 ghost use Rattle.tt_game.specs.Game.{after, winner_of};
+ghost use Rattle.tt_game.specs.Nodes.{values_of};
 ghost use Rattle.tt_proof.specs.Strategy.{AreInOrder, IsInOrder, IsOnBoard, entries_of_reply, strategy_of};
 ghost use Rattle.tsumego_show.specs.inside.Trees.{found_of};
 ghost use Rattle.tsumego_show.specs.Picture.{colour_name};
-ghost use Rattle.tsumego_show.specs.Variations.{bracketed, colour_letter, cut_comment, ending_text, strategy_variations, game_text, is_point_listed, variation_if_legal, list_property_name, point_list_property, listed_value, listed_values};
+ghost use Rattle.tsumego_show.specs.Variations.{bracketed, colour_letter, cut_comment, ending_text, strategy_variations, game_text, is_point_listed, variation_if_legal, game_name_property, game_name_text, list_property_name, point_list_property, listed_value, listed_values};
 ghost use Rattle.tsumego_show.specs.Variations.{move_value_text, variation_head, mover_property, name_property, turns_or_ending, owner_or_words_text, reply_variations, root_text, sgf_text, size_text, variations, why_won, won_text};
 
 use crate::depths::shown_depth;
 use crate::diagram::has_square;
+use crate::node_values::first_value;
 use crate::picture::{colour_name, earlier_position_count, put_earlier_positions, side_colour};
 use crate::points::{has_stone_of_colour, is_target, point_numbered};
 use std::alloc::Global;
 use tt_board::Colour;
 use tt_game::{Line, Refused, Side, Turn};
 use tt_proof::{Tree, put_turn};
-use tt_sgf::{NoMemory, Size};
+use tt_sgf::{NoMemory, Node, Property, Size};
 
 /// The lists of points in a root: AB, AW, TR and SQ.
 #[derive(Clone, Copy)]
@@ -191,6 +193,28 @@ pub fn put_root(alloc: Global, out: &mut Vec<u8>, line: &Line) -> Result<(), NoM
     put_mover_property(out, line)?;
     put_point_list_property(alloc, out, line, RootPointProperty::Triangles)?;
     put_point_list_property(alloc, out, line, RootPointProperty::Squares)
+}
+
+/// Writes the first value of GN in these properties behind the text, where there is one.
+fn put_game_name(out: &mut Vec<u8>, properties: &[Property]) -> Result<(), NoMemory>
+    ensures { OnOk result (out.new.items ≡ out.old.items ++ game_name_text (values_of (codes "GN") properties.now)) }
+{
+    if let Some(name) = first_value(properties, b"GN") {
+        out.extend_from_slice(b"GN[")?;
+        out.extend_from_slice(name)?;
+        out.push(b']')?;
+    }
+    Ok(())
+}
+
+/// Writes the name of the game behind the text, where the first node has it.
+fn put_game_name_property(out: &mut Vec<u8>, nodes: &[Node]) -> Result<(), NoMemory>
+    ensures { OnOk result (out.new.items ≡ out.old.items ++ game_name_property nodes.now) }
+{
+    match nodes.first() {
+        Some(node) => put_game_name(out, node.properties.as_slice()),
+        None => Ok(()),
+    }
 }
 
 /// Why a side has won.
@@ -420,21 +444,24 @@ fn put_variations(
     }
 }
 
-/// Writes the problem at a line as a game tree of SGF behind the text, and the strategy that was found as its variations, to so
-/// many turns deep at the most; the root's name has these words where none was. `NoMemory` where memory was refused; a part may stand there then. The line stands as before.
+/// Writes the problem of these nodes, which the line is at, as a game tree of SGF behind the text, and the strategy that was found
+/// as its variations, to so many turns deep at the most; the root's name (N) has these words where none was. `NoMemory` where
+/// memory was refused; a part may stand there then. The line stands as before.
 pub fn put_sgf(
     alloc: Global,
     out: &mut Vec<u8>,
+    nodes: &[Node],
     line: &mut Line,
     without: &[u8],
     found: &Option<(Side, Tree)>,
     depth: usize,
 ) -> Result<(), NoMemory>
     requires in_order { IfSome found.now (λ f. IsInOrder line.old.frame.size (strategy_of f.1)) }
-    ensures text { OnOk result (out.new.items ≡ out.old.items ++ sgf_text line.old depth without.now (found_of found.now)) }
+    ensures text { OnOk result (out.new.items ≡ out.old.items ++ sgf_text line.old nodes.now depth without.now (found_of found.now)) }
     ensures same { line.new ≡ line.old }
 {
     put_root(alloc, out, line)?;
+    put_game_name_property(out, nodes)?;
     put_name_property(alloc, out, line, without, found)?;
     put_variations(out, line, found, depth)?;
     out.extend_from_slice(b")\n")?;

@@ -10,4 +10,4 @@ returns-in-Marks c =
     c.put_kept_problem.ensures c.in-Marks.field-0 c.args.behind.now)
 
 pub returns-in-Variations : goal.returns-in-Variations
-returns-in-Variations c = rw c.in-Variations.is (c.put_sgf_with_strategy.ensures c.args.number c.args.tree.now c.args.nodes.now)
+returns-in-Variations c = rw c.in-Variations.is (c.put_sgf_with_strategy.ensures c.args.number c.args.tree.now)
