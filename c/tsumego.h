@@ -12,7 +12,7 @@
    is `1 unsettled memory`. Don't call from a signal handler, nor from the forked child of a process with threads. A call needs
    up to TSUMEGO_STACK bytes of stack: threads of Rust and Java have less if they aren't given more.
 
-   Link with libtsumego.a or libtsumego.so. */
+   Link with libtsumego.a; or with libtsumego.so and -Wl,-rpath,FOLDER, so that the program finds it. */
 #ifndef TSUMEGO_H
 #define TSUMEGO_H
 
@@ -60,14 +60,16 @@ typedef struct {
 #define TSUMEGO_DEFAULTS {100000, 512, 0, 0, 0}
 
 /* Each function below reads `size` bytes at `sgf`, writes its line to `out` where it takes at most `capacity` bytes, says in
-   *length how many it takes, and returns how it ended. No byte of 0 ends the line. Behind the line `out` stays as it was.
-   `sgf` may be null where `size` is 0, and `out` where `capacity` is 0; no other pointer may be null. */
+   *length how many it takes, and returns how it ended. A byte of 10 ends the line, and counts; no byte of 0 follows. With `cert`,
+   `killed` and `lives` are two lines. Behind them `out` stays as it was. *length is 0 where the end is none of DONE, REFUSED and
+   NO_ROOM. `sgf` may be null where `size` is 0, and `out` where `capacity` is 0; no other pointer may be null. */
 
 /* Solves the problem that is the first tree. */
 int tsumego_solve(const char *sgf, size_t size, const tsumego_options *options, char *out, size_t capacity, size_t *length);
 
-/* Checks the certificate that follows the first tree, a problem: `valid`, `invalid` or `refused` with a number. It may share
-   parts where `parts` isn't 0. */
+/* Checks the certificate that follows the first tree, a problem: `valid`, `invalid` or `refused` with a number. So pass the bytes
+   of one tree, and then the second line of an answer. Where `parts` isn't 0 the certificate may share parts; else such a one is
+   refused with 30. */
 int tsumego_check(const char *sgf, size_t size, int parts, char *out, size_t capacity, size_t *length);
 
 /* Scores the record that is the first tree. */
