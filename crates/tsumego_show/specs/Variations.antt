@@ -88,15 +88,15 @@ module _ (p : LineWithUndo) where
   root_text =
       game_text p.frame.size ++ (point_list_property Blacks ++ (point_list_property Whites ++ (mover_property ++ (point_list_property Triangles ++ point_list_property Squares))))
 
--- the first value of GN, with its escapes
-abbrev pub game_name_text : List (List ℕ) → List ℕ
-game_name_text [] = []
-game_name_text (v ∷ vs) = codes "GN" ++ bracketed v
+-- a property with the first of its values, with its escapes
+abbrev pub first_value_text : List ℕ → List (List ℕ) → List ℕ
+first_value_text name [] = []
+first_value_text name (v ∷ vs) = name ++ bracketed v
 
--- the game's name, where the first node has it
-abbrev pub game_name_property : List Node → List ℕ
-game_name_property [] = []
-game_name_property (n ∷ ns) = game_name_text (values_of (codes "GN") n.properties)
+-- a property of the first node, where it has it
+abbrev pub kept_property : List ℕ → List Node → List ℕ
+kept_property name [] = []
+kept_property name (n ∷ ns) = first_value_text name (values_of name n.properties)
 
 -- ---- the variations
 
@@ -190,6 +190,7 @@ module _ (p : LineWithUndo) where
   strategy_variations depth no_strategy = []
   strategy_variations depth (found side u) = variations p.frame p.state u (shown_depth depth u)
 
-  -- the problem of these nodes with the strategy that was found, to so many turns deep at the most
+  -- the problem of these nodes with the game's name, in its character set, and the strategy that was found, to so many turns deep at the most
   abbrev pub sgf_text : List Node → ℕ → List ℕ → FollowingStrategy → List ℕ
-  sgf_text ns depth without b = root_text p ++ (game_name_property ns ++ (name_property without b ++ (strategy_variations depth b ++ codes ")\n")))
+  sgf_text ns depth without b =
+      root_text p ++ (kept_property (codes "CA") ns ++ (kept_property (codes "GN") ns ++ (name_property without b ++ (strategy_variations depth b ++ codes ")\n"))))

@@ -7,7 +7,7 @@ ghost use Rattle.tt_game.specs.Nodes.{values_of};
 ghost use Rattle.tt_proof.specs.Strategy.{AreInOrder, IsInOrder, IsOnBoard, entries_of_reply, strategy_of};
 ghost use Rattle.tsumego_show.specs.inside.Trees.{found_of};
 ghost use Rattle.tsumego_show.specs.Picture.{colour_name};
-ghost use Rattle.tsumego_show.specs.Variations.{bracketed, colour_letter, cut_comment, ending_text, strategy_variations, game_text, is_point_listed, variation_if_legal, game_name_property, game_name_text, list_property_name, point_list_property, listed_value, listed_values};
+ghost use Rattle.tsumego_show.specs.Variations.{bracketed, colour_letter, cut_comment, ending_text, strategy_variations, game_text, is_point_listed, variation_if_legal, first_value_text, kept_property, list_property_name, point_list_property, listed_value, listed_values};
 ghost use Rattle.tsumego_show.specs.Variations.{move_value_text, variation_head, mover_property, name_property, turns_or_ending, owner_or_words_text, reply_variations, root_text, sgf_text, size_text, variations, why_won, won_text};
 
 use crate::depths::shown_depth;
@@ -195,24 +195,25 @@ pub fn put_root(alloc: Global, out: &mut Vec<u8>, line: &Line) -> Result<(), NoM
     put_point_list_property(alloc, out, line, RootPointProperty::Squares)
 }
 
-/// Writes the first value of GN in these properties behind the text, where there is one.
-fn put_game_name(out: &mut Vec<u8>, properties: &[Property]) -> Result<(), NoMemory>
-    ensures { OnOk result (out.new.items ≡ out.old.items ++ game_name_text (values_of (codes "GN") properties.now)) }
+/// Writes the property of this name with the first of its values behind the text, where there is one.
+fn put_first_value(out: &mut Vec<u8>, name: &[u8], properties: &[Property]) -> Result<(), NoMemory>
+    ensures { OnOk result (out.new.items ≡ out.old.items ++ first_value_text name.now (values_of name.now properties.now)) }
 {
-    if let Some(name) = first_value(properties, b"GN") {
-        out.extend_from_slice(b"GN[")?;
+    if let Some(value) = first_value(properties, name) {
         out.extend_from_slice(name)?;
+        out.push(b'[')?;
+        out.extend_from_slice(value)?;
         out.push(b']')?;
     }
     Ok(())
 }
 
-/// Writes the name of the game behind the text, where the first node has it.
-fn put_game_name_property(out: &mut Vec<u8>, nodes: &[Node]) -> Result<(), NoMemory>
-    ensures { OnOk result (out.new.items ≡ out.old.items ++ game_name_property nodes.now) }
+/// Writes a property of the first node behind the text, where it has it.
+fn put_kept_property(out: &mut Vec<u8>, name: &[u8], nodes: &[Node]) -> Result<(), NoMemory>
+    ensures { OnOk result (out.new.items ≡ out.old.items ++ kept_property name.now nodes.now) }
 {
     match nodes.first() {
-        Some(node) => put_game_name(out, node.properties.as_slice()),
+        Some(node) => put_first_value(out, name, node.properties.as_slice()),
         None => Ok(()),
     }
 }
@@ -461,7 +462,8 @@ pub fn put_sgf(
     ensures same { line.new ≡ line.old }
 {
     put_root(alloc, out, line)?;
-    put_game_name_property(out, nodes)?;
+    put_kept_property(out, b"CA", nodes)?;
+    put_kept_property(out, b"GN", nodes)?;
     put_name_property(alloc, out, line, without, found)?;
     put_variations(out, line, found, depth)?;
     out.extend_from_slice(b")\n")?;
