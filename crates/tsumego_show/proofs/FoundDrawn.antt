@@ -15,7 +15,7 @@ use Rattle.tsumego_show.specs.NumberedPlays.{numbered_plays}
 use Rattle.tsumego_show.specs.Variations.{sgf_text}
 
 pub found_drawn : {A E : Type 0} (r : Result A E) (p : LineWithUndo) (f : Frame) (behind old new plays : List ℕ) (winner : Option Side) (b : FollowingStrategy) → f ≡ p.frame
-    → IsFollowingStrategy f.size behind b → plays ≡ numbered_plays p b → winner ≡ claimed_winner b → OnOk r (new ≡ old ++ svg_text p plays winner)
+    → IsFollowingStrategy f.size behind b → plays ≡ numbered_plays p b → winner ≡ claimed_winner p b → OnOk r (new ≡ old ++ svg_text p plays winner)
     → (k : ℕ) → OnOk r ((x : List ℕ) × IsDiagram true k p behind x × (new ≡ old ++ x))
 found_drawn (Ok y) p f behind old new plays winner b same h is wins w k =
     (svg_text p plays winner, (b, subst (λ (g : Frame). IsFollowingStrategy g.size behind b) same h, ap₂ (svg_text p) is wins), w)

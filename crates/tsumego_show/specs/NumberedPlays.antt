@@ -1,19 +1,16 @@
 -- The solution that a diagram numbers: the longest line of legal plays in a strategy, each with a stone that stands after it. So
 -- the loser holds out as long as a diagram can show.
-use Rattle.std.specs.Prelude.{ℕ, zero, suc, nat_lt, Bool, true, false, is_some, List, [], ◌∷◌, length, if◌then◌else◌}
+use Rattle.std.specs.Prelude.{ℕ, zero, suc, nat_lt, List, [], ◌∷◌, length, if◌then◌else◌}
 use Rattle.tt_board.specs.Play.{is_empty}
 use Rattle.tt_board.specs.Reach.{entry_at}
 use Rattle.tt_game.specs.declared.frame.Frame.{Frame}
-use Rattle.tt_game.specs.declared.frame.Side.{Side}
-use Rattle.tt_game.specs.declared.frame.Side.TheVariants.{Attacker, Defender}
 use Rattle.tt_game.specs.declared.turns.Turn.{Turn}
 use Rattle.tt_game.specs.declared.turns.Turn.TheVariants.{Play, Pass}
-use Rattle.tt_game.specs.Game.{State, after, opponent}
+use Rattle.tt_game.specs.Game.{State, after}
 use Rattle.tt_game.specs.Turns.{is_legal}
 use Rattle.tt_game.specs.Line.{LineWithUndo}
-use Rattle.tt_proof.specs.ProofClaim.{first_turn_of}
 use Rattle.tt_proof.specs.Strategy.{Strategy, Entries, done, pick, reply, none, entry}
-use Rattle.tsumego_show.specs.FollowingStrategy.{FollowingStrategy, no_strategy, found}
+use Rattle.tsumego_show.specs.FollowingStrategy.{FollowingStrategy, no_strategy, found, is_for_mover}
 use Rattle.tsumego_show.specs.Variations.{shown_depth}
 
 -- the line with more plays, the first of two with as many
@@ -44,16 +41,6 @@ module _ (f : Frame) where
     longest_plays_of_replies s none n = []
     longest_plays_of_replies s (entry t u es) n = longer_plays (plays_from_turn s t (longest_plays (after f s t) u n)) (longest_plays_of_replies s es n)
 
--- who plays first in a strategy of a side: the side, or its opponent where it answers
-abbrev pub side_to_begin : Side → Strategy → Side
-side_to_begin side u = if is_some (first_turn_of u) then side else opponent side
-
-abbrev pub are_same_side : Side → Side → Bool
-are_same_side Attacker Attacker = true
-are_same_side Attacker Defender = false
-are_same_side Defender Attacker = false
-are_same_side Defender Defender = true
-
 -- the most numbers in a diagram: each fits on a stone
 abbrev pub most_numbers : ℕ
 most_numbers = 99
@@ -62,4 +49,4 @@ most_numbers = 99
 abbrev pub numbered_plays : LineWithUndo → FollowingStrategy → List ℕ
 numbered_plays p no_strategy = []
 numbered_plays p (found side u) =
-    if are_same_side p.state.to_move (side_to_begin side u) then longest_plays p.frame p.state u (shown_depth most_numbers u) else []
+    if is_for_mover p side u then longest_plays p.frame p.state u (shown_depth most_numbers u) else []

@@ -39,7 +39,7 @@ not_drawn_line k = decimal k ++ codes " not drawn: give each problem a file of i
 -- the diagram of a problem that is alone, with the strategy that stands behind it
 abbrev pub IsDiagram : Bool → ℕ → LineWithUndo → List ℕ → List ℕ → Type 0
 IsDiagram false k p behind text = text ≡ not_drawn_line k
-IsDiagram true k p behind text = (b : FollowingStrategy) × IsFollowingStrategy p.frame.size behind b × (text ≡ svg_text p (numbered_plays p b) (claimed_winner b))
+IsDiagram true k p behind text = (b : FollowingStrategy) × IsFollowingStrategy p.frame.size behind b × (text ≡ svg_text p (numbered_plays p b) (claimed_winner p b))
 
 -- what is said where no strategy stands behind a problem
 abbrev pub no_strategy_words : List ℕ → List ℕ

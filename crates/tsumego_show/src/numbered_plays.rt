@@ -1,14 +1,15 @@
 //! The solution that a diagram numbers.
-ghost use Rattle.std.specs.Prelude.{◌≡◌, ◌<◌, IfOk, IfSome, is_some};
+ghost use Rattle.std.specs.Prelude.{◌≡◌, ◌<◌, IfOk, IfSome};
 ghost use Rattle.tt_sgf.specs.Sizes.{point_count};
 ghost use Rattle.tt_game.specs.Game.{after};
 ghost use Rattle.tt_proof.specs.Strategy.{AreInOrder, IsInOrder, IsOnBoard, entries_of_reply, strategy_of};
 ghost use Rattle.tsumego_show.specs.inside.Plays.{AreNumberedPlays};
 ghost use Rattle.tsumego_show.specs.inside.Trees.{found_of};
-ghost use Rattle.tsumego_show.specs.NumberedPlays.{are_same_side, side_to_begin, longer_plays, longest_plays, longest_plays_of_replies, most_numbers, plays_from_turn, numbered_plays, standing_line};
+ghost use Rattle.tsumego_show.specs.NumberedPlays.{longer_plays, longest_plays, longest_plays_of_replies, most_numbers, plays_from_turn, numbered_plays, standing_line};
 ghost use Rattle.tsumego_show.specs.Variations.{shown_depth};
 
 use crate::depths::shown_depth;
+use crate::following_strategy::is_for_mover;
 use std::alloc::Global;
 use tt_game::{Line, Refused, Side, Turn};
 use tt_proof::Tree;
@@ -124,33 +125,6 @@ fn longest_plays(
     }
 }
 
-/// Who plays first in a strategy of a side.
-fn side_to_begin(side: Side, tree: &Tree) -> Side
-    ensures { result ≡ side_to_begin side (strategy_of tree.now) }
-{
-    if tree.first().is_some() {
-        side
-    } else {
-        side.opponent()
-    }
-}
-
-/// Whether two sides are the same.
-fn are_same_side(a: Side, b: Side) -> bool
-    ensures { result ≡ are_same_side a b }
-{
-    match a {
-        Side::Attacker => match b {
-            Side::Attacker => true,
-            Side::Defender => false
-        },
-        Side::Defender => match b {
-            Side::Attacker => false,
-            Side::Defender => true
-        },
-    }
-}
-
 /// The longest line of plays of a strategy from the problem at a line on.
 fn longest_plays_of_problem(alloc: Global, line: &Line, tree: &Tree) -> Result<Vec<usize>, NoMemory>
     requires { IsInOrder line.now.frame.size (strategy_of tree.now) }
@@ -175,7 +149,7 @@ pub fn numbered_plays(
     match found {
         None => Ok(Vec::new(alloc)),
         Some((side, tree)) => {
-            if !are_same_side(line.to_move(), side_to_begin(*side, tree)) {
+            if !is_for_mover(line, *side, tree) {
                 return Ok(Vec::new(alloc));
             }
             longest_plays_of_problem(alloc, line, tree)

@@ -95,7 +95,8 @@ fn put_sole_diagram(
 {
     let found = read_following_strategy(alloc, line.frame().size, behind)?;
     let plays = numbered_plays(alloc, line, &found)?;
-    put_svg(alloc, out, line, plays.as_slice(), claimed_winner(&found))
+    let winner = claimed_winner(line, &found);
+    put_svg(alloc, out, line, plays.as_slice(), winner)
 }
 
 /// Writes the diagram of a problem behind the text, or that it isn't drawn.
