@@ -21,7 +21,7 @@ use Rattle.tsumego_show.specs.Picture.{colour_name, editor_column_letter, row_nu
 use Rattle.tsumego_show.specs.Regions.{adjacent_points}
 use Rattle.tsumego_show.specs.TreeBytes.{is_nil}
 
--- ---- what matters: the columns and rows with a target, a point of the region or a stone beside one, and one more on each side
+-- ---- what matters: the columns and rows with a target, a point of the region or a stone beside the region, and one more on each side
 
 -- some number below n is so
 abbrev pub any_below : (ℕ → Bool) → ℕ → Bool
