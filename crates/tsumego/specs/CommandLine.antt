@@ -25,8 +25,8 @@ abbrev pub with_version_flag : App → App
 with_version_flag a = record a { top = record a.top { has_version = true } }
 
 -- an option with a number from 1 to `most`
-abbrev pub number_rule : Text → ℕ → Text → Rule
-number_rule name most default = record (new_rule name) {
+abbrev pub number_arg : Text → ℕ → Text → Rule
+number_arg name most default = record (new_rule name) {
   long = Some name;
   value_names = 1;
   parser = Some (Signed (pos 1) (pos most));
@@ -34,32 +34,32 @@ number_rule name most default = record (new_rule name) {
 }
 
 -- one that may be left out
-abbrev pub optional_number_rule : Text → ℕ → Rule
-optional_number_rule name most = record (new_rule name) {
+abbrev pub optional_number_arg : Text → ℕ → Rule
+optional_number_arg name most = record (new_rule name) {
   long = Some name;
   value_names = 1;
   parser = Some (Signed (pos 1) (pos most));
 }
 
-abbrev pub flag_rule : Text → Rule
-flag_rule name = record (new_rule name) { long = Some name; action = Some SetTrue }
+abbrev pub flag_arg : Text → Rule
+flag_arg name = record (new_rule name) { long = Some name; action = Some SetTrue }
 
 -- the options of `solve`
 unfoldable pub solve_app : App
 solve_app = with_rule (with_rule (with_rule (with_rule (with_rule (with_rule (with_rule (with_rule (with_rule (new_app (codes "solve"))
-    (number_rule (codes "budget") MOST_EXPANDED (codes "100000")))
-    (number_rule (codes "depth") MOST_DEPTH (codes "512")))
-    (optional_number_rule (codes "total") MOST_TOTAL))
-    (optional_number_rule (codes "dfpn") MOST_POSITIONS))
-    (number_rule (codes "workers") MOST_WORKERS (codes "1")))
-    (flag_rule (codes "cert")))
-    (flag_rule (codes "parts")))
-    (flag_rule (codes "turns")))
-    (flag_rule (codes "progress"))
+    (number_arg (codes "budget") MOST_EXPANDED (codes "100000")))
+    (number_arg (codes "depth") MOST_DEPTH (codes "512")))
+    (optional_number_arg (codes "total") MOST_TOTAL))
+    (optional_number_arg (codes "dfpn") MOST_POSITIONS))
+    (number_arg (codes "workers") MOST_WORKERS (codes "1")))
+    (flag_arg (codes "cert")))
+    (flag_arg (codes "parts")))
+    (flag_arg (codes "turns")))
+    (flag_arg (codes "progress"))
 
 -- the option of `check`
 unfoldable pub check_app : App
-check_app = with_rule (new_app (codes "check")) (flag_rule (codes "parts"))
+check_app = with_rule (new_app (codes "check")) (flag_arg (codes "parts"))
 
 -- the program's commands and options, as the argument parser reads them
 unfoldable pub tsumego_app : App

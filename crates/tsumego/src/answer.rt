@@ -55,7 +55,7 @@ fn answer_tree<X: Threads + Wait + Eprint + Sync, W: Write>(
     ensures written { WritesOutcome (MakesOutcome task.now) number main.now.nodes result (W.contents writer.old.device) (W.contents writer.new.device) }
     ensures failed { writer.new.failed ≡ is_output_fault result }
 {
-    let progress = Progress::start_telling(rt, alloc, told, number);
+    let progress = Progress::for_problem(rt, alloc, told, number);
     let made = task.perform(rt, alloc, main, bytes, &progress);
     progress.wipe_line();
     let Ok(outcome) = made else {

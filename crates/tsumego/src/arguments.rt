@@ -2,7 +2,7 @@
 ghost use Rattle.std.specs.Prelude.{◌≡◌, ◌≢◌, ◌⊎◌, ◌≤◌, false, [], true, IfErr, IfOk, OnOk, IfSome, map, string_bytes};
 ghost use Rattle.clap.specs.Words.{app_of, subcommand_of, subcommand_rows_of, fault_of, takes, kind_of, new_app, rows_of, rule_of, found_of};
 ghost use Rattle.clap.specs.declared.builder.command.Command.TheViews.{out-Command};
-ghost use Rattle.tsumego.specs.CommandLine.{AsksForCommand, HasContradictingFlags, HasOptionalNumber, HasFlag, HasNumber, HasOptions, check_app, flag_rule, asks_for_certificate, asks_for_shared_parts, number_rule, optional_number_rule, solve_app, tsumego_app};
+ghost use Rattle.tsumego.specs.CommandLine.{AsksForCommand, HasContradictingFlags, HasOptionalNumber, HasFlag, HasNumber, HasOptions, check_app, flag_arg, asks_for_certificate, asks_for_shared_parts, number_arg, optional_number_arg, solve_app, tsumego_app};
 
 use crate::request::Command;
 use clap::error::ErrorKind;
@@ -96,7 +96,7 @@ fn number_option<'a>(
     help: &'a str,
 ) -> Arg<'a>
     requires { 1 ≤ most }
-    ensures rule { rule_of result ≡ number_rule name.entry.now most default.entry.now }
+    ensures rule { rule_of result ≡ number_arg name.entry.now most default.entry.now }
     ensures local { result.global ≡ false }
 {
     Arg::new(alloc, name)
@@ -110,7 +110,7 @@ fn number_option<'a>(
 /// An option with a number from 1 to `most` that may be left out.
 fn optional_number_option<'a>(alloc: Global, name: &'a str, most: u32, help: &'a str) -> Arg<'a>
     requires { 1 ≤ most }
-    ensures rule { rule_of result ≡ optional_number_rule name.entry.now most }
+    ensures rule { rule_of result ≡ optional_number_arg name.entry.now most }
     ensures local { result.global ≡ false }
 {
     Arg::new(alloc, name)
@@ -122,7 +122,7 @@ fn optional_number_option<'a>(alloc: Global, name: &'a str, most: u32, help: &'a
 
 /// A flag.
 fn flag_option<'a>(alloc: Global, name: &'a str, help: &'a str) -> Arg<'a>
-    ensures rule { rule_of result ≡ flag_rule name.entry.now }
+    ensures rule { rule_of result ≡ flag_arg name.entry.now }
     ensures local { result.global ≡ false }
 {
     Arg::new(alloc, name)
@@ -214,7 +214,7 @@ fn number_of(matches: &ArgMatches<'_>, name: &str) -> Option<u32>
 }
 
 /// The number of an option that may be left out: none where it was, and an error where it isn't a number.
-fn given_number(matches: &ArgMatches<'_>, name: &str) -> Result<Option<u32>, ParseIntError>
+fn optional_number_of(matches: &ArgMatches<'_>, name: &str) -> Result<Option<u32>, ParseIntError>
     ensures { IfOk result (HasOptionalNumber name.now (rows_of (found_of matches.now))) }
 {
     matches.try_get_one::<u32>(name)
@@ -238,7 +238,7 @@ fn is_in_range(given: Option<u32>, most: u32) -> bool
 }
 
 /// Which certificate the flags ask for, where they go together.
-fn cert_of(cert: bool, parts: bool, turns: bool) -> Option<CertKind>
+fn cert_kind_of_flags(cert: bool, parts: bool, turns: bool) -> Option<CertKind>
     ensures flags { IfSome result (λ c. (cert ≡ asks_for_certificate c) × (parts ≡ asks_for_shared_parts c)) }
     ensures apart { IfSome result (λ c. c ≢ CertKind.Unasked → turns ≡ false) }
 {
@@ -261,11 +261,11 @@ fn options_of(matches: &ArgMatches<'_>) -> Option<Options>
 {
     let budget = number_of(matches, "budget")?;
     let depth = number_of(matches, "depth")?;
-    let total = given_number(matches, "total").ok()?;
-    let dfpn = given_number(matches, "dfpn").ok()?;
+    let total = optional_number_of(matches, "total").ok()?;
+    let dfpn = optional_number_of(matches, "dfpn").ok()?;
     let workers = number_of(matches, "workers")?;
     let turns = flag_of(matches, "turns")?;
-    let cert = cert_of(flag_of(matches, "cert")?, flag_of(matches, "parts")?, turns)?;
+    let cert = cert_kind_of_flags(flag_of(matches, "cert")?, flag_of(matches, "parts")?, turns)?;
     if depth < 1
         || depth > MOST_DEPTH as u32
         || workers < 1
@@ -320,8 +320,8 @@ fn contradiction_text(matches: &ArgMatches<'_>) -> &'static str
     }
 }
 
-/// Why a parse met no command. The text is empty where memory was refused.
-fn no_command_fault(alloc: Global, matches: &ArgMatches<'_>) -> ArgFault
+/// The fault of flags that don't go together. The text is empty where memory was refused.
+fn contradiction_fault(alloc: Global, matches: &ArgMatches<'_>) -> ArgFault
     ensures { (string_bytes result.0 ≡ []) ⊎ HasContradictingFlags (subcommand_rows_of matches.now) }
 {
     match String::from_str(alloc, contradiction_text(matches)) {
@@ -344,7 +344,7 @@ pub fn command(alloc: Global, words: &[String]) -> Result<Command, ArgFault>
     match parser.try_get_matches_from(words) {
         Ok(matches) => match command_of(&matches) {
             Some(command) => Ok(command),
-            None => Err(no_command_fault(alloc, &matches)),
+            None => Err(contradiction_fault(alloc, &matches)),
         },
         Err(error) => Err(to_arg_fault(alloc, &error)),
     }

@@ -40,7 +40,7 @@ fn print_fault(rt: &HostRuntime, text: &str) -> io::Result<()> {
 }
 
 /// The command, which tells how far it is where standard error is a terminal too.
-fn with_progress(command: Command, terminal: bool) -> Command {
+fn with_progress_on_terminal(command: Command, terminal: bool) -> Command {
     match command {
         Command::Solve(options, told) => Command::Solve(options, told || terminal),
         Command::Score | Command::Check(_) => command,
@@ -59,7 +59,7 @@ fn main(rt: HostRuntime) -> ExitCode {
             return ExitCode::from(2);
         }
     };
-    let command = with_progress(command, rt.stderr().is_terminal());
+    let command = with_progress_on_terminal(command, rt.stderr().is_terminal());
     let mut reader = Watched::new(rt.stdin());
     let mut writer = Watched::new(rt.stdout());
     match run(&rt, rt.alloc(), &command, &mut reader, &mut writer) {

@@ -10,17 +10,22 @@ use tt_share::Gate;
 pub struct Progress<'a, X> {
     rt: &'a X,
     alloc: Global,
-    told: bool,
+    is_wanted: bool,
     number: usize,
 }
 
 impl<'a, X: Eprint> Progress<'a, X> {
     /// Of the problem with this number, which begins now.
-    pub fn start_telling(rt: &'a X, alloc: Global, told: bool, number: usize) -> Progress<'a, X> {
+    pub fn for_problem(
+        rt: &'a X,
+        alloc: Global,
+        is_wanted: bool,
+        number: usize,
+    ) -> Progress<'a, X> {
         let progress = Progress {
             rt,
             alloc,
-            told,
+            is_wanted,
             number,
         };
         progress.tell_problem();
@@ -28,7 +33,7 @@ impl<'a, X: Eprint> Progress<'a, X> {
     }
 
     fn tell_problem(&self) {
-        if !self.told {
+        if !self.is_wanted {
             return;
         }
         if let Ok(text) = format!(in self.alloc; "problem {}", self.number) {
@@ -36,8 +41,8 @@ impl<'a, X: Eprint> Progress<'a, X> {
         }
     }
 
-    fn tell_turn(&self, job: usize) {
-        if !self.told {
+    fn tell_turn_begun(&self, job: usize) {
+        if !self.is_wanted {
             return;
         }
         let turn = job.saturating_add(1);
@@ -48,7 +53,7 @@ impl<'a, X: Eprint> Progress<'a, X> {
 
     /// Wipes the line.
     pub fn wipe_line(&self) {
-        if self.told {
+        if self.is_wanted {
             let _ = self.rt.eprint("\r\u{1b}[K");
         }
     }
@@ -56,7 +61,7 @@ impl<'a, X: Eprint> Progress<'a, X> {
 
 impl<X: Eprint + Sync> Gate for Progress<'_, X> {
     fn begin(&self, job: usize) {
-        self.tell_turn(job);
+        self.tell_turn_begun(job);
     }
 
     fn end(&self, _job: usize) {}

@@ -26,7 +26,7 @@ fn copy_to_front(text: &[u8], out: &mut [u8])
 }
 
 /// Says how many bytes a text takes, writes it where it has room, and answers whether it has.
-fn copy_if_room(text: &[u8], out: &mut [u8], taken: &mut usize) -> bool
+fn tell_length_and_copy_if_room(text: &[u8], out: &mut [u8], taken: &mut usize) -> bool
     ensures taken { taken.new ≡ length text.now }
     ensures written { result ≡ true → (length text.now ≤ length out.old) × (out.new ≡ text.now ++ drop (length text.now) out.old) }
     ensures no_room { result ≡ false → (length out.old < length text.now) × (out.new ≡ out.old) }
@@ -39,11 +39,11 @@ fn copy_if_room(text: &[u8], out: &mut [u8], taken: &mut usize) -> bool
     true
 }
 
-/// Hands a text over where it has room, says how many bytes it takes, and answers the status.
+/// Says how many bytes a text takes, hands it over where it has room, and answers the status.
 fn hand_over_text(text: &[u8], status: u32, out: &mut [u8], taken: &mut usize) -> u32
     ensures { CallEnds (λ bytes s. (bytes ≡ text.now) × (s ≡ status)) out.old out.new taken.new result }
 {
-    let has_room = copy_if_room(text, out, taken);
+    let has_room = tell_length_and_copy_if_room(text, out, taken);
     if has_room { status } else { NO_ROOM }
 }
 

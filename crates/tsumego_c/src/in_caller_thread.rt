@@ -1,7 +1,7 @@
 //! Solves the problem that a tree is, in the caller's thread.
 ghost use Rattle.std.specs.Prelude.{◌≡◌, IfOk, None, false};
 ghost use Rattle.tt_game.specs.Game.{winner_of};
-ghost use Rattle.tt_game.specs.GameLaws.{IsState};
+ghost use Rattle.tt_game.specs.GameLaws.{IsWellFormedState};
 ghost use Rattle.tt_share.specs.Answers.{IsAnswer};
 ghost use Rattle.tt_text.specs.Solving.{IsAnswerText, Solves, IsVerdict};
 
@@ -10,9 +10,9 @@ use std::sync::Arc;
 use tt_game::{GameFault, Line, problem};
 use tt_proof::Proof;
 use tt_search::{PrivateStore, Store};
-use tt_sgf::{Items, MainLine, NoMemory};
-use tt_share::{Answer, MOST_KEPT, solve_one};
-use tt_text::{Options, TreeOutcome, usable_dfpn_proof, verdict_text};
+use tt_sgf::{ItemList, MainLine, NoMemory};
+use tt_share::{Answer, MOST_KEPT_PROOFS, solve_one};
+use tt_text::{Options, TreeOutcome, checkable_dfpn_proof, verdict_text};
 
 /// Keeps a proof in the store.
 fn keep_proof(alloc: Global, store: &mut PrivateStore, proof: Proof) -> Result<(), NoMemory> {
@@ -27,8 +27,8 @@ fn solve_problem(alloc: Global, line: &Line, options: Options, bytes: usize) -> 
     requires { winner_of line.now.frame line.now.state ≡ None }
     ensures { IsAnswer line.now options.limits options.total result }
 {
-    let mut store = PrivateStore::with_capacity(alloc, MOST_KEPT);
-    if let Ok(Some(proof)) = usable_dfpn_proof(alloc, line, options, bytes) {
+    let mut store = PrivateStore::with_capacity(alloc, MOST_KEPT_PROOFS);
+    if let Ok(Some(proof)) = checkable_dfpn_proof(alloc, line, options, bytes) {
         let _ = keep_proof(alloc, &mut store, proof);
     }
     solve_one(alloc, line, &options.limits, options.total, &mut store)
@@ -42,7 +42,7 @@ fn verdict_at(
     bytes: usize,
 ) -> Result<Vec<u8>, NoMemory>
     requires open { winner_of line.now.frame line.now.state ≡ None }
-    requires state { IsState line.now.frame line.now.state }
+    requires state { IsWellFormedState line.now.frame line.now.state }
     ensures { IfOk result (λ text. IsVerdict line.now options.limits options.total options.cert text.items) }
 {
     let answer = solve_problem(alloc, line, options, bytes);
@@ -63,14 +63,14 @@ fn solve_to_text(
     line: &Line,
     options: Options,
     bytes: usize,
-) -> Result<Items<u8>, NoMemory>
+) -> Result<ItemList<u8>, NoMemory>
     requires open { winner_of line.now.frame line.now.state ≡ None }
-    requires state { IsState line.now.frame line.now.state }
+    requires state { IsWellFormedState line.now.frame line.now.state }
     requires turns { options.turns ≡ false }
     ensures { IfOk result (λ text. IsAnswerText options line.now text) }
 {
     let text = verdict_at(alloc, line, options, bytes)?;
-    Ok(Items::from_vec(text))
+    Ok(ItemList::from_vec(text))
 }
 
 /// What is said of the problem that a main line is, or its refusal. The problem's text has so many bytes.

@@ -7,7 +7,7 @@ use Rattle.tt_board.specs.declared.Colour.{Colour}
 use Rattle.tt_board.specs.Play.{other}
 use Rattle.tt_game.specs.declared.turns.Turn.{Turn}
 use Rattle.tt_proof.specs.declared.tree.Tree.{Tree}
-use Rattle.tt_proof.specs.Strategy.{AreInOrder, IsInOrder, IsOnBoard, entries_of_reply, number_on, strategy_of}
+use Rattle.tt_proof.specs.Strategy.{AreInOrder, IsInOrder, IsTurnOnBoardOfSize, entries_of_reply, turn_number_on_size, strategy_of}
 use Rattle.tsumego_show.specs.StrategyListing.{next_indentation, entries_lines, first_lines, tree_lines, turn_line}
 use Rattle.tsumego_show.specs.inside.Lines.{Goes, with_lines}
 use Rattle.tsumego_show.proofs.FirstLines.{both_go}
@@ -47,11 +47,11 @@ module _ (size : Size) (own : Colour) (level : ℕ) where
 
   pub order_next : (list : List (Turn × Tree)) (n : ℕ) (e : Turn × Tree) (least : ℕ) → n < length list → e ≡ get_or list n e
       → AreInOrder size least (entries_of_reply (drop n list))
-      → IsOnBoard size e.0 × IsInOrder size (strategy_of e.1) × ((more : ℕ) × AreInOrder size more (entries_of_reply (drop (n + 1) list)))
+      → IsTurnOnBoardOfSize size e.0 × IsInOrder size (strategy_of e.1) × ((more : ℕ) × AreInOrder size more (entries_of_reply (drop (n + 1) list)))
   order_next list n e least within is h =
       let k = subst (λ (x : List (Turn × Tree)). AreInOrder size least (entries_of_reply x))
       (drop-cons list n e within ∙ ap (λ m. get_or list n e ∷ drop m list) (sym (add-one n)) ∙ ap (λ x. x ∷ drop (n + 1) list) (sym is)) h in
-      (k.1, k.2, (number_on size e.0 + 1, k.3))
+      (k.1, k.2, (turn_number_on_size size e.0 + 1, k.3))
 
   -- all turns are written
   pub entries_done : (list : List (Turn × Tree)) (n more left : ℕ) (new old : List ℕ) → length list ≤ n → GoesOn (Some more) new old left (drop n list) list

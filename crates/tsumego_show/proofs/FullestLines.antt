@@ -12,21 +12,21 @@ use Rattle.tt_game.specs.declared.turns.Turn.TheVariants.{Play, Pass}
 use Rattle.tt_game.specs.Game.{State, IsLegal, after}
 use Rattle.tt_game.specs.Line.{IsLineAfterTurn, IsRefusal, LineWithUndo}
 use Rattle.tt_game.specs.Turns.{is_legal, is_legal_is_exact}
-use Rattle.tt_proof.specs.Strategy.{Strategy, Entries, IsInOrder, AreInOrder, IsOnBoard, number_on, done, pick, reply, none, entry}
+use Rattle.tt_proof.specs.Strategy.{Strategy, Entries, IsInOrder, AreInOrder, IsTurnOnBoardOfSize, turn_number_on_size, done, pick, reply, none, entry}
 use Rattle.tsumego_show.specs.Diagram.{last_below}
 use Rattle.tsumego_show.specs.inside.Plays.{AreNumberedPlays}
 use Rattle.tsumego_show.specs.Variations.{most_written_turns, shown_depth, turns_within}
-use Rattle.tsumego_show.specs.NumberedPlays.{longest_plays, longest_plays_of_replies, most_numbers, plays_from_turn, standing_line}
+use Rattle.tsumego_show.specs.NumberedPlays.{longest_plays, longest_plays_of_replies, most_numbers, plays_from_turn, plays_if_stone_stands}
 use Rattle.tsumego_show.proofs.LegalTurns.{not_legal}
 
 -- ---- a turn
 
 module _ (f : Frame) (s : State) (q : ℕ) (behind : List ℕ) where
   line_if : Bool → List ℕ
-  line_if b = if b then standing_line (after f s (Play q)) q behind else []
+  line_if b = if b then plays_if_stone_stands (after f s (Play q)) q behind else []
 
   -- a legal play
-  played : IsLegal f s (Play q) → plays_from_turn f s (Play q) behind ≡ standing_line (after f s (Play q)) q behind
+  played : IsLegal f s (Play q) → plays_from_turn f s (Play q) behind ≡ plays_if_stone_stands (after f s (Play q)) q behind
   unfolding line_if
   played l = ap line_if ((is_legal_is_exact f s (Play q)).1 l)
 
@@ -37,9 +37,9 @@ module _ (f : Frame) (s : State) (q : ℕ) (behind : List ℕ) where
 
 -- a play that was made and the line behind it
 pub made_line_is : (p r : LineWithUndo) (q n : ℕ) (u : Strategy) → IsLegal p.frame p.state (Play q) → IsLineAfterTurn p r (Play q)
-    → standing_line r.state q (longest_plays r.frame r.state u n) ≡ plays_from_turn p.frame p.state (Play q) (longest_plays p.frame (after p.frame p.state (Play q)) u n)
+    → plays_if_stone_stands r.state q (longest_plays r.frame r.state u n) ≡ plays_from_turn p.frame p.state (Play q) (longest_plays p.frame (after p.frame p.state (Play q)) u n)
 made_line_is p r q n u legal pushed =
-    ap (λ (l : LineWithUndo). standing_line l.state q (longest_plays l.frame l.state u n)) pushed
+    ap (λ (l : LineWithUndo). plays_if_stone_stands l.state q (longest_plays l.frame l.state u n)) pushed
     ∙ sym (played p.frame p.state q (longest_plays p.frame (after p.frame p.state (Play q)) u n) legal)
 
 -- ---- where plays are left
@@ -71,10 +71,10 @@ module _ (size : Size) where
   either_within false n xs ys x y = y
 
 module _ (f : Frame) where
-  turn_within : (s : State) (t : Turn) (n : ℕ) (xs : List ℕ) → IsOnBoard f.size t → IsLineWithin f.size n xs → IsLineWithin f.size (suc n) (plays_from_turn f s t xs)
+  turn_within : (s : State) (t : Turn) (n : ℕ) (xs : List ℕ) → IsTurnOnBoardOfSize f.size t → IsLineWithin f.size n xs → IsLineWithin f.size (suc n) (plays_from_turn f s t xs)
   turn_within s Pass n xs on w = none_within f.size (suc n)
   turn_within s (Play q) n xs on w =
-      either_within f.size (is_legal f s (Play q)) (suc n) (standing_line (after f s (Play q)) q xs) []
+      either_within f.size (is_legal f s (Play q)) (suc n) (plays_if_stone_stands (after f s (Play q)) q xs) []
       (either_within f.size (is_empty (entry_at (after f s (Play q)).present q)) (suc n) [] (q ∷ xs) (none_within f.size (suc n)) (play_within f.size q n xs on w))
       (none_within f.size (suc n))
 
@@ -92,7 +92,7 @@ module _ (f : Frame) where
         let first = plays_from_turn f s t (longest_plays f (after f s t) u n) in
         let others = longest_plays_of_replies f s es n in
         either_within f.size (nat_lt (length first) (length others)) (suc n) others first
-        (replies_within s es n (number_on f.size t + 1) o.3)
+        (replies_within s es n (turn_number_on_size f.size t + 1) o.3)
         (turn_within s t n (longest_plays f (after f s t) u n) o.1 (line_within (after f s t) u n o.2))
 
 either_at_most : (b : Bool) (x y n : ℕ) → x ≤ n → y ≤ n → (if b then x else y) ≤ n

@@ -9,8 +9,8 @@ use Rattle.tt_game.specs.declared.turns.Turn.{Turn}
 use Rattle.tt_proof.specs.declared.outlines.Outline as mode
 use Rattle.tt_proof.specs.declared.tree.Tree.{Tree}
 use Rattle.tt_proof.specs.Outlines.{Outline, Branches, ended, picked, replied, part, no_branch, branch, unfolded, unfolded_entries, named_trees_after, named_trees_after_branches, outline_of, branches_of_reply}
-use Rattle.tt_proof.specs.Outlines.{with_named_tree, IsOrderly, AreOrderly}
-use Rattle.tt_proof.specs.Strategy.{Strategy, done, pick, reply, entry, IsInOrder, AreInOrder, number_on, strategy_of, entries_of_reply}
+use Rattle.tt_proof.specs.Outlines.{with_named_tree, IsOutlineInOrder, AreBranchesInOrder}
+use Rattle.tt_proof.specs.Strategy.{Strategy, done, pick, reply, entry, IsInOrder, AreInOrder, turn_number_on_size, strategy_of, entries_of_reply}
 use Rattle.tt_proof.proofs.StrategyLemmas.{before, before_none, before_push}
 
 -- ---- an unfolded outline is in order
@@ -34,18 +34,18 @@ named_in_order size (u ∷ us) zero h = h.0
 named_in_order size (u ∷ us) (suc k) h = named_in_order size us k h.1
 
 mutual
-  tree_in_order : (size : Size) (us : List Strategy) (o : Outline) → AllInOrder size us → IsOrderly size o → IsInOrder size (unfolded us o)
+  tree_in_order : (size : Size) (us : List Strategy) (o : Outline) → AllInOrder size us → IsOutlineInOrder size o → IsInOrder size (unfolded us o)
   tree_in_order size us ended h k = tt
   tree_in_order size us (picked n t o) h k = (k.0, tree_in_order size us o h k.1)
   tree_in_order size us (replied n bs) h k = entries_in_order size us 0 bs h k
   tree_in_order size us (part m) h k = named_in_order size us m h
 
-  entries_in_order : (size : Size) (us : List Strategy) (least : ℕ) (bs : Branches) → AllInOrder size us → AreOrderly size least bs → AreInOrder size least (unfolded_entries us bs)
+  entries_in_order : (size : Size) (us : List Strategy) (least : ℕ) (bs : Branches) → AllInOrder size us → AreBranchesInOrder size least bs → AreInOrder size least (unfolded_entries us bs)
   entries_in_order size us least no_branch h k = tt
   entries_in_order size us least (branch t o bs) h k =
-      (k.0, k.1, tree_in_order size us o h k.2, entries_in_order size (named_trees_after us o) (number_on size t + 1) bs (names_in_order size us o h k.2) k.3)
+      (k.0, k.1, tree_in_order size us o h k.2, entries_in_order size (named_trees_after us o) (turn_number_on_size size t + 1) bs (names_in_order size us o h k.2) k.3)
 
-  names_in_order : (size : Size) (us : List Strategy) (o : Outline) → AllInOrder size us → IsOrderly size o → AllInOrder size (named_trees_after us o)
+  names_in_order : (size : Size) (us : List Strategy) (o : Outline) → AllInOrder size us → IsOutlineInOrder size o → AllInOrder size (named_trees_after us o)
   names_in_order size us ended h k = h
   names_in_order size us (picked n t o) h k =
       with_name_in_order size n (named_trees_after us o) (pick t (unfolded us o)) (names_in_order size us o h k.1) (k.0, tree_in_order size us o h k.1)
@@ -53,12 +53,12 @@ mutual
       with_name_in_order size n (named_trees_after_branches us bs) (reply (unfolded_entries us bs)) (all_names_in_order size us 0 bs h k) (entries_in_order size us 0 bs h k)
   names_in_order size us (part m) h k = h
 
-  all_names_in_order : (size : Size) (us : List Strategy) (least : ℕ) (bs : Branches) → AllInOrder size us → AreOrderly size least bs → AllInOrder size (named_trees_after_branches us bs)
+  all_names_in_order : (size : Size) (us : List Strategy) (least : ℕ) (bs : Branches) → AllInOrder size us → AreBranchesInOrder size least bs → AllInOrder size (named_trees_after_branches us bs)
   all_names_in_order size us least no_branch h k = h
   all_names_in_order size us least (branch t o bs) h k =
-      all_names_in_order size (named_trees_after us o) (number_on size t + 1) bs (names_in_order size us o h k.2) k.3
+      all_names_in_order size (named_trees_after us o) (turn_number_on_size size t + 1) bs (names_in_order size us o h k.2) k.3
 
-pub unfolded_in_order : (size : Size) (o : Outline) → IsOrderly size o → IsInOrder size (unfolded [] o)
+pub unfolded_in_order : (size : Size) (o : Outline) → IsOutlineInOrder size o → IsInOrder size (unfolded [] o)
 unfolded_in_order size o k = tree_in_order size [] o tt k
 
 -- ---- names

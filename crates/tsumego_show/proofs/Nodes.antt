@@ -9,7 +9,7 @@ use Rattle.tt_sgf.specs.declared.nodes.Property.{Property}
 use Rattle.tt_sgf.specs.declared.size.TheConstants.{MOST_POINTS}
 use Rattle.tt_sgf.specs.PointLists.{covers, is_entry, set_of}
 use Rattle.tt_sgf.specs.Points.{passing}
-use Rattle.tt_board.specs.Stones.{Points}
+use Rattle.tt_board.specs.Stones.{PointNumberSet}
 use Rattle.tt_game.specs.Nodes.{values_of}
 use Rattle.tt_game.proofs.NodeLemmas.{values-named, values-nil, values-other}
 use Rattle.tsumego_show.specs.declared.tree_bytes.LexicalState.{LexicalState}
@@ -27,11 +27,11 @@ one_set : (size : Size) (v : List ℕ) → set_of size (v ∷ []) ≡ cond (is_e
 unfolding set_of
 one_set size v = refl
 
-no_entry : (b : Bool) (s : Points) → cond (b && true) (Some s) None ≡ None → b ≡ false
+no_entry : (b : Bool) (s : PointNumberSet) → cond (b && true) (Some s) None ≡ None → b ≡ false
 no_entry true s h = absurd (none-some s (sym h))
 no_entry false s h = refl
 
-an_entry : (b : Bool) (s t : Points) → cond (b && true) (Some s) None ≡ Some t → b ≡ true
+an_entry : (b : Bool) (s t : PointNumberSet) → cond (b && true) (Some s) None ≡ Some t → b ≡ true
 an_entry true s t h = refl
 an_entry false s t h = absurd (none-some t h)
 
@@ -39,7 +39,7 @@ pub bad_here : (size : Size) (v : List ℕ) (vs : List (List ℕ)) → set_of si
 unfolding first_unreadable_point
 bad_here size v vs h = rw (no_entry (is_entry size v) _ (sym (one_set size v) ∙ h)) refl
 
-pub bad_behind : (size : Size) (v : List ℕ) (vs : List (List ℕ)) (s : Points) → set_of size (v ∷ []) ≡ Some s → first_unreadable_point size (v ∷ vs) ≡ first_unreadable_point size vs
+pub bad_behind : (size : Size) (v : List ℕ) (vs : List (List ℕ)) (s : PointNumberSet) → set_of size (v ∷ []) ≡ Some s → first_unreadable_point size (v ∷ vs) ≡ first_unreadable_point size vs
 unfolding first_unreadable_point
 bad_behind size v vs s h = rw (an_entry (is_entry size v) _ s (sym (one_set size v) ∙ h)) refl
 

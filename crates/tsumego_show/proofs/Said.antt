@@ -4,7 +4,7 @@ use Rattle.std.specs.List.{starts_with}
 use Rattle.tt_sgf.specs.Bytes.{close_value}
 use Rattle.tt_sgf.specs.declared.nodes.Node.{Node}
 use Rattle.tt_game.specs.Nodes.{SQ, TR, has}
-use Rattle.tsumego_show.specs.Hints.{is_unclosed_opening, is_side_to_move_given, is_side_to_move_given_after}
+use Rattle.tsumego_show.specs.Hints.{is_opener_unclosed, is_side_to_move_given, is_side_to_move_given_after}
 use Rattle.tsumego_show.specs.Marking.{unsquared_triangle_node}
 
 pub said_none : (before : Bool) → is_side_to_move_given before [] ≡ before
@@ -35,19 +35,19 @@ pub without_further : (k : ℕ) (n : Node) (ns : List Node) → has TR n ≡ fal
 unfolding unsquared_triangle_node
 without_further k n ns h = rw h refl
 
-pub left_none : (name : List ℕ) (before : Bool) → is_unclosed_opening name before [] ≡ before
-unfolding is_unclosed_opening
+pub left_none : (name : List ℕ) (before : Bool) → is_opener_unclosed name before [] ≡ before
+unfolding is_opener_unclosed
 left_none name before = refl
 
 module _ (name : List ℕ) (before : Bool) (b : ℕ) (bs : List ℕ) where
-  pub left_closed : nat_eq b close_value ≡ true → is_unclosed_opening name before (b ∷ bs) ≡ is_unclosed_opening name false bs
-  unfolding is_unclosed_opening
+  pub left_closed : nat_eq b close_value ≡ true → is_opener_unclosed name before (b ∷ bs) ≡ is_opener_unclosed name false bs
+  unfolding is_opener_unclosed
   left_closed h = rw h refl
 
-  pub left_here : nat_eq b close_value ≡ false → starts_with ◌==◌ (b ∷ bs) name ≡ true → is_unclosed_opening name before (b ∷ bs) ≡ is_unclosed_opening name true bs
-  unfolding is_unclosed_opening
+  pub left_here : nat_eq b close_value ≡ false → starts_with ◌==◌ (b ∷ bs) name ≡ true → is_opener_unclosed name before (b ∷ bs) ≡ is_opener_unclosed name true bs
+  unfolding is_opener_unclosed
   left_here h some = rw (h, some) refl
 
-  pub left_further : nat_eq b close_value ≡ false → starts_with ◌==◌ (b ∷ bs) name ≡ false → is_unclosed_opening name before (b ∷ bs) ≡ is_unclosed_opening name before bs
-  unfolding is_unclosed_opening
+  pub left_further : nat_eq b close_value ≡ false → starts_with ◌==◌ (b ∷ bs) name ≡ false → is_opener_unclosed name before (b ∷ bs) ≡ is_opener_unclosed name before bs
+  unfolding is_opener_unclosed
   left_further h none = rw (h, none) refl

@@ -5,7 +5,7 @@ use Rattle.std.proofs.lemmas.Nat.{div-add-mod', div_below, mul-add-lt}
 use Rattle.std.specs.Cmp.{nat_cmp_total, unsigned_tied}
 use Rattle.std.specs.Ordering.{nat_cmp}
 use Rattle.tt_sgf.specs.Sizes.{point_count}
-use Rattle.tt_board.specs.Stones.{LiesOn, Points}
+use Rattle.tt_board.specs.Stones.{IsSetOnBoard, PointNumberSet}
 use Rattle.std.specs.FinSet as set
 use Rattle.tt_sgf.specs.declared.size.Size.{Size}
 use Rattle.tt_sgf.specs.Points.{passing}
@@ -14,8 +14,8 @@ use Rattle.tt_board.specs.Position.{Colouring}
 use Rattle.tt_board.specs.Play.{other}
 use Rattle.tt_board.specs.Reach.{entry_at}
 use Rattle.tt_game.specs.Games.{GameState}
-use Rattle.tsumego_show.specs.Marking.{proposal_if_closed, smaller_nonempty_set, fewest_squares_proposal, least_open, open_at}
-use Rattle.tsumego_show.specs.Regions.{reached_within_wall, adjacent_points, reached_in_steps, stones, chains_with_liberty_outside, wall_after}
+use Rattle.tsumego_show.specs.Marking.{proposal_if_closed, one_with_fewer_points, fewest_squares_proposal, stone_with_fewest_ways_out, ways_out_at}
+use Rattle.tsumego_show.specs.Regions.{reached_within_wall, adjacent_points, reached_in_steps, stones_of_colour, chains_with_liberty_outside, wall_after}
 
 -- no number yet
 pub none_passed : (f : ℕ → Bool) → passing f 0 ≡ set.empty
@@ -32,28 +32,28 @@ unfolding passing
 one_out f n h = ap (passing f) (let e : n + 1 ≡ suc n = omega arith in e) ∙ rw h refl
 
 -- no step yet, and one more
-pub no_step : (size : Size) (free s : Points) → reached_in_steps size free 0 s ≡ s
+pub no_step : (size : Size) (free s : PointNumberSet) → reached_in_steps size free 0 s ≡ s
 unfolding reached_in_steps
 no_step size free s = refl
 
-pub one_step : (size : Size) (free : Points) (n : ℕ) (s : Points)
+pub one_step : (size : Size) (free : PointNumberSet) (n : ℕ) (s : PointNumberSet)
     → reached_in_steps size free (n + 1) s ≡ set.union (reached_in_steps size free n s) (set.intersection free (adjacent_points size (reached_in_steps size free n s)))
 unfolding reached_in_steps
 one_step size free n s = ap (λ k. reached_in_steps size free k s) (let e : n + 1 ≡ suc n = omega arith in e)
 
 -- a step that reaches nothing more is followed by none that does
-no_more : (size : Size) (free : Points) (n : ℕ) (s : Points)
+no_more : (size : Size) (free : PointNumberSet) (n : ℕ) (s : PointNumberSet)
     → set.union (reached_in_steps size free n s) (set.intersection free (adjacent_points size (reached_in_steps size free n s))) ≡ reached_in_steps size free n s
     → (d : ℕ) → reached_in_steps size free (n + d) s ≡ reached_in_steps size free n s
 unfolding reached_in_steps
 no_more size free n s h zero = ap (λ k. reached_in_steps size free k s) (let e : n + 0 ≡ n = omega arith in e)
 no_more size free n s h (suc d) = ap (λ k. reached_in_steps size free k s) (let e : n + suc d ≡ suc (n + d) = omega arith in e)
-    ∙ ap (λ (x : Points). set.union x (set.intersection free (adjacent_points size x))) (no_more size free n s h d) ∙ h
+    ∙ ap (λ (x : PointNumberSet). set.union x (set.intersection free (adjacent_points size x))) (no_more size free n s h d) ∙ h
 
-pub all_reached : (size : Size) (free found : Points) (n m : ℕ) (s : Points) → found ≡ reached_in_steps size free n s
+pub all_reached : (size : Size) (free found : PointNumberSet) (n m : ℕ) (s : PointNumberSet) → found ≡ reached_in_steps size free n s
     → set.union found (set.intersection free (adjacent_points size found)) ≡ found → n ≤ m → found ≡ reached_in_steps size free m s
 all_reached size free found n m s e same h = let e2 : m ≡ n + (m - n) = omega arith in
-    e ∙ sym (ap (λ k. reached_in_steps size free k s) e2 ∙ no_more size free n s (subst (λ (x : Points). set.union x (set.intersection free (adjacent_points size x)) ≡ x) e same) (m - n))
+    e ∙ sym (ap (λ k. reached_in_steps size free k s) e2 ∙ no_more size free n s (subst (λ (x : PointNumberSet). set.union x (set.intersection free (adjacent_points size x)) ≡ x) e same) (m - n))
 
 -- the row of a point is on the board
 pub row_on_board : (size : Size) (q : ℕ) → q < point_count size → q / size.columns < size.rows
@@ -75,15 +75,15 @@ module _ (size : Size) (c : Colouring) (k : Colour) (q : ℕ) where
   unfolding wall_after
   same_wall n h zero = ap (λ j. wall_after size c k q j) (let e : n + 0 ≡ n = omega arith in e)
   same_wall n h (suc d) = ap (λ j. wall_after size c k q j) (let e : n + suc d ≡ suc (n + d) = omega arith in e)
-      ∙ ap (λ (w : Points). chains_with_liberty_outside size c k (reached_within_wall size q w)) (same_wall n h d) ∙ h
+      ∙ ap (λ (w : PointNumberSet). chains_with_liberty_outside size c k (reached_within_wall size q w)) (same_wall n h d) ∙ h
 
-  pub wall_stays : (found : Points) (n m : ℕ) → found ≡ wall_after size c k q n → chains_with_liberty_outside size c k (reached_within_wall size q found) ≡ found → n ≤ m
+  pub wall_stays : (found : PointNumberSet) (n m : ℕ) → found ≡ wall_after size c k q n → chains_with_liberty_outside size c k (reached_within_wall size q found) ≡ found → n ≤ m
       → found ≡ wall_after size c k q m
   wall_stays found n m e same h = let e2 : m ≡ n + (m - n) = omega arith in
-      e ∙ sym (ap (λ j. wall_after size c k q j) e2 ∙ same_wall n (subst (λ (w : Points). chains_with_liberty_outside size c k (reached_within_wall size q w) ≡ w) e same) (m - n))
+      e ∙ sym (ap (λ j. wall_after size c k q j) e2 ∙ same_wall n (subst (λ (w : PointNumberSet). chains_with_liberty_outside size c k (reached_within_wall size q w) ≡ w) e same) (m - n))
 
 -- one more stone
-pub fewest_more : (s : GameState) (n : ℕ) → fewest_squares_proposal s (n + 1) ≡ smaller_nonempty_set (fewest_squares_proposal s n) (proposal_if_closed s false n (entry_at s.present n))
+pub fewest_more : (s : GameState) (n : ℕ) → fewest_squares_proposal s (n + 1) ≡ one_with_fewer_points (fewest_squares_proposal s n) (proposal_if_closed s false n (entry_at s.present n))
 unfolding fewest_squares_proposal
 fewest_more s n = ap (fewest_squares_proposal s) (let e : n + 1 ≡ suc n = omega arith in e)
 
@@ -91,15 +91,15 @@ pub fewest_none : (s : GameState) → fewest_squares_proposal s 0 ≡ None
 unfolding fewest_squares_proposal
 fewest_none s = refl
 
-pub open_more : (s : GameState) (n : ℕ) → least_open s (n + 1) ≡ smaller_nonempty_set (least_open s n) (open_at s n (entry_at s.present n))
-unfolding least_open
-open_more s n = ap (least_open s) (let e : n + 1 ≡ suc n = omega arith in e)
+pub open_more : (s : GameState) (n : ℕ) → stone_with_fewest_ways_out s (n + 1) ≡ one_with_fewer_points (stone_with_fewest_ways_out s n) (ways_out_at s n (entry_at s.present n))
+unfolding stone_with_fewest_ways_out
+open_more s n = ap (stone_with_fewest_ways_out s) (let e : n + 1 ≡ suc n = omega arith in e)
 
-pub open_none : (s : GameState) → least_open s 0 ≡ None
-unfolding least_open
+pub open_none : (s : GameState) → stone_with_fewest_ways_out s 0 ≡ None
+unfolding stone_with_fewest_ways_out
 open_none s = refl
 
-pub first_wall_stones : (size : Size) (c : Colouring) (k : Colour) (q : ℕ) → wall_after size c k q 0 ≡ stones size c (other k)
+pub first_wall_stones : (size : Size) (c : Colouring) (k : Colour) (q : ℕ) → wall_after size c k q 0 ≡ stones_of_colour size c (other k)
 unfolding wall_after
 first_wall_stones size c k q = refl
 
@@ -107,7 +107,7 @@ first_wall_stones size c k q = refl
 pub one_counts : (q : ℕ) → set.len (set.insert (set.empty {R = nat_cmp}) q) ≡ 1
 one_counts q = set.len-insert nat_cmp_total set.empty q ∙ rw (set.contains-empty nat_cmp q, set.len-empty nat_cmp) refl
 
-pub one_lies : (size : Size) (q : ℕ) → q < point_count size → LiesOn size (set.insert set.empty q)
+pub one_lies : (size : Size) (q : ℕ) → q < point_count size → IsSetOnBoard size (set.insert set.empty q)
 one_lies size q h = λ p held. elim (cases_eq p q) [
   | inl e ↦ rw e h
   | inr d ↦ absurd (false≢true (sym (set.contains-insert nat_cmp_total set.empty q p ∙ rw (unsigned_tied p q, ne_eqb p q d, set.contains-empty nat_cmp p) refl) ∙ held))

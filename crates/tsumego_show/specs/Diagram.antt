@@ -136,9 +136,9 @@ numbered_stone x y k n = stone_text x y k ++ stone_number_text x (y + 5) k n
 -- ---- points
 
 -- the number of q in a line of plays whose first one has number n, if it is one of them
-abbrev pub number_of_play : ℕ → List ℕ → ℕ → Option ℕ
-number_of_play n [] q = None
-number_of_play n (r ∷ rs) q = if nat_eq r q then Some n else number_of_play (n + 1) rs q
+abbrev pub first_play_number_at : ℕ → List ℕ → ℕ → Option ℕ
+first_play_number_at n [] q = None
+first_play_number_at n (r ∷ rs) q = if nat_eq r q then Some n else first_play_number_at (n + 1) rs q
 
 abbrev pub stone_if_any_text : ℕ → ℕ → Option Colour → List ℕ
 stone_if_any_text x y None = []
@@ -166,7 +166,7 @@ module _ (p : LineWithUndo) (plays : List ℕ) where
 
   -- the number on q: that of the first play there, where no stone stood in the problem
   abbrev pub number_on_point : ℕ → Option ℕ
-  number_on_point q = if is_empty (entry_at p.state.present q) then number_of_play 1 plays q else None
+  number_on_point q = if is_empty (entry_at p.state.present q) then first_play_number_at 1 plays q else None
 
   -- the stone, the mark and the number on q
   unfoldable pub point_shapes : ℕ → ℕ → ℕ → List ℕ
@@ -214,13 +214,13 @@ svg_head width height =
     ++ codes "' fill='white'/>\n")))))))
 
 -- a column's line, and the beginning of its letter
-unfoldable pub column_head : ℕ → ℕ → ℕ → List ℕ
-column_head x top bottom =
+unfoldable pub column_path_and_text_head : ℕ → ℕ → ℕ → List ℕ
+column_path_and_text_head x top bottom =
     codes "<path d='M" ++ (decimal x ++ (codes " " ++ (decimal top ++ (codes "V" ++ (decimal bottom ++ (codes "' stroke='black'/>\n<text x='" ++ (decimal x ++ codes "' y='17'>")))))))
 
 -- a row's line, and its number
-unfoldable pub row_elements : ℕ → ℕ → ℕ → ℕ → ℕ → List ℕ
-row_elements left y right below number =
+unfoldable pub row_path_and_text : ℕ → ℕ → ℕ → ℕ → ℕ → List ℕ
+row_path_and_text left y right below number =
     codes "<path d='M" ++ (decimal left ++ (codes " " ++ (decimal y ++ (codes "H" ++ (decimal right ++ (codes "' stroke='black'/>\n<text x='12' y='"
     ++ (decimal below ++ (codes "'>" ++ (decimal number ++ codes "</text>\n")))))))))
 
@@ -234,11 +234,11 @@ module _ (size : Size) (w : Window) where
 
   -- a column's line and letter
   unfoldable pub column_line_and_letter : ℕ → List ℕ
-  column_line_and_letter i = column_head (cell_middle i) (grid_top w) grid_bottom ++ (editor_column_letter (w.left + i) ∷ codes "</text>\n")
+  column_line_and_letter i = column_path_and_text_head (cell_middle i) (grid_top w) grid_bottom ++ (editor_column_letter (w.left + i) ∷ codes "</text>\n")
 
   -- a row's line and number
   unfoldable pub row_line_and_number : ℕ → List ℕ
-  row_line_and_number j = row_elements (grid_left w) (cell_middle j) grid_right (cell_middle j + 4) (row_number size (w.top + j))
+  row_line_and_number j = row_path_and_text (grid_left w) (cell_middle j) grid_right (cell_middle j + 4) (row_number size (w.top + j))
 
 module _ (p : LineWithUndo) where
   -- what a winner does, by the side to move: a side kills or lives by its own play, or whatever the other one plays

@@ -10,56 +10,56 @@ use Rattle.tt_sgf.specs.PointLists.{is_entry}
 use Rattle.tt_sgf.specs.Values.{after_blanks, point_of, trimmed}
 use Rattle.tt_board.specs.declared.Colour.{Colour}
 use Rattle.tt_board.specs.declared.Colour.TheVariants.{Black, White}
-use Rattle.tt_board.specs.Stones.{Points}
+use Rattle.tt_board.specs.Stones.{PointNumberSet}
 use Rattle.tt_game.specs.declared.faults.GameFault.{GameFault}
 use Rattle.tt_game.specs.declared.faults.GameFault.TheVariants.{NotGo, BadSize, BadValue, PointTwice, MixedNode, StoneWithoutLiberty, OccupiedPoint, RepeatedBoard, AfterEnd}
 use Rattle.tt_game.specs.declared.faults.GameFault.TheVariants.{TooManyTurns, NoTarget, EmptyTarget, MixedTargets, NoMemory}
 use Rattle.tt_game.specs.Faults.{code_of}
 use Rattle.tt_game.specs.Games.{GameState}
 use Rattle.tt_game.specs.Nodes.{AB, AE, AW, B, PL, SQ, SZ, TR, W, colour_of_letter, move_count, set_named, size_or_default, values_of}
-use Rattle.tt_game.specs.Problems.{nodes_before_solution, game_of, whole}
+use Rattle.tt_game.specs.Problems.{node_count_before_solution, game_of, whole}
 use Rattle.tsumego_show.specs.Hints.{points_line_if_any}
-use Rattle.tsumego_show.specs.Regions.{adjacent_points, reached, stones}
+use Rattle.tsumego_show.specs.Regions.{adjacent_points, reached, stones_of_colour}
 use Rattle.tsumego_show.specs.Variations.{bracketed}
 
 -- ---- points
 
-abbrev pub points_or_empty : Option Points → Points
+abbrev pub points_or_empty : Option PointNumberSet → PointNumberSet
 points_or_empty None = set.empty
 points_or_empty (Some s) = s
 
 module _ (size : Size) where
   module _ (n : Node) where
     -- what the properties of a name name
-    unfoldable pub points_of_property : List ℕ → Points
+    unfoldable pub points_of_property : List ℕ → PointNumberSet
     points_of_property name = points_or_empty (set_named size name n)
 
     -- what stands in two of AB, AW and AE
-    unfoldable pub points_twice : Points
+    unfoldable pub points_twice : PointNumberSet
     points_twice = set.union (set.intersection (points_of_property AB) (points_of_property AW)) (set.intersection (set.union (points_of_property AB) (points_of_property AW)) (points_of_property AE))
 
     -- where the move is
-    unfoldable pub move_points : Points
+    unfoldable pub move_points : PointNumberSet
     move_points = set.union (points_of_property B) (points_of_property W)
 
     -- the stones behind the setup, which are put over those before
-    unfoldable pub blacks_after_setup : Points → Points
+    unfoldable pub blacks_after_setup : PointNumberSet → PointNumberSet
     blacks_after_setup before = set.union (points_of_property AB) (set.difference before (set.union (points_of_property AW) (points_of_property AE)))
 
-    unfoldable pub whites_after_setup : Points → Points
+    unfoldable pub whites_after_setup : PointNumberSet → PointNumberSet
     whites_after_setup before = set.union (points_of_property AW) (set.difference before (set.union (points_of_property AB) (points_of_property AE)))
 
   -- between stones of both colours
-  module _ (blacks whites : Points) where
-    unfoldable pub vacant_points : Points
+  module _ (blacks whites : PointNumberSet) where
+    unfoldable pub vacant_points : PointNumberSet
     vacant_points = set.difference (whole size) (set.union blacks whites)
 
     -- the chains among these that have no liberty
-    unfoldable pub stones_without_liberty : Points → Points
+    unfoldable pub stones_without_liberty : PointNumberSet → PointNumberSet
     stones_without_liberty s = set.difference s (reached size s (set.intersection s (adjacent_points size vacant_points)))
 
   -- what is wrong in a node, with these stones behind its setup
-  abbrev pub points_at_fault : GameFault → Node → Points → Points → Points
+  abbrev pub points_at_fault : GameFault → Node → PointNumberSet → PointNumberSet → PointNumberSet
   points_at_fault PointTwice n blacks whites = points_twice n
   points_at_fault StoneWithoutLiberty n blacks whites = set.union (stones_without_liberty blacks whites blacks) (stones_without_liberty blacks whites whites)
   points_at_fault OccupiedPoint n blacks whites = move_points n
@@ -76,21 +76,21 @@ module _ (size : Size) where
   points_at_fault NoMemory n blacks whites = set.empty
 
 -- the stones of a colour in front of a node
-abbrev pub stones_before : Colour → Result GameState GameFault → Points
-stones_before k (Ok s) = stones s.size s.present k
+abbrev pub stones_before : Colour → Result GameState GameFault → PointNumberSet
+stones_before k (Ok s) = stones_of_colour s.size s.present k
 stones_before k (Err e) = set.empty
 
 -- they have to be known: the game in front of a solution is that in front of the node, and the node has no move
-abbrev pub is_stone_fault : GameFault → Bool
-is_stone_fault e = nat_eq (code_of e) (code_of StoneWithoutLiberty) || (nat_eq (code_of e) (code_of EmptyTarget) || nat_eq (code_of e) (code_of MixedTargets))
+abbrev pub needs_stones_after_setup : GameFault → Bool
+needs_stones_after_setup e = nat_eq (code_of e) (code_of StoneWithoutLiberty) || (nat_eq (code_of e) (code_of EmptyTarget) || nat_eq (code_of e) (code_of MixedTargets))
 
-abbrev pub are_stones_known : List Node → Node → Bool
-are_stones_known front n = nat_eq (nodes_before_solution false front) (length front) && not (nat_le 1 (move_count n))
+abbrev pub are_stones_after_setup_known : List Node → Node → Bool
+are_stones_after_setup_known front n = nat_eq (node_count_before_solution false front) (length front) && not (nat_le 1 (move_count n))
 
 -- the points to look at, with those nodes in front
 abbrev pub points_to_look_at_line : GameFault → Size → List Node → Node → List ℕ
 points_to_look_at_line e size front n =
-    if is_stone_fault e && not (are_stones_known front n) then []
+    if needs_stones_after_setup e && not (are_stones_after_setup_known front n) then []
     else points_line_if_any size (codes "look at:")
     (points_at_fault size e n (blacks_after_setup size n (stones_before Black (game_of front))) (whites_after_setup size n (stones_before White (game_of front))))
 
@@ -108,9 +108,9 @@ module _ (size : Size) where
   first_unreadable_point (v ∷ vs) = cond (is_entry size v) (first_unreadable_point vs) (Some v)
 
   -- the first, where it is neither a point nor a pass
-  abbrev pub unreadable_move : List (List ℕ) → Option (List ℕ)
-  unreadable_move [] = None
-  unreadable_move (v ∷ vs) = value_if_unread v (point_of size (trimmed v))
+  abbrev pub unreadable_move_of : List (List ℕ) → Option (List ℕ)
+  unreadable_move_of [] = None
+  unreadable_move_of (v ∷ vs) = value_if_unread v (point_of size (trimmed v))
 
 -- the first, where it is no colour
 abbrev pub unreadable_colour : List (List ℕ) → Option (List ℕ)
@@ -139,18 +139,18 @@ module _ (size : Size) (n : Node) where
   unreadable_setup_value = property_value_or AB (unreadable_point_of AB) (property_value_or AW (unreadable_point_of AW) (property_value_or AE (unreadable_point_of AE) None))
 
   abbrev pub unreadable_move_value : Option PropertyValue
-  unreadable_move_value = property_value_or B (unreadable_move size (values_of B n.properties)) (property_value_or W (unreadable_move size (values_of W n.properties)) None)
+  unreadable_move_value = property_value_or B (unreadable_move_of size (values_of B n.properties)) (property_value_or W (unreadable_move_of size (values_of W n.properties)) None)
 
   -- PL is read where there is no move
-  abbrev pub unreadable_turn_value : Option PropertyValue
-  unreadable_turn_value = if nat_le 1 (move_count n) then unreadable_move_value else property_value_or PL (unreadable_colour (values_of PL n.properties)) None
+  abbrev pub unreadable_move_or_pl_value : Option PropertyValue
+  unreadable_move_or_pl_value = if nat_le 1 (move_count n) then unreadable_move_value else property_value_or PL (unreadable_colour (values_of PL n.properties)) None
 
   abbrev pub unreadable_mark_value : Option PropertyValue
   unreadable_mark_value = property_value_or TR (unreadable_point_of TR) (property_value_or SQ (unreadable_point_of SQ) None)
 
   -- the first that can't be read, in the order in which a node is read
   unfoldable pub unreadable_value : Option PropertyValue
-  unreadable_value = first_or_second unreadable_setup_value (first_or_second unreadable_turn_value unreadable_mark_value)
+  unreadable_value = first_or_second unreadable_setup_value (first_or_second unreadable_move_or_pl_value unreadable_mark_value)
 
 -- ---- how a value is written
 
@@ -183,10 +183,10 @@ abbrev pub size_by_first_node : List Node → Node → Option Size
 size_by_first_node [] n = size_or_default (values_of SZ n.properties)
 size_by_first_node (m ∷ ms) n = size_or_default (values_of SZ m.properties)
 
-abbrev pub look_at_line_for_size : GameFault → List Node → Node → Option Size → List ℕ
-look_at_line_for_size e front n None = []
-look_at_line_for_size e front n (Some size) = if nat_eq (code_of e) (code_of BadValue) then unreadable_value_line (unreadable_value size n) else points_to_look_at_line e size front n
+abbrev pub look_at_text_for_size : GameFault → List Node → Node → Option Size → List ℕ
+look_at_text_for_size e front n None = []
+look_at_text_for_size e front n (Some size) = if nat_eq (code_of e) (code_of BadValue) then unreadable_value_line (unreadable_value size n) else points_to_look_at_line e size front n
 
 -- what to look at in a node that is refused so, with those nodes in front
-abbrev pub look_at_line : GameFault → List Node → Node → List ℕ
-look_at_line e front n = look_at_line_for_size e front n (size_by_first_node front n)
+abbrev pub look_at_text : GameFault → List Node → Node → List ℕ
+look_at_text e front n = look_at_text_for_size e front n (size_by_first_node front n)

@@ -10,13 +10,13 @@ use Rattle.tt_sgf.specs.declared.nodes.Property.{Property}
 use Rattle.tt_sgf.specs.declared.size.Size.{Size}
 use Rattle.tt_sgf.specs.Sizes.{point_count}
 use Rattle.tt_board.specs.Play.{other}
-use Rattle.tt_board.specs.Stones.{Points}
+use Rattle.tt_board.specs.Stones.{PointNumberSet}
 use Rattle.tt_game.specs.declared.turns.Turn.TheVariants.{Play}
 use Rattle.tt_game.specs.Line.{LineWithUndo}
 use Rattle.tt_game.specs.Nodes.{B, PL, TR, W, has, is_setup}
 use Rattle.tt_proof.specs.CertificateText.{turn_text}
 use Rattle.tsumego_show.specs.Picture.{editor_column_letter, row_number}
-use Rattle.tsumego_show.specs.Regions.{empties, adjacent_points, reached, stones, chains_with_liberty_outside}
+use Rattle.tsumego_show.specs.Regions.{empties, adjacent_points, reached, stones_of_colour, chains_with_liberty_outside}
 
 -- ---- points by their names
 
@@ -30,59 +30,59 @@ module _ (size : Size) where
   both_point_names q = editor_point_name q ++ (codes "=" ++ turn_text size (Play q))
 
   -- a blank and the names of a point, where the set has it
-  unfoldable pub member_name : Points → ℕ → List ℕ
-  member_name points q = if set.contains points q then space ∷ both_point_names q else []
+  unfoldable pub point_names_if_member : PointNumberSet → ℕ → List ℕ
+  point_names_if_member points q = if set.contains points q then space ∷ both_point_names q else []
 
   -- the names of the points of a set, row by row
-  abbrev pub point_names_text : Points → List ℕ
-  point_names_text points = flat_map (member_name points) (range_with_len 0 (point_count size))
+  abbrev pub point_names_text : PointNumberSet → List ℕ
+  point_names_text points = flat_map (point_names_if_member points) (range_with_len 0 (point_count size))
 
   -- a newline ends them
-  abbrev pub point_names_line : Points → List ℕ
+  abbrev pub point_names_line : PointNumberSet → List ℕ
   point_names_line points = point_names_text points ++ newline ∷ []
 
   -- the words and the points, where there are points
-  abbrev pub points_line_if_any : List ℕ → Points → List ℕ
+  abbrev pub points_line_if_any : List ℕ → PointNumberSet → List ℕ
   points_line_if_any words points = if nat_eq (set.len points) 0 then [] else words ++ point_names_line points
 
 module _ (p : LineWithUndo) where
   -- ---- stones and chains
 
   -- the stones of the defender, and of the attacker
-  unfoldable pub defender_stones : Points
-  defender_stones = stones p.frame.size p.state.present p.frame.defender
+  unfoldable pub defender_stones : PointNumberSet
+  defender_stones = stones_of_colour p.frame.size p.state.present p.frame.defender
 
-  unfoldable pub attacker_stones : Points
-  attacker_stones = stones p.frame.size p.state.present (other p.frame.defender)
+  unfoldable pub attacker_stones : PointNumberSet
+  attacker_stones = stones_of_colour p.frame.size p.state.present (other p.frame.defender)
 
   -- the chains of the targets
-  unfoldable pub target_chains : Points
+  unfoldable pub target_chains : PointNumberSet
   target_chains = reached p.frame.size defender_stones p.frame.targets
 
   -- and with them those of the defender's stones in the region
-  unfoldable pub defending_chains : Points
-  defending_chains = reached p.frame.size defender_stones (set.union p.frame.targets (set.intersection p.frame.region defender_stones))
+  unfoldable pub target_and_region_chains : PointNumberSet
+  target_and_region_chains = reached p.frame.size defender_stones (set.union p.frame.targets (set.intersection p.frame.region defender_stones))
 
   -- the empty points that nobody can fill
-  unfoldable pub unfillable_points : Points
-  unfillable_points = set.difference (empties p.frame.size p.state.present) p.frame.region
+  unfoldable pub empties_outside_region : PointNumberSet
+  empties_outside_region = set.difference (empties p.frame.size p.state.present) p.frame.region
 
   -- ---- hints
 
   -- the empty points of the region, and those chains: what has no liberty outside where the region is closed
-  unfoldable pub enclosed_points : Points
-  enclosed_points = set.union (set.intersection p.frame.region (empties p.frame.size p.state.present)) defending_chains
+  unfoldable pub region_empties_and_chains : PointNumberSet
+  region_empties_and_chains = set.union (set.intersection p.frame.region (empties p.frame.size p.state.present)) target_and_region_chains
 
   -- the empty points that nobody can fill, beside those
-  unfoldable pub leaks : Points
-  leaks = set.intersection unfillable_points (adjacent_points p.frame.size enclosed_points)
+  unfoldable pub empties_around_region : PointNumberSet
+  empties_around_region = set.intersection empties_outside_region (adjacent_points p.frame.size region_empties_and_chains)
 
   -- the attacker's stones outside the region, whose chains have all their liberties in it
-  unfoldable pub capturable_stones : Points
-  capturable_stones = set.difference (set.difference attacker_stones p.frame.region) (chains_with_liberty_outside p.frame.size p.state.present p.frame.defender p.frame.region)
+  unfoldable pub capturable_attackers : PointNumberSet
+  capturable_attackers = set.difference (set.difference attacker_stones p.frame.region) (chains_with_liberty_outside p.frame.size p.state.present p.frame.defender p.frame.region)
 
   -- the defender's stones in or beside the region, of other chains than the targets'
-  unfoldable pub other_defender_stones : Points
+  unfoldable pub other_defender_stones : PointNumberSet
   other_defender_stones = set.intersection (set.difference defender_stones target_chains) (set.union p.frame.region (adjacent_points p.frame.size p.frame.region))
 
   -- the most points of a board that may well be a region as a whole
@@ -90,25 +90,25 @@ module _ (p : LineWithUndo) where
   most_small_board_points = 10
 
   -- the region is all of a larger board
-  abbrev pub is_region_too_wide : Bool
-  is_region_too_wide = nat_lt most_small_board_points (point_count p.frame.size) && nat_eq (set.len p.frame.region) (point_count p.frame.size)
+  abbrev pub is_region_whole_large_board : Bool
+  is_region_whole_large_board = nat_lt most_small_board_points (point_count p.frame.size) && nat_eq (set.len p.frame.region) (point_count p.frame.size)
 
   -- ---- their lines; a newline ends each
 
-  abbrev pub leaks_line : List ℕ
-  leaks_line = points_line_if_any p.frame.size (codes "hint: empty and not in the region, so that nobody can fill them:") leaks
+  abbrev pub empties_around_region_line : List ℕ
+  empties_around_region_line = points_line_if_any p.frame.size (codes "hint: empty and not in the region, so that nobody can fill them:") empties_around_region
 
-  abbrev pub capturable_stones_line : List ℕ
-  capturable_stones_line = points_line_if_any p.frame.size (codes "hint: unlike T and not in the region, and can be taken by plays in it:") capturable_stones
+  abbrev pub capturable_attackers_line : List ℕ
+  capturable_attackers_line = points_line_if_any p.frame.size (codes "hint: unlike T and not in the region, and can be taken by plays in it:") capturable_attackers
 
   abbrev pub other_defender_stones_line : List ℕ
   other_defender_stones_line = points_line_if_any p.frame.size (codes "hint: stones like T in or beside the region, of other chains:") other_defender_stones
 
-  abbrev pub wide_region_line : List ℕ
-  wide_region_line = if is_region_too_wide then codes "hint: the region is the whole board" ++ newline ∷ [] else []
+  abbrev pub whole_board_region_line : List ℕ
+  whole_board_region_line = if is_region_whole_large_board then codes "hint: the region is the whole board" ++ newline ∷ [] else []
 
   abbrev pub hints : List ℕ
-  hints = leaks_line ++ (capturable_stones_line ++ (other_defender_stones_line ++ wide_region_line))
+  hints = empties_around_region_line ++ (capturable_attackers_line ++ (other_defender_stones_line ++ whole_board_region_line))
 
 -- ---- who moves
 
@@ -128,22 +128,22 @@ missing_mover_line ns = if is_side_to_move_given false ns then [] else codes "hi
 -- ---- comments that go on too far
 
 -- whether these bytes, which open something, stand in a value without a `]` behind them; or whether some did before
-unfoldable pub is_unclosed_opening : List ℕ → Bool → List ℕ → Bool
-is_unclosed_opening name before [] = before
-is_unclosed_opening name before (b ∷ bs) = is_unclosed_opening name (if nat_eq b close_value then false else (starts_with ◌==◌ (b ∷ bs) name || before)) bs
+unfoldable pub is_opener_unclosed : List ℕ → Bool → List ℕ → Bool
+is_opener_unclosed name before [] = before
+is_opener_unclosed name before (b ∷ bs) = is_opener_unclosed name (if nat_eq b close_value then false else (starts_with ◌==◌ (b ∷ bs) name || before)) bs
 
 -- a comment with such bytes: its `]` is likely missing, and the property or the tree behind has become a part of it
 abbrev pub is_unclosed_comment : List ℕ → Property → Bool
-is_unclosed_comment name p = pointwise ◌==◌ p.ident (codes "C") && list_any (is_unclosed_opening name false) p.values
+is_unclosed_comment name p = pointwise ◌==◌ p.ident (codes "C") && list_any (is_opener_unclosed name false) p.values
 
 abbrev pub has_unclosed_comment : List ℕ → Node → Bool
 has_unclosed_comment name n = list_any (is_unclosed_comment name) n.properties
 
-abbrev pub comment_line : List ℕ → List Node → List ℕ
-comment_line name ns = if list_any (has_unclosed_comment name) ns then codes "hint: a comment holds " ++ (name ++ codes ": is its ] missing?\n") else []
+abbrev pub unclosed_comment_line : List ℕ → List Node → List ℕ
+unclosed_comment_line name ns = if list_any (has_unclosed_comment name) ns then codes "hint: a comment holds " ++ (name ++ codes ": is its ] missing?\n") else []
 
 -- the lines on who moves, the marks, the stones and the next tree
-abbrev pub comment_lines : List Node → List ℕ
-comment_lines ns =
-    comment_line (codes "PL[") ns ++ (comment_line (codes "TR[") ns ++ (comment_line (codes "SQ[") ns ++ (comment_line (codes "AB[") ns ++ (comment_line (codes "AW[") ns
-    ++ comment_line (codes "(;") ns))))
+abbrev pub unclosed_comment_lines : List Node → List ℕ
+unclosed_comment_lines ns =
+    unclosed_comment_line (codes "PL[") ns ++ (unclosed_comment_line (codes "TR[") ns ++ (unclosed_comment_line (codes "SQ[") ns ++ (unclosed_comment_line (codes "AB[") ns ++ (unclosed_comment_line (codes "AW[") ns
+    ++ unclosed_comment_line (codes "(;") ns))))

@@ -9,7 +9,7 @@ use Rattle.tt_sgf.specs.declared.nodes.Node.{Node}
 use Rattle.tt_sgf.specs.Sizes.{point_count}
 use Rattle.tt_board.specs.declared.Colour.{Colour}
 use Rattle.tt_board.specs.declared.Colour.TheVariants.{Black, White}
-use Rattle.tt_board.specs.Stones.{Points}
+use Rattle.tt_board.specs.Stones.{PointNumberSet}
 use Rattle.tt_board.specs.Position.{Colouring}
 use Rattle.tt_board.specs.Reach.{entry_at}
 use Rattle.tt_game.specs.declared.faults.GameFault.{GameFault}
@@ -19,36 +19,36 @@ use Rattle.tt_game.specs.Games.{GameState}
 use Rattle.tt_game.specs.Line.{LineWithUndo}
 use Rattle.tt_game.specs.Nodes.{SQ, TR, has}
 use Rattle.tt_sgf.specs.Bytes.{newline}
-use Rattle.tt_game.specs.Problems.{nodes_before_solution, game_of, posed_problem}
+use Rattle.tt_game.specs.Problems.{node_count_before_solution, game_of, posed_problem}
 use Rattle.tsumego_show.specs.declared.mode.StonePlace.{StonePlace}
 use Rattle.tsumego_show.specs.declared.mode.StonePlace.TheVariants.{FromAbove, FromBelow}
 use Rattle.tsumego_show.specs.declared.mark_proposals.StoneWithPoints.{StoneWithPoints}
 use Rattle.tsumego_show.specs.declared.tree_bytes.LexicalState.TheVariants.{Outside}
 use Rattle.tsumego_show.specs.declared.variations.RootPointProperty.TheVariants.{Squares, Triangles}
-use Rattle.tsumego_show.specs.Hints.{both_point_names, comment_lines, hints, missing_mover_line, point_names_line}
+use Rattle.tsumego_show.specs.Hints.{both_point_names, unclosed_comment_lines, hints, missing_mover_line, point_names_line}
 use Rattle.tsumego_show.specs.Picture.{colour_name}
-use Rattle.tsumego_show.specs.Refusals.{fault_text, refusal_line}
-use Rattle.tsumego_show.specs.Regions.{nearby_empties, is_closed, is_inner, proposed_region, stones, ways_out}
+use Rattle.tsumego_show.specs.Refusals.{refusal_and_why_text, refusal_line}
+use Rattle.tsumego_show.specs.Regions.{nearby_empties, is_closed, is_inner, proposed_region, stones_of_colour, ways_out}
 use Rattle.tsumego_show.specs.TreeBytes.{semicolon_end, from_first_parenthesis, tree_as_given}
 use Rattle.tsumego_show.specs.Variations.{point_list_property}
 
 -- ---- which marks are there
 
 -- the nodes up to where a main line asks
-abbrev pub problem_nodes : List Node → List Node
-problem_nodes ns = take (nodes_before_solution false ns) ns
+abbrev pub nodes_before_solution : List Node → List Node
+nodes_before_solution ns = take (node_count_before_solution false ns) ns
 
 -- one of them has triangles
 abbrev pub has_triangles : List Node → Bool
-has_triangles ns = list_any (has TR) (problem_nodes ns)
+has_triangles ns = list_any (has TR) (nodes_before_solution ns)
 
 abbrev pub is_some_with_property : List ℕ → Option Node → Bool
 is_some_with_property name None = false
 is_some_with_property name (Some n) = has name n
 
 -- the last of them, which is to get the marks, has squares
-abbrev pub is_last_node_squared : List Node → Bool
-is_last_node_squared ns = is_some_with_property SQ (slice_get (problem_nodes ns) (length (problem_nodes ns) - 1))
+abbrev pub is_last_problem_node_squared : List Node → Bool
+is_last_problem_node_squared ns = is_some_with_property SQ (slice_get (nodes_before_solution ns) (length (nodes_before_solution ns) - 1))
 
 -- ---- which stone
 
@@ -64,10 +64,10 @@ point_of_place size (FromBelow column number) = if nat_lt 0 number && nat_le num
 -- ---- which marks
 
 -- the one with the fewer points, and of two with as many the first
-abbrev pub smaller_nonempty_set : Option StoneWithPoints → Option StoneWithPoints → Option StoneWithPoints
-smaller_nonempty_set a None = a
-smaller_nonempty_set None (Some b) = Some b
-smaller_nonempty_set (Some a) (Some b) = if nat_lt (set.len b.points) (set.len a.points) then Some b else Some a
+abbrev pub one_with_fewer_points : Option StoneWithPoints → Option StoneWithPoints → Option StoneWithPoints
+one_with_fewer_points a None = a
+one_with_fewer_points None (Some b) = Some b
+one_with_fewer_points (Some a) (Some b) = if nat_lt (set.len b.points) (set.len a.points) then Some b else Some a
 
 module _ (s : GameState) where
   -- the stone on q with its region, where a stone is there, and the region is closed and, where nobody named the stone, an inner one
@@ -79,7 +79,7 @@ module _ (s : GameState) where
   -- of the stones on the first n points the one with the fewest squares
   unfoldable pub fewest_squares_proposal : ℕ → Option StoneWithPoints
   fewest_squares_proposal zero = None
-  fewest_squares_proposal (suc n) = smaller_nonempty_set (fewest_squares_proposal n) (proposal_if_closed false n (entry_at s.present n))
+  fewest_squares_proposal (suc n) = one_with_fewer_points (fewest_squares_proposal n) (proposal_if_closed false n (entry_at s.present n))
 
   -- that on the point, where the board has it
   abbrev pub proposal_for_point : Option ℕ → Option StoneWithPoints
@@ -103,18 +103,18 @@ module _ (s : GameState) where
 
 module _ (s : GameState) where
   -- the stone on q with its ways out, where a stone is there and has some
-  abbrev pub open_at : ℕ → Option Colour → Option StoneWithPoints
-  open_at q None = None
-  open_at q (Some k) =
+  abbrev pub ways_out_at : ℕ → Option Colour → Option StoneWithPoints
+  ways_out_at q None = None
+  ways_out_at q (Some k) =
       if nat_eq (set.len (ways_out s.size s.present k q)) 0 then None else Some (record { stone = q; colour = k; points = ways_out s.size s.present k q })
 
   -- of the stones on the first n points the one with the fewest ways out
-  unfoldable pub least_open : ℕ → Option StoneWithPoints
-  least_open zero = None
-  least_open (suc n) = smaller_nonempty_set (least_open n) (open_at n (entry_at s.present n))
+  unfoldable pub stone_with_fewest_ways_out : ℕ → Option StoneWithPoints
+  stone_with_fewest_ways_out zero = None
+  stone_with_fewest_ways_out (suc n) = one_with_fewer_points (stone_with_fewest_ways_out n) (ways_out_at n (entry_at s.present n))
 
-  abbrev pub has_stones : Colour → Bool
-  has_stones k = nat_lt 0 (set.len (stones s.size s.present k))
+  abbrev pub is_colour_on_board : Colour → Bool
+  is_colour_on_board k = nat_lt 0 (set.len (stones_of_colour s.size s.present k))
 
 -- ---- what is written of a problem
 
@@ -140,26 +140,26 @@ unfoldable pub chain_name : Size → Colour → ℕ → List ℕ
 chain_name size k q = codes "the " ++ (colour_name k ++ (codes " chain of " ++ both_point_names size q))
 
 -- the ways out, or where there are none other empty points
-unfoldable pub openings : Size → Points → Points → List ℕ
-openings size ways others =
+unfoldable pub ways_out_or_nearby_text : Size → PointNumberSet → PointNumberSet → List ℕ
+ways_out_or_nearby_text size ways others =
     if nat_eq (set.len ways) 0 then codes "put stones of the wall on some of these, or mark by hand:" ++ point_names_line size others
     else codes "it gets out at" ++ point_names_line size ways
 
 -- where a chain is open
-unfoldable pub open_text : Size → Colour → ℕ → Points → Points → List ℕ
-open_text size k q ways others = chain_name size k q ++ (codes " is not enclosed with 2 to 40 points: " ++ openings size ways others)
+unfoldable pub open_text : Size → Colour → ℕ → PointNumberSet → PointNumberSet → List ℕ
+open_text size k q ways others = chain_name size k q ++ (codes " is not enclosed with 2 to 40 points: " ++ ways_out_or_nearby_text size ways others)
 
 abbrev pub open_group_line : Size → Colouring → Colour → ℕ → List ℕ
 open_group_line size c k q = open_text size k q (ways_out size c k q) (nearby_empties size c k q)
 
 -- a chain, and its ways out
-unfoldable pub ways_text : Size → StoneWithPoints → List ℕ
-ways_text size m = chain_name size m.colour m.stone ++ (codes ", which gets out at" ++ point_names_line size m.points)
+unfoldable pub chain_and_ways_out_text : Size → StoneWithPoints → List ℕ
+chain_and_ways_out_text size m = chain_name size m.colour m.stone ++ (codes ", which gets out at" ++ point_names_line size m.points)
 
 -- the chain that is open least, where one is
 abbrev pub no_enclosed_group_text : Size → Option StoneWithPoints → List ℕ
 no_enclosed_group_text size None = codes "no group is enclosed with 2 to 40 points: close the wall, or name a stone of the group\n"
-no_enclosed_group_text size (Some m) = codes "no group is enclosed with 2 to 40 points: least open is " ++ ways_text size m
+no_enclosed_group_text size (Some m) = codes "no group is enclosed with 2 to 40 points: least open is " ++ chain_and_ways_out_text size m
 
 -- the board has so many columns and rows
 abbrev pub off_board_line : Size → List ℕ
@@ -168,7 +168,7 @@ off_board_line size = codes "the board has no such point: it is " ++ (decimal si
 module _ (s : GameState) where
   -- where there are black stones, and white ones: no group is enclosed; without both there is no wall
   abbrev pub why_no_group_enclosed : Bool → Bool → List ℕ
-  why_no_group_enclosed true true = no_enclosed_group_text s.size (least_open s (point_count s.size))
+  why_no_group_enclosed true true = no_enclosed_group_text s.size (stone_with_fewest_ways_out s (point_count s.size))
   why_no_group_enclosed true false = codes "no White stone is on the board, so there is no wall\n"
   why_no_group_enclosed false true = codes "no Black stone is on the board, so there is no wall\n"
   why_no_group_enclosed false false = codes "no stone is on the board\n"
@@ -182,7 +182,7 @@ module _ (s : GameState) where
   why_unmarked_or_off_board (Some q) = why_unmarked_at_point q (entry_at s.present q)
 
   abbrev pub why_unmarked_at_place : Option StonePlace → List ℕ
-  why_unmarked_at_place None = why_no_group_enclosed (has_stones s Black) (has_stones s White)
+  why_unmarked_at_place None = why_no_group_enclosed (is_colour_on_board s Black) (is_colour_on_board s White)
   why_unmarked_at_place (Some place) = why_unmarked_or_off_board (point_of_place s.size place)
 
   abbrev pub why_unmarked : Bool → Option StonePlace → List ℕ
@@ -199,13 +199,13 @@ module _ (s : GameState) where
 -- comments go on too far; or it is refused
 abbrev pub game_marked_or_kept : Option StonePlace → ℕ → List ℕ → List Node → Result GameState GameFault → List ℕ
 game_marked_or_kept place k tree ns (Ok s) =
-    missing_mover_line (problem_nodes ns) ++ (comment_lines ns
-    ++ proposal_or_reason s (is_last_node_squared ns) place k (nodes_before_solution false ns) tree (proposal_unless_squared s (is_last_node_squared ns) place))
-game_marked_or_kept place k tree ns (Err e) = fault_text k ns e ++ tree_as_given tree
+    missing_mover_line (nodes_before_solution ns) ++ (unclosed_comment_lines ns
+    ++ proposal_or_reason s (is_last_problem_node_squared ns) place k (node_count_before_solution false ns) tree (proposal_unless_squared s (is_last_problem_node_squared ns) place))
+game_marked_or_kept place k tree ns (Err e) = refusal_and_why_text k ns e ++ tree_as_given tree
 
 -- what is written of a main line that is no problem, by this fault: where nothing is proposed, the tree as it was stands behind the lines
 abbrev pub tree_marked_or_kept : Option StonePlace → ℕ → List ℕ → List Node → GameFault → List ℕ
-tree_marked_or_kept place k tree ns e = if has_triangles ns then fault_text k ns e ++ tree_as_given tree else game_marked_or_kept place k tree ns (game_of ns)
+tree_marked_or_kept place k tree ns e = if has_triangles ns then refusal_and_why_text k ns e ++ tree_as_given tree else game_marked_or_kept place k tree ns (game_of ns)
 
 -- and whether it is refused
 abbrev pub is_proposal_missing : Option StoneWithPoints → Bool
@@ -217,7 +217,7 @@ is_game_left_unmarked is_squared place (Ok s) = is_proposal_missing (proposal_un
 is_game_left_unmarked is_squared place (Err e) = true
 
 abbrev pub is_left_unmarked : Option StonePlace → List Node → Bool
-is_left_unmarked place ns = if has_triangles ns then true else is_game_left_unmarked (is_last_node_squared ns) place (game_of ns)
+is_left_unmarked place ns = if has_triangles ns then true else is_game_left_unmarked (is_last_problem_node_squared ns) place (game_of ns)
 
 -- ---- trees that are problems
 

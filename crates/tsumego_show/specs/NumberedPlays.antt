@@ -18,13 +18,13 @@ abbrev pub longer_plays : List ℕ → List ℕ → List ℕ
 longer_plays xs ys = if nat_lt (length xs) (length ys) then ys else xs
 
 -- a play that led to this state, and the line behind it, where its stone stands: the play was no suicide
-abbrev pub standing_line : State → ℕ → List ℕ → List ℕ
-standing_line s q behind = if is_empty (entry_at s.present q) then [] else q ∷ behind
+abbrev pub plays_if_stone_stands : State → ℕ → List ℕ → List ℕ
+plays_if_stone_stands s q behind = if is_empty (entry_at s.present q) then [] else q ∷ behind
 
 module _ (f : Frame) where
   -- a turn and the line behind it, where it is a legal play, and no suicide
   abbrev pub plays_from_turn : State → Turn → List ℕ → List ℕ
-  plays_from_turn s (Play q) behind = if is_legal f s (Play q) then standing_line (after f s (Play q)) q behind else []
+  plays_from_turn s (Play q) behind = if is_legal f s (Play q) then plays_if_stone_stands (after f s (Play q)) q behind else []
   plays_from_turn s Pass behind = []
 
   abbrev mutual

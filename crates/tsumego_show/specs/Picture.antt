@@ -61,13 +61,13 @@ abbrev pub editor_letters_line : Size → List ℕ
 editor_letters_line size = space ∷ (spaced_columns_text editor_column_letter size.columns ++ newline ∷ [])
 
 -- what is shown of the points of a row, column by column
-abbrev pub row_symbol : LineWithUndo → ℕ → ℕ → ℕ
-row_symbol p row column = point_symbol p (row * p.frame.size.columns + column)
+abbrev pub symbol_at_coordinates : LineWithUndo → ℕ → ℕ → ℕ
+symbol_at_coordinates p row column = point_symbol p (row * p.frame.size.columns + column)
 
 -- the letter of a row, what is shown of its points, and its number
 abbrev pub row_line : LineWithUndo → ℕ → List ℕ
 row_line p row =
-    sgf_letter row ∷ (spaced_columns_text (row_symbol p row) p.frame.size.columns ++ (space ∷ (decimal (row_number p.frame.size row) ++ newline ∷ [])))
+    sgf_letter row ∷ (spaced_columns_text (symbol_at_coordinates p row) p.frame.size.columns ++ (space ∷ (decimal (row_number p.frame.size row) ++ newline ∷ [])))
 
 -- the rows between both lines of letters
 abbrev pub board_text : LineWithUndo → List ℕ

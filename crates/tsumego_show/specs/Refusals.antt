@@ -9,8 +9,8 @@ use Rattle.tt_game.specs.declared.faults.GameFault.TheVariants.{TooManyTurns, No
 use Rattle.tt_game.specs.Faults.{code_of}
 use Rattle.tt_game.specs.Line.{LineWithUndo}
 use Rattle.tt_game.specs.Problems.{problem_of}
-use Rattle.tsumego_show.specs.FaultDetails.{look_at_line}
-use Rattle.tsumego_show.specs.Hints.{comment_lines}
+use Rattle.tsumego_show.specs.FaultDetails.{look_at_text}
+use Rattle.tsumego_show.specs.Hints.{unclosed_comment_lines}
 use Rattle.tsumego_show.specs.TreeBytes.{from_first_parenthesis}
 
 -- the line on a refusal of tree number k, which a newline ends
@@ -58,24 +58,24 @@ abbrev pub most_nodes_to_locate_fault : ℕ
 most_nodes_to_locate_fault = 1000
 
 -- `node 3: `, and what is wrong there, with those nodes in front; nodes count from 1
-abbrev pub fault_at_node : GameFault → ℕ → List Node → Node → List ℕ
-fault_at_node e k front n = codes "node " ++ (decimal k ++ (codes ": " ++ (meaning e ++ look_at_line e front n)))
+abbrev pub fault_at_node_text : GameFault → ℕ → List Node → Node → List ℕ
+fault_at_node_text e k front n = codes "node " ++ (decimal k ++ (codes ": " ++ (meaning e ++ look_at_text e front n)))
 
-abbrev pub fault_at_node_if_any : GameFault → ℕ → List Node → Option Node → List ℕ
-fault_at_node_if_any e k front None = meaning e
-fault_at_node_if_any e k front (Some n) = fault_at_node e k front n
+abbrev pub fault_at_node_if_any_text : GameFault → ℕ → List Node → Option Node → List ℕ
+fault_at_node_if_any_text e k front None = meaning e
+fault_at_node_if_any_text e k front (Some n) = fault_at_node_text e k front n
 
 -- and at which node of a main line, where one is
-abbrev pub located_fault : GameFault → List Node → List ℕ
-located_fault e ns = fault_at_node_if_any e (needed_nodes (code_of e) ns (length ns)) (take (needed_nodes (code_of e) ns (length ns) - 1) ns) (nth_node (needed_nodes (code_of e) ns (length ns)) ns)
+abbrev pub located_fault_text : GameFault → List Node → List ℕ
+located_fault_text e ns = fault_at_node_if_any_text e (needed_nodes (code_of e) ns (length ns)) (take (needed_nodes (code_of e) ns (length ns) - 1) ns) (nth_node (needed_nodes (code_of e) ns (length ns)) ns)
 
 -- why a main line is refused so: where no node has TR, comments may hold it; else, where it isn't too long, the node is looked for
 abbrev pub why_refused_text : GameFault → List Node → List ℕ
-why_refused_text e ns = if nat_eq (code_of e) (code_of NoTarget) then meaning e ++ comment_lines ns else (if nat_lt most_nodes_to_locate_fault (length ns) then meaning e else located_fault e ns)
+why_refused_text e ns = if nat_eq (code_of e) (code_of NoTarget) then meaning e ++ unclosed_comment_lines ns else (if nat_lt most_nodes_to_locate_fault (length ns) then meaning e else located_fault_text e ns)
 
 -- the lines on a main line that is refused so
-abbrev pub fault_text : ℕ → List Node → GameFault → List ℕ
-fault_text k ns e = refusal_line k (code_of e) ++ (codes "why: " ++ why_refused_text e ns)
+abbrev pub refusal_and_why_text : ℕ → List Node → GameFault → List ℕ
+refusal_and_why_text k ns e = refusal_line k (code_of e) ++ (codes "why: " ++ why_refused_text e ns)
 
 -- ---- inputs that are no game trees
 

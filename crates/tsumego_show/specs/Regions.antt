@@ -8,7 +8,7 @@ use Rattle.tt_sgf.specs.Sizes.{point_count}
 use Rattle.tt_board.specs.declared.Colour.{Colour}
 use Rattle.tt_board.specs.Position.{Colouring}
 use Rattle.tt_board.specs.Play.{is_empty, is_stone_of, other}
-use Rattle.tt_board.specs.Stones.{Points}
+use Rattle.tt_board.specs.Stones.{PointNumberSet}
 use Rattle.tt_board.specs.Reach.{entry_at}
 use Rattle.tt_game.specs.Problems.{whole}
 
@@ -16,75 +16,75 @@ use Rattle.tt_game.specs.Problems.{whole}
 
 module _ (size : Size) where
   -- a point above, left of, right of or below q is in the set
-  abbrev pub is_adjacent_to : Points → ℕ → Bool
+  abbrev pub is_adjacent_to : PointNumberSet → ℕ → Bool
   is_adjacent_to s q = (nat_le size.columns q && set.contains s (q - size.columns)) || (nat_lt 0 (q % size.columns) && set.contains s (q - 1))
       || (nat_lt (q % size.columns + 1) size.columns && set.contains s (q + 1))
       || (nat_lt (q + size.columns) (point_count size) && set.contains s (q + size.columns))
 
-  unfoldable pub adjacent_points : Points → Points
+  unfoldable pub adjacent_points : PointNumberSet → PointNumberSet
   adjacent_points s = passing (is_adjacent_to s) (point_count size)
 
-  -- the set, and what is reached from it in so many steps through points that are free
-  unfoldable pub reached_in_steps : Points → ℕ → Points → Points
-  reached_in_steps free zero s = s
-  reached_in_steps free (suc n) s = set.union (reached_in_steps free n s) (set.intersection free (adjacent_points (reached_in_steps free n s)))
+  -- the set, and what is reached from it in so many steps through passable points
+  unfoldable pub reached_in_steps : PointNumberSet → ℕ → PointNumberSet → PointNumberSet
+  reached_in_steps passable zero s = s
+  reached_in_steps passable (suc n) s = set.union (reached_in_steps passable n s) (set.intersection passable (adjacent_points (reached_in_steps passable n s)))
 
   -- what is reached at all
-  abbrev pub reached : Points → Points → Points
-  reached free s = reached_in_steps free (point_count size) s
+  abbrev pub reached : PointNumberSet → PointNumberSet → PointNumberSet
+  reached passable s = reached_in_steps passable (point_count size) s
 
   -- what is reached from point q without passing a wall
-  unfoldable pub reached_within_wall : ℕ → Points → Points
+  unfoldable pub reached_within_wall : ℕ → PointNumberSet → PointNumberSet
   reached_within_wall q wall = reached (set.difference (whole size) wall) (set.insert set.empty q)
 
 -- ---- on a board
 
 -- the most points of a region that is closed
-abbrev pub most_region_points : ℕ
-most_region_points = 40
+abbrev pub most_enclosed_points : ℕ
+most_enclosed_points = 40
 
 module _ (size : Size) (c : Colouring) where
-  unfoldable pub stones : Colour → Points
-  stones k = passing (λ q. is_stone_of (entry_at c q) k) (point_count size)
+  unfoldable pub stones_of_colour : Colour → PointNumberSet
+  stones_of_colour k = passing (λ q. is_stone_of (entry_at c q) k) (point_count size)
 
-  unfoldable pub empties : Points
+  unfoldable pub empties : PointNumberSet
   empties = passing (λ q. is_empty (entry_at c q)) (point_count size)
 
   -- what the other colour has around a group of this one
   module _ (k : Colour) where
     -- its chains with a liberty outside
-    unfoldable pub chains_with_liberty_outside : Points → Points
-    chains_with_liberty_outside within = reached size (stones (other k)) (set.intersection (stones (other k)) (adjacent_points size (set.difference empties within)))
+    unfoldable pub chains_with_liberty_outside : PointNumberSet → PointNumberSet
+    chains_with_liberty_outside within = reached size (stones_of_colour (other k)) (set.intersection (stones_of_colour (other k)) (adjacent_points size (set.difference empties within)))
 
     -- for a stone on point q
     module _ (q : ℕ) where
-      unfoldable pub chain : Points
-      chain = reached size (stones k) (set.insert set.empty q)
+      unfoldable pub chain : PointNumberSet
+      chain = reached size (stones_of_colour k) (set.insert set.empty q)
 
       -- the wall: first all stones of the other colour, then, so many times, those that can't be taken from inside
-      unfoldable pub wall_after : ℕ → Points
-      wall_after zero = stones (other k)
+      unfoldable pub wall_after : ℕ → PointNumberSet
+      wall_after zero = stones_of_colour (other k)
       wall_after (suc n) = chains_with_liberty_outside (reached_within_wall size q (wall_after n))
 
-      unfoldable pub wall : Points
+      unfoldable pub wall : PointNumberSet
       wall = wall_after (point_count size)
 
       -- the points inside the wall but the chain's own
-      unfoldable pub proposed_region : Points
+      unfoldable pub proposed_region : PointNumberSet
       proposed_region = set.difference (reached_within_wall size q wall) chain
 
       -- there is a wall, and the region has some points and not too many
       unfoldable pub is_closed : Bool
-      is_closed = nat_lt 0 (set.len wall) && (nat_lt 1 (set.len proposed_region) && nat_le (set.len proposed_region) most_region_points)
+      is_closed = nat_lt 0 (set.len wall) && (nat_lt 1 (set.len proposed_region) && nat_le (set.len proposed_region) most_enclosed_points)
 
       -- the board isn't turned inside out: no more empty points are in the region than outside
       unfoldable pub is_inner : Bool
       is_inner = nat_le (set.len (set.intersection proposed_region empties)) (set.len (set.difference empties proposed_region))
 
       -- empty points within three steps of the chain, where the wall may want a stone
-      unfoldable pub nearby_empties : Points
-      nearby_empties = set.intersection empties (reached_in_steps size (set.difference (whole size) (stones (other k))) 3 chain)
+      unfoldable pub nearby_empties : PointNumberSet
+      nearby_empties = set.intersection empties (reached_in_steps size (set.difference (whole size) (stones_of_colour (other k))) 3 chain)
 
       -- those beside the chain from which empty points lead further
-      unfoldable pub ways_out : Points
+      unfoldable pub ways_out : PointNumberSet
       ways_out = set.intersection (adjacent_points size chain) (set.intersection nearby_empties (reached size empties (set.difference empties nearby_empties)))

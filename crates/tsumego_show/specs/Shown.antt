@@ -14,10 +14,10 @@ use Rattle.tsumego_show.specs.declared.mode.Mode.TheVariants.{Picture, Diagram, 
 use Rattle.tsumego_show.specs.Diagram.{svg_text}
 use Rattle.tsumego_show.specs.StrategyListing.{IsCertificateListing}
 use Rattle.tsumego_show.specs.FollowingStrategy.{FollowingStrategy, IsFollowingStrategy, claimed_winner}
-use Rattle.tsumego_show.specs.Hints.{comment_lines, hints, missing_mover_line}
+use Rattle.tsumego_show.specs.Hints.{unclosed_comment_lines, hints, missing_mover_line}
 use Rattle.tsumego_show.specs.Marking.{is_left_unmarked, tree_marked_or_kept, unsquared_triangle_node, kept_problem_text}
 use Rattle.tsumego_show.specs.Picture.{picture}
-use Rattle.tsumego_show.specs.Refusals.{fault_text, too_long_text, no_tree_text}
+use Rattle.tsumego_show.specs.Refusals.{refusal_and_why_text, too_long_text, no_tree_text}
 use Rattle.tsumego_show.specs.NumberedPlays.{numbered_plays}
 use Rattle.tsumego_show.specs.TreeBytes.{from_first_parenthesis, is_nil}
 use Rattle.tsumego_show.specs.Variations.{sgf_text}
@@ -48,7 +48,7 @@ no_strategy_words behind =
 
 -- the number, the picture and the hints
 abbrev pub picture_and_hints_text : ℕ → List Node → LineWithUndo → List ℕ
-picture_and_hints_text k ns p = decimal k ++ (space ∷ (picture p ++ (missing_mover_line ns ++ (comment_lines ns ++ hints p))))
+picture_and_hints_text k ns p = decimal k ++ (space ∷ (picture p ++ (missing_mover_line ns ++ (unclosed_comment_lines ns ++ hints p))))
 
 -- the text on tree number k with these bytes, whose main line is this problem and which is followed by the others: the picture with what follows it;
 -- or the diagram or the game tree with the strategy that stands there; or the tree as it was, since it has a mark
@@ -60,9 +60,9 @@ IsProblemText (Marks place) k tree ns p behind text = text ≡ kept_problem_text
 
 -- the text on tree number k with these bytes, whose main line is no problem, and whether it is refused: where marks are wanted and it has none, they may be proposed
 abbrev pub non_problem_text : Mode → ℕ → List ℕ → List Node → GameFault → List ℕ
-non_problem_text Picture k tree ns e = fault_text k ns e
-non_problem_text Diagram k tree ns e = fault_text k ns e
-non_problem_text (Variations depth) k tree ns e = fault_text k ns e
+non_problem_text Picture k tree ns e = refusal_and_why_text k ns e
+non_problem_text Diagram k tree ns e = refusal_and_why_text k ns e
+non_problem_text (Variations depth) k tree ns e = refusal_and_why_text k ns e
 non_problem_text (Marks place) k tree ns e = tree_marked_or_kept place k tree ns e
 
 abbrev pub is_non_problem_refused : Mode → List Node → Bool

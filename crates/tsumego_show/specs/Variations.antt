@@ -64,14 +64,14 @@ module _ (p : LineWithUndo) where
   has_stone_of_colour k q = is_stone_of (entry_at p.state.present q) k
 
   -- a list has the point: it has a stone, or is a target, or a point of a region that isn't the whole board
-  abbrev pub is_point_listed : RootPointProperty → ℕ → Bool
-  is_point_listed Blacks q = has_stone_of_colour Black q
-  is_point_listed Whites q = has_stone_of_colour White q
-  is_point_listed Triangles q = is_target p q
-  is_point_listed Squares q = has_square p q
+  abbrev pub is_point_written : RootPointProperty → ℕ → Bool
+  is_point_written Blacks q = has_stone_of_colour Black q
+  is_point_written Whites q = has_stone_of_colour White q
+  is_point_written Triangles q = is_target p q
+  is_point_written Squares q = has_square p q
 
   unfoldable pub listed_value : RootPointProperty → ℕ → List ℕ
-  listed_value points q = if is_point_listed points q then bracketed (turn_text p.frame.size (Play q)) else []
+  listed_value points q = if is_point_written points q then bracketed (turn_text p.frame.size (Play q)) else []
 
   -- the values of the points of a list, row by row
   abbrev pub listed_values : RootPointProperty → List ℕ

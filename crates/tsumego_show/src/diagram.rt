@@ -6,8 +6,8 @@ ghost use Rattle.tt_board.specs.Reach.{entry_at};
 ghost use Rattle.tt_game.specs.Game.{side_colour};
 ghost use Rattle.tsumego_show.specs.inside.Plays.{AreNumberedPlays};
 ghost use Rattle.tsumego_show.specs.inside.Windows.{IsWindow};
-ghost use Rattle.tsumego_show.specs.Diagram.{grid_bottom, caption, cell_shapes, document_centre, column_line_and_letter, numbered_stone_colour, column_head, shown_column_count, stone_number_text, stone_if_any_text, numbered_stone_if_any, grid_overhang, has_square, fill_colour};
-ghost use Rattle.tsumego_show.specs.Diagram.{square_fill, mark_colour, mark_text, has_note, note, note_count, note_head, noted_point_text, notes, number_end, number_head, number_of_play, number_on_point, numbered_stone, point_shapes, row_points_shapes, grid_right, row_line_and_number, row_elements, shown_row_count, square_text, stone_head, stone_text};
+ghost use Rattle.tsumego_show.specs.Diagram.{grid_bottom, caption, cell_shapes, document_centre, column_line_and_letter, numbered_stone_colour, column_path_and_text_head, shown_column_count, stone_number_text, stone_if_any_text, numbered_stone_if_any, grid_overhang, has_square, fill_colour};
+ghost use Rattle.tsumego_show.specs.Diagram.{square_fill, mark_colour, mark_text, has_note, note, note_count, note_head, noted_point_text, notes, number_end, number_head, first_play_number_at, number_on_point, numbered_stone, point_shapes, row_points_shapes, grid_right, row_line_and_number, row_path_and_text, shown_row_count, square_text, stone_head, stone_text};
 ghost use Rattle.tsumego_show.specs.Diagram.{svg_head, svg_text, triangle_head, triangle_text, winner_text};
 ghost use Rattle.tsumego_show.specs.Picture.{colour_name};
 
@@ -184,8 +184,8 @@ fn put_numbered_stone(
 }
 
 /// The number of a point in a line of plays, if it is one of them.
-fn number_of_play(plays: &[usize], point: usize) -> Option<usize>
-    ensures { result ≡ number_of_play 1 plays.now point }
+fn first_play_number_at(plays: &[usize], point: usize) -> Option<usize>
+    ensures { result ≡ first_play_number_at 1 plays.now point }
 {
     let mut n = 0;
     while n < plays.len() {
@@ -288,7 +288,7 @@ fn number_on_point(line: &Line, plays: &[usize], number: usize) -> Option<usize>
     if stone_at(line, number).is_some() {
         return None;
     }
-    number_of_play(plays, number)
+    first_play_number_at(plays, number)
 }
 
 /// Writes the shapes on a point behind the text.
@@ -320,15 +320,15 @@ fn grid_overhang(goes_on: bool) -> usize
 }
 
 /// Writes the line of a column, and the beginning of its letter, behind the text.
-#[tactic(auto, unfolding(crate::specs::Diagram::column_head))]
-fn put_column_head(
+#[tactic(auto, unfolding(crate::specs::Diagram::column_path_and_text_head))]
+fn put_column_path_and_text_head(
     alloc: Global,
     out: &mut Vec<u8>,
     x: usize,
     top: usize,
     bottom: usize,
 ) -> Result<(), NoMemory>
-    ensures { OnOk result (out.new.items ≡ out.old.items ++ column_head x top bottom) }
+    ensures { OnOk result (out.new.items ≡ out.old.items ++ column_path_and_text_head x top bottom) }
 {
     let text = format!(in alloc;
         "<path d='M{x} {top}V{bottom}' stroke='black'/>\n<text x='{x}' y='17'>"
@@ -366,7 +366,7 @@ fn put_column_line_and_letter(
     requires within { i < shown_column_count w }
     ensures { OnOk result (out.new.items ≡ out.old.items ++ column_line_and_letter size w i) }
 {
-    put_column_head(
+    put_column_path_and_text_head(
         alloc,
         out,
         24 * i + 36,
@@ -379,8 +379,8 @@ fn put_column_line_and_letter(
 }
 
 /// Writes the line of a row and its number behind the text.
-#[tactic(auto, unfolding(crate::specs::Diagram::row_elements))]
-fn put_row_elements(
+#[tactic(auto, unfolding(crate::specs::Diagram::row_path_and_text))]
+fn put_row_path_and_text(
     alloc: Global,
     out: &mut Vec<u8>,
     left: usize,
@@ -389,7 +389,7 @@ fn put_row_elements(
     below: usize,
     number: usize,
 ) -> Result<(), NoMemory>
-    ensures { OnOk result (out.new.items ≡ out.old.items ++ row_elements left y right below number) }
+    ensures { OnOk result (out.new.items ≡ out.old.items ++ row_path_and_text left y right below number) }
 {
     let text = format!(in alloc;
         "<path d='M{left} {y}H{right}' stroke='black'/>\n<text x='12' y='{below}'>{number}</text>\n"
@@ -413,7 +413,7 @@ fn put_row_line_and_number(
 {
     let y = 24 * j + 36;
     let number = usize::from(size.rows()) - (w.top + j);
-    put_row_elements(
+    put_row_path_and_text(
         alloc,
         out,
         36 - grid_overhang(0 < w.left),
@@ -466,7 +466,12 @@ fn put_row_points_shapes(
 
 /// Writes the lines and letters of the columns behind the text.
 #[tactic(auto, using(crate::proofs::Texts::next_text))]
-fn put_column_lines(alloc: Global, out: &mut Vec<u8>, size: Size, w: Window) -> Result<(), NoMemory>
+fn put_column_lines_and_letters(
+    alloc: Global,
+    out: &mut Vec<u8>,
+    size: Size,
+    w: Window,
+) -> Result<(), NoMemory>
     requires window { IsWindow size w }
     ensures { OnOk result (out.new.items ≡ out.old.items ++ flat_map (column_line_and_letter size w) (range_with_len 0 (shown_column_count w))) }
 {
@@ -728,7 +733,7 @@ pub fn put_svg(
     let extent = 24 * (w.bottom - w.top);
     let height = extent + 84 + 14 * note_count(line, plays);
     put_svg_head(alloc, out, 2 * x, height)?;
-    put_column_lines(alloc, out, size, w)?;
+    put_column_lines_and_letters(alloc, out, size, w)?;
     put_row_lines_and_numbers(alloc, out, size, w)?;
     put_all_points_shapes(alloc, out, line, plays, w)?;
     put_caption(alloc, out, line, winner, w)?;

@@ -5,15 +5,15 @@ ghost use Rattle.tt_board.specs.declared.Colour.TheVariants.{Black, White};
 ghost use Rattle.tt_game.specs.Problems.{game_of};
 ghost use Rattle.tt_sgf.specs.Values.{after_blanks};
 ghost use Rattle.tt_game.specs.Nodes.{PL, colour_of_letter, values_of};
-ghost use Rattle.tsumego_show.specs.FaultDetails.{are_stones_known, unreadable_colour, unreadable_point_of, unreadable_mark_value, unreadable_move, unreadable_move_value, unreadable_setup_value, unreadable_turn_value, unreadable_value, blacks_after_setup, first_unreadable_point, size_by_first_node, value_if_unread, is_star_to_tilde, is_stone_fault, look_at_line, move_points, property_value_or};
+ghost use Rattle.tsumego_show.specs.FaultDetails.{are_stones_after_setup_known, unreadable_colour, unreadable_point_of, unreadable_mark_value, unreadable_move_of, unreadable_move_value, unreadable_setup_value, unreadable_move_or_pl_value, unreadable_value, blacks_after_setup, first_unreadable_point, size_by_first_node, value_if_unread, is_star_to_tilde, needs_stones_after_setup, look_at_text, move_points, property_value_or};
 ghost use Rattle.tsumego_show.specs.FaultDetails.{value_or_dots, points_at_fault, points_of_property, points_to_look_at_line, points_twice, stones_before, vacant_points, unreadable_value_line, whites_after_setup, stones_without_liberty};
 
 use crate::hints::put_points_line_if_any;
 use crate::node_values::first_value;
-use crate::regions::{adjacent_points, reached, stones};
+use crate::regions::{adjacent_points, reached, stones_of_colour};
 use std::alloc::Global;
 use tt_board::Colour;
-use tt_game::{GameFault, game_before_solution, has_move, named_set, nodes_before_solution};
+use tt_game::{GameFault, game_before_solution, has_move, named_set, node_count_before_solution};
 use tt_sgf::{
     MainLine, NoMemory, Node, PointSet, Size, SmallBytes, board_size, point, point_set, skip_blanks,
 };
@@ -126,8 +126,8 @@ fn stones_before(alloc: Global, front: &MainLine) -> Result<StoneSets, NoMemory>
 {
     match game_before_solution(alloc, front) {
         Ok(game) => Ok(StoneSets {
-            blacks: stones(game.present(), Colour::Black),
-            whites: stones(game.present(), Colour::White),
+            blacks: stones_of_colour(game.present(), Colour::Black),
+            whites: stones_of_colour(game.present(), Colour::White),
         }),
         Err(GameFault::NoMemory) => Err(NoMemory),
         Err(_) => Ok(StoneSets {
@@ -138,8 +138,8 @@ fn stones_before(alloc: Global, front: &MainLine) -> Result<StoneSets, NoMemory>
 }
 
 /// Whether the stones after the setup are needed to say which points are at fault.
-fn is_stone_fault(fault: GameFault) -> bool
-    ensures { result ≡ is_stone_fault fault }
+fn needs_stones_after_setup(fault: GameFault) -> bool
+    ensures { result ≡ needs_stones_after_setup fault }
 {
     matches!(
         fault,
@@ -148,11 +148,11 @@ fn is_stone_fault(fault: GameFault) -> bool
 }
 
 /// Whether the stones behind a node are known.
-fn are_stones_known(front: &MainLine, node: &Node) -> bool
-    ensures { result ≡ are_stones_known front.now.nodes node.now }
+fn are_stones_after_setup_known(front: &MainLine, node: &Node) -> bool
+    ensures { result ≡ are_stones_after_setup_known front.now.nodes node.now }
 {
     let nodes = front.nodes.as_slice();
-    nodes_before_solution(nodes) == nodes.len() && !has_move(node)
+    node_count_before_solution(nodes) == nodes.len() && !has_move(node)
 }
 
 /// Writes the points to look at behind the text.
@@ -166,7 +166,7 @@ fn put_points_to_look_at(
 ) -> Result<(), NoMemory>
     ensures { OnOk result (out.new.items ≡ out.old.items ++ points_to_look_at_line fault size front.now.nodes node.now) }
 {
-    if is_stone_fault(fault) && !are_stones_known(front, node) {
+    if needs_stones_after_setup(fault) && !are_stones_after_setup_known(front, node) {
         return Ok(());
     }
     let on = stones_after_setup(size, node, &stones_before(alloc, front)?);
@@ -250,8 +250,8 @@ fn unreadable_setup_value(size: Size, node: &Node) -> Option<PropertyValue<'_>>
 }
 
 /// The value of a move of this colour that is neither a point nor a pass.
-fn unreadable_move<'a>(size: Size, node: &'a Node, name: &[u8]) -> Option<&'a [u8]>
-    ensures { MatchOption result (unreadable_move size (values_of name.now node.now.properties) ≡ None) (λ v. unreadable_move size (values_of name.now node.now.properties) ≡ Some v.now) }
+fn unreadable_move_of<'a>(size: Size, node: &'a Node, name: &[u8]) -> Option<&'a [u8]>
+    ensures { MatchOption result (unreadable_move_of size (values_of name.now node.now.properties) ≡ None) (λ v. unreadable_move_of size (values_of name.now node.now.properties) ≡ Some v.now) }
 {
     let value = first_value(node.properties.as_slice(), name)?;
     match point(value, size) {
@@ -287,15 +287,15 @@ fn unreadable_colour(node: &Node) -> Option<&[u8]>
 fn unreadable_move_value(size: Size, node: &Node) -> Option<PropertyValue<'_>>
     ensures { MatchOption result (unreadable_move_value size node.now ≡ None) (λ r. unreadable_move_value size node.now ≡ Some (r.0.now, r.1.now)) }
 {
-    if let Some(value) = unreadable_move(size, node, b"B") {
+    if let Some(value) = unreadable_move_of(size, node, b"B") {
         return Some((b"B", value));
     }
-    Some((b"W", unreadable_move(size, node, b"W")?))
+    Some((b"W", unreadable_move_of(size, node, b"W")?))
 }
 
 /// The value of a move that can't be read, or of PL, which is read where there is no move.
-fn unreadable_turn_value(size: Size, node: &Node) -> Option<PropertyValue<'_>>
-    ensures { MatchOption result (unreadable_turn_value size node.now ≡ None) (λ r. unreadable_turn_value size node.now ≡ Some (r.0.now, r.1.now)) }
+fn unreadable_move_or_pl_value(size: Size, node: &Node) -> Option<PropertyValue<'_>>
+    ensures { MatchOption result (unreadable_move_or_pl_value size node.now ≡ None) (λ r. unreadable_move_or_pl_value size node.now ≡ Some (r.0.now, r.1.now)) }
 {
     if has_move(node) {
         return unreadable_move_value(size, node);
@@ -321,7 +321,7 @@ fn unreadable_value(size: Size, node: &Node) -> Option<PropertyValue<'_>>
     if let Some(found) = unreadable_setup_value(size, node) {
         return Some(found);
     }
-    if let Some(found) = unreadable_turn_value(size, node) {
+    if let Some(found) = unreadable_move_or_pl_value(size, node) {
         return Some(found);
     }
     unreadable_mark_value(size, node)
@@ -371,7 +371,7 @@ pub fn put_look_at_line(
     front: &MainLine,
     node: &Node,
 ) -> Result<(), NoMemory>
-    ensures { OnOk result (out.new.items ≡ out.old.items ++ look_at_line fault front.now.nodes node.now) }
+    ensures { OnOk result (out.new.items ≡ out.old.items ++ look_at_text fault front.now.nodes node.now) }
 {
     match size_by_first_node(front, node) {
         Some(size) => match fault {

@@ -1,7 +1,7 @@
 //! The first turn of a strategy, and the board after it.
 ghost use Rattle.std.specs.Prelude.{◌≡◌, ◌↔◌, ◌++◌, ℕ, List, IfOk, IfSome, IsTrue, MatchOption, OnOk};
 ghost use Rattle.tt_game.specs.Game.{IsLegal};
-ghost use Rattle.tt_proof.specs.Strategy.{IsInOrder, IsOnBoard, strategy_of};
+ghost use Rattle.tt_proof.specs.Strategy.{IsInOrder, IsTurnOnBoardOfSize, strategy_of};
 ghost use Rattle.tsumego_show.specs.StrategyListing.{IsLegalFirstTurn, IsFirstTurnAndBoard, both_turn_names, problem_after_turn, after_turn_heading, after_turn_text};
 
 use crate::hints::put_both_point_names;
@@ -13,7 +13,7 @@ use tt_sgf::{NoMemory, Size};
 
 /// Whether the side is to move, and the turn is legal.
 fn is_legal_for_side(line: &Line, side: Side, turn: Turn) -> bool
-    requires { IsOnBoard line.now.frame.size turn }
+    requires { IsTurnOnBoardOfSize line.now.frame.size turn }
     ensures { IsTrue result ↔ ((line.now.state.to_move ≡ side) × IsLegal line.now.frame line.now.state turn) }
 {
     line.to_move() == side && line.refusal(turn).is_none()
@@ -23,7 +23,7 @@ fn is_legal_for_side(line: &Line, side: Side, turn: Turn) -> bool
 pub fn legal_first_turn(line: &Line, side: Side, tree: &Tree) -> Option<Turn>
     requires { IsInOrder line.now.frame.size (strategy_of tree.now) }
     ensures value { MatchOption result ((t : Turn) → IsLegalFirstTurn line.now side (strategy_of tree.now) t → ⊥) (IsLegalFirstTurn line.now side (strategy_of tree.now)) }
-    ensures on_board { IfSome result (λ t. IsOnBoard line.now.frame.size t) }
+    ensures on_board { IfSome result (λ t. IsTurnOnBoardOfSize line.now.frame.size t) }
 {
     if is_legal_for_side(line, side, tree.first()?) {
         return tree.first();
@@ -48,7 +48,7 @@ pub fn put_both_turn_names(
     size: Size,
     turn: Turn,
 ) -> Result<(), NoMemory>
-    requires { IsOnBoard size turn }
+    requires { IsTurnOnBoardOfSize size turn }
     ensures { OnOk result (out.new.items ≡ out.old.items ++ both_turn_names size turn) }
 {
     match turn {
@@ -64,7 +64,7 @@ fn put_after_turn_heading(
     line: &Line,
     turn: Turn,
 ) -> Result<(), NoMemory>
-    requires { IsOnBoard line.now.frame.size turn }
+    requires { IsTurnOnBoardOfSize line.now.frame.size turn }
     ensures { OnOk result (out.new.items ≡ out.old.items ++ after_turn_heading line.now turn) }
 {
     out.extend_from_slice(b"After ")?;
@@ -81,7 +81,7 @@ fn put_after_turn_text(
     line: &Line,
     turn: &Turn,
 ) -> Result<(), NoMemory>
-    requires on_board { IsOnBoard line.now.frame.size turn.now }
+    requires on_board { IsTurnOnBoardOfSize line.now.frame.size turn.now }
     requires legal { IsLegal line.now.frame line.now.state turn.now }
     ensures { OnOk result (out.new.items ≡ out.old.items ++ after_turn_text line.now turn.now) }
 {

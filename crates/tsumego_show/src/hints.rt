@@ -3,14 +3,16 @@ ghost use Rattle.std.specs.Prelude.{◌≡◌, ◌<◌, ◌++◌, OnOk, codes, f
 ghost use Rattle.std.specs.List.{list_any};
 ghost use Rattle.tt_sgf.specs.Sizes.{point_count};
 ghost use Rattle.tt_game.specs.Nodes.{is_setup};
-ghost use Rattle.tsumego_show.specs.Hints.{attacker_stones, both_point_names, defender_stones, editor_point_name, enclosed_points, defending_chains, hints, is_side_to_move_given, is_side_to_move_given_after, is_region_too_wide, leaks, leaks_line};
-ghost use Rattle.tsumego_show.specs.Hints.{points_line_if_any, member_name, point_names_line, missing_mover_line, point_names_text, other_defender_stones, other_defender_stones_line, capturable_stones, capturable_stones_line, target_chains};
-ghost use Rattle.tsumego_show.specs.Hints.{comment_line, comment_lines, has_unclosed_comment, is_unclosed_opening, is_unclosed_comment, unfillable_points, wide_region_line};
+ghost use Rattle.tsumego_show.specs.Hints.{attacker_stones, both_point_names, defender_stones, editor_point_name, region_empties_and_chains, target_and_region_chains, hints, is_side_to_move_given, is_side_to_move_given_after, is_region_whole_large_board, empties_around_region, empties_around_region_line};
+ghost use Rattle.tsumego_show.specs.Hints.{points_line_if_any, point_names_if_member, point_names_line, missing_mover_line, point_names_text, other_defender_stones, other_defender_stones_line, capturable_attackers, capturable_attackers_line, target_chains};
+ghost use Rattle.tsumego_show.specs.Hints.{unclosed_comment_line, unclosed_comment_lines, has_unclosed_comment, is_opener_unclosed, is_unclosed_comment, empties_outside_region, whole_board_region_line};
 
 use crate::node_values::has_property;
 use crate::picture::editor_column_letter;
 use crate::points::point_numbered;
-use crate::regions::{adjacent_points, chains_with_liberty_outside, empties, reached, stones};
+use crate::regions::{
+    adjacent_points, chains_with_liberty_outside, empties, reached, stones_of_colour,
+};
 use std::alloc::Global;
 use tt_game::{Line, Turn};
 use tt_proof::put_turn;
@@ -55,8 +57,8 @@ pub fn put_both_point_names(
 }
 
 /// Writes a blank and the names of a point behind the text, where it is in the set.
-#[tactic(auto, unfolding(crate::specs::Hints::member_name))]
-fn put_member_name(
+#[tactic(auto, unfolding(crate::specs::Hints::point_names_if_member))]
+fn put_point_names_if_member(
     alloc: Global,
     out: &mut Vec<u8>,
     size: Size,
@@ -64,7 +66,7 @@ fn put_member_name(
     number: usize,
 ) -> Result<(), NoMemory>
     requires { number < point_count size }
-    ensures { OnOk result (out.new.items ≡ out.old.items ++ member_name size points.now number) }
+    ensures { OnOk result (out.new.items ≡ out.old.items ++ point_names_if_member size points.now number) }
 {
     if points.has(point_numbered(size, number)) {
         out.push(b' ')?;
@@ -84,7 +86,7 @@ pub fn put_point_names(
     ensures { OnOk result (out.new.items ≡ out.old.items ++ point_names_text size points.now) }
 {
     for number in 0..size.point_count() {
-        put_member_name(alloc, out, size, points, number)?;
+        put_point_names_if_member(alloc, out, size, points, number)?;
     }
     Ok(())
 }
@@ -125,7 +127,7 @@ pub fn put_points_line_if_any(
 fn defender_stones(line: &Line) -> PointSet
     ensures { result ≡ defender_stones line.now }
 {
-    stones(line.present(), line.frame().defender)
+    stones_of_colour(line.present(), line.frame().defender)
 }
 
 /// The stones of the attacker.
@@ -133,7 +135,7 @@ fn defender_stones(line: &Line) -> PointSet
 fn attacker_stones(line: &Line) -> PointSet
     ensures { result ≡ attacker_stones line.now }
 {
-    stones(line.present(), line.frame().defender.other())
+    stones_of_colour(line.present(), line.frame().defender.other())
 }
 
 /// The chains of the targets.
@@ -146,9 +148,9 @@ fn target_chains(line: &Line) -> PointSet
 }
 
 /// The chains of the targets and of the defender's stones in the region.
-#[tactic(auto, unfolding(crate::specs::Hints::defending_chains))]
-fn defending_chains(line: &Line) -> PointSet
-    ensures { result ≡ defending_chains line.now }
+#[tactic(auto, unfolding(crate::specs::Hints::target_and_region_chains))]
+fn target_and_region_chains(line: &Line) -> PointSet
+    ensures { result ≡ target_and_region_chains line.now }
 {
     let frame = line.frame();
     let free = defender_stones(line);
@@ -157,34 +159,37 @@ fn defending_chains(line: &Line) -> PointSet
 }
 
 /// The empty points that nobody can fill.
-#[tactic(auto, unfolding(crate::specs::Hints::unfillable_points))]
-fn unfillable_points(line: &Line) -> PointSet
-    ensures { result ≡ unfillable_points line.now }
+#[tactic(auto, unfolding(crate::specs::Hints::empties_outside_region))]
+fn empties_outside_region(line: &Line) -> PointSet
+    ensures { result ≡ empties_outside_region line.now }
 {
     empties(line.present()).minus(&line.frame().region)
 }
 
-/// The empty points of the region, and the chains that play there is about.
-#[tactic(auto, unfolding(crate::specs::Hints::enclosed_points))]
-fn enclosed_points(line: &Line) -> PointSet
-    ensures { result ≡ enclosed_points line.now }
+/// The empty points of the region, the chains of the targets, and those of the defender's stones in it.
+#[tactic(auto, unfolding(crate::specs::Hints::region_empties_and_chains))]
+fn region_empties_and_chains(line: &Line) -> PointSet
+    ensures { result ≡ region_empties_and_chains line.now }
 {
     let playable = line.frame().region.and(&empties(line.present()));
-    playable.or(&defending_chains(line))
+    playable.or(&target_and_region_chains(line))
 }
 
-/// The empty points that nobody can fill, beside one of those.
-#[tactic(auto, unfolding(crate::specs::Hints::leaks))]
-fn leaks(line: &Line) -> PointSet
-    ensures { result ≡ leaks line.now }
+/// The empty points that nobody can fill, beside an empty point of the region or such a chain.
+#[tactic(auto, unfolding(crate::specs::Hints::empties_around_region))]
+fn empties_around_region(line: &Line) -> PointSet
+    ensures { result ≡ empties_around_region line.now }
 {
-    unfillable_points(line).and(&adjacent_points(line.frame().size, &enclosed_points(line)))
+    empties_outside_region(line).and(&adjacent_points(
+        line.frame().size,
+        &region_empties_and_chains(line),
+    ))
 }
 
 /// The attacker's stones outside the region, whose chains have all their liberties in it.
-#[tactic(auto, unfolding(crate::specs::Hints::capturable_stones))]
-fn capturable_stones(line: &Line) -> PointSet
-    ensures { result ≡ capturable_stones line.now }
+#[tactic(auto, unfolding(crate::specs::Hints::capturable_attackers))]
+fn capturable_attackers(line: &Line) -> PointSet
+    ensures { result ≡ capturable_attackers line.now }
 {
     let frame = line.frame();
     let outside = attacker_stones(line).minus(&frame.region);
@@ -202,24 +207,30 @@ fn other_defender_stones(line: &Line) -> PointSet
 }
 
 /// Whether the region is all of a board with more than a few points.
-fn is_region_too_wide(line: &Line) -> bool
-    ensures { result ≡ is_region_too_wide line.now }
+fn is_region_whole_large_board(line: &Line) -> bool
+    ensures { result ≡ is_region_whole_large_board line.now }
 {
     let count = line.frame().size.point_count();
     MOST_SMALL_BOARD_POINTS < count && usize::from(line.frame().region.count()) == count
 }
 
 /// Writes the line on points that nobody can fill behind the text.
-fn put_leaks(alloc: Global, out: &mut Vec<u8>, line: &Line) -> Result<(), NoMemory>
-    ensures { OnOk result (out.new.items ≡ out.old.items ++ leaks_line line.now) }
+fn put_empties_around_region(alloc: Global, out: &mut Vec<u8>, line: &Line) -> Result<(), NoMemory>
+    ensures { OnOk result (out.new.items ≡ out.old.items ++ empties_around_region_line line.now) }
 {
     let words = b"hint: empty and not in the region, so that nobody can fill them:";
-    put_points_line_if_any(alloc, out, line.frame().size, words, &leaks(line))
+    put_points_line_if_any(
+        alloc,
+        out,
+        line.frame().size,
+        words,
+        &empties_around_region(line),
+    )
 }
 
 /// Writes the line on stones that can be taken where nobody can play again behind the text.
-fn put_capturable_stones(alloc: Global, out: &mut Vec<u8>, line: &Line) -> Result<(), NoMemory>
-    ensures { OnOk result (out.new.items ≡ out.old.items ++ capturable_stones_line line.now) }
+fn put_capturable_attackers(alloc: Global, out: &mut Vec<u8>, line: &Line) -> Result<(), NoMemory>
+    ensures { OnOk result (out.new.items ≡ out.old.items ++ capturable_attackers_line line.now) }
 {
     let words = b"hint: unlike T and not in the region, and can be taken by plays in it:";
     put_points_line_if_any(
@@ -227,7 +238,7 @@ fn put_capturable_stones(alloc: Global, out: &mut Vec<u8>, line: &Line) -> Resul
         out,
         line.frame().size,
         words,
-        &capturable_stones(line),
+        &capturable_attackers(line),
     )
 }
 
@@ -246,10 +257,10 @@ fn put_other_defender_stones(alloc: Global, out: &mut Vec<u8>, line: &Line) -> R
 }
 
 /// Writes the line on a region that is all of the board behind the text.
-fn put_wide_region_line(out: &mut Vec<u8>, line: &Line) -> Result<(), NoMemory>
-    ensures { OnOk result (out.new.items ≡ out.old.items ++ wide_region_line line.now) }
+fn put_whole_board_region_line(out: &mut Vec<u8>, line: &Line) -> Result<(), NoMemory>
+    ensures { OnOk result (out.new.items ≡ out.old.items ++ whole_board_region_line line.now) }
 {
-    if is_region_too_wide(line) {
+    if is_region_whole_large_board(line) {
         out.extend_from_slice(b"hint: the region is the whole board\n")?;
     }
     Ok(())
@@ -263,10 +274,10 @@ fn put_wide_region_line(out: &mut Vec<u8>, line: &Line) -> Result<(), NoMemory>
 pub fn put_hints(alloc: Global, out: &mut Vec<u8>, line: &Line) -> Result<(), NoMemory>
     ensures { OnOk result (out.new.items ≡ out.old.items ++ hints line.now) }
 {
-    put_leaks(alloc, out, line)?;
-    put_capturable_stones(alloc, out, line)?;
+    put_empties_around_region(alloc, out, line)?;
+    put_capturable_attackers(alloc, out, line)?;
     put_other_defender_stones(alloc, out, line)?;
-    put_wide_region_line(out, line)
+    put_whole_board_region_line(out, line)
 }
 
 /// Whether a node sets up.
@@ -319,8 +330,8 @@ pub fn put_missing_mover_line(out: &mut Vec<u8>, nodes: &[Node]) -> Result<(), N
 
 /// Whether these bytes, which open something, stand in a value without a `]` behind them.
 #[tactic(auto, using(crate::proofs::Said::left_none, crate::proofs::Said::left_closed, crate::proofs::Said::left_here, crate::proofs::Said::left_further))]
-fn is_unclosed_opening(name: &[u8], value: &[u8]) -> bool
-    ensures { result ≡ is_unclosed_opening name.now false value.now }
+fn is_opener_unclosed(name: &[u8], value: &[u8]) -> bool
+    ensures { result ≡ is_opener_unclosed name.now false value.now }
 {
     let mut found = false;
     let mut rest = value;
@@ -336,20 +347,20 @@ fn is_unclosed_opening(name: &[u8], value: &[u8]) -> bool
 }
 
 /// Whether such bytes stand in a value of a property.
-fn has_unclosed_opening(property: &Property, name: &[u8]) -> bool
-    ensures { result ≡ list_any (is_unclosed_opening name.now false) property.now.values }
+fn has_unclosed_opener(property: &Property, name: &[u8]) -> bool
+    ensures { result ≡ list_any (is_opener_unclosed name.now false) property.now.values }
 {
     let values = property.values.as_slice();
     values
         .iter()
-        .any(|value| is_unclosed_opening(name, value.as_slice()))
+        .any(|value| is_opener_unclosed(name, value.as_slice()))
 }
 
 /// Whether a property is a comment with such bytes.
 fn is_unclosed_comment(property: &Property, name: &[u8]) -> bool
     ensures { result ≡ is_unclosed_comment name.now property.now }
 {
-    property.ident.as_slice() == b"C".as_slice() && has_unclosed_opening(property, name)
+    property.ident.as_slice() == b"C".as_slice() && has_unclosed_opener(property, name)
 }
 
 /// Whether a node has such a comment.
@@ -363,14 +374,14 @@ fn has_unclosed_comment(node: &Node, name: &[u8]) -> bool
 }
 
 /// Whether one of these nodes has such a comment.
-fn have_open_comment(nodes: &[Node], name: &[u8]) -> bool
+fn is_some_comment_unclosed(nodes: &[Node], name: &[u8]) -> bool
     ensures { result ≡ list_any (has_unclosed_comment name.now) nodes.now }
 {
     nodes.iter().any(|node| has_unclosed_comment(node, name))
 }
 
 /// Writes which bytes stand there, and a question, behind the text.
-fn put_question(out: &mut Vec<u8>, name: &[u8]) -> Result<(), NoMemory>
+fn put_opener_and_question(out: &mut Vec<u8>, name: &[u8]) -> Result<(), NoMemory>
     ensures { OnOk result (out.new.items ≡ out.old.items ++ (name.now ++ codes ": is its ] missing?\n")) }
 {
     out.extend_from_slice(name)?;
@@ -378,12 +389,12 @@ fn put_question(out: &mut Vec<u8>, name: &[u8]) -> Result<(), NoMemory>
 }
 
 /// Writes the line on such a comment of these nodes behind the text.
-fn put_comment(out: &mut Vec<u8>, nodes: &[Node], name: &[u8]) -> Result<(), NoMemory>
-    ensures { OnOk result (out.new.items ≡ out.old.items ++ comment_line name.now nodes.now) }
+fn put_unclosed_comment_line(out: &mut Vec<u8>, nodes: &[Node], name: &[u8]) -> Result<(), NoMemory>
+    ensures { OnOk result (out.new.items ≡ out.old.items ++ unclosed_comment_line name.now nodes.now) }
 {
-    if have_open_comment(nodes, name) {
+    if is_some_comment_unclosed(nodes, name) {
         out.extend_from_slice(b"hint: a comment holds ")?;
-        return put_question(out, name);
+        return put_opener_and_question(out, name);
     }
     Ok(())
 }
@@ -391,13 +402,13 @@ fn put_comment(out: &mut Vec<u8>, nodes: &[Node], name: &[u8]) -> Result<(), NoM
 /// Writes a line for each of `PL[`, `TR[`, `SQ[`, `AB[`, `AW[` and `(;` that stands in a comment of a main line, with no `]` behind it,
 /// behind the text: the `]` of the comment is likely missing, so that the property or the tree is a part of it. `NoMemory` where memory
 /// was refused; a part may stand there then.
-pub fn put_comments(out: &mut Vec<u8>, nodes: &[Node]) -> Result<(), NoMemory>
-    ensures { OnOk result (out.new.items ≡ out.old.items ++ comment_lines nodes.now) }
+pub fn put_unclosed_comment_lines(out: &mut Vec<u8>, nodes: &[Node]) -> Result<(), NoMemory>
+    ensures { OnOk result (out.new.items ≡ out.old.items ++ unclosed_comment_lines nodes.now) }
 {
-    put_comment(out, nodes, b"PL[")?;
-    put_comment(out, nodes, b"TR[")?;
-    put_comment(out, nodes, b"SQ[")?;
-    put_comment(out, nodes, b"AB[")?;
-    put_comment(out, nodes, b"AW[")?;
-    put_comment(out, nodes, b"(;")
+    put_unclosed_comment_line(out, nodes, b"PL[")?;
+    put_unclosed_comment_line(out, nodes, b"TR[")?;
+    put_unclosed_comment_line(out, nodes, b"SQ[")?;
+    put_unclosed_comment_line(out, nodes, b"AB[")?;
+    put_unclosed_comment_line(out, nodes, b"AW[")?;
+    put_unclosed_comment_line(out, nodes, b"(;")
 }

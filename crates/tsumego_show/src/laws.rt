@@ -7,6 +7,6 @@ ghost use Rattle.tsumego_show.specs.Shown.{IsShown};
 pub fn input_has_one_text()
     ensures { (mode : Mode) (input s t : List ℕ) (m n : ℕ) → IsShown mode input s m → IsShown mode input t n → (s ≡ t) × (m ≡ n) }
 {
-    tt_sgf::laws::one_reading();
+    tt_sgf::laws::grammar_is_unambiguous();
     tt_proof::laws::one_outline_per_certificate();
 }

@@ -2,7 +2,7 @@
 ghost use Rattle.std.specs.Prelude.{◌≡◌, ℕ, ◌<◌, IfSome};
 ghost use Rattle.tt_sgf.specs.Sizes.{point_count};
 ghost use Rattle.tt_board.specs.Reach.{entry_at};
-ghost use Rattle.tsumego_show.specs.Marking.{proposal_for_place, proposal_if_closed, proposal_for_point, smaller_nonempty_set, fewest_squares_proposal, least_open, open_at, point_of_place, point_if_on_board, proposal_unless_squared};
+ghost use Rattle.tsumego_show.specs.Marking.{proposal_for_place, proposal_if_closed, proposal_for_point, one_with_fewer_points, fewest_squares_proposal, stone_with_fewest_ways_out, ways_out_at, point_of_place, point_if_on_board, proposal_unless_squared};
 
 use crate::mode::StonePlace;
 use crate::points::point_numbered;
@@ -71,11 +71,11 @@ fn proposal_if_closed(game: &Game, is_named: bool, stone: Point) -> Option<Stone
 }
 
 /// The one with the fewer points, and of two with as many the first.
-fn smaller_nonempty_set(
+fn one_with_fewer_points(
     first: Option<StoneWithPoints>,
     second: Option<StoneWithPoints>,
 ) -> Option<StoneWithPoints>
-    ensures value { result ≡ smaller_nonempty_set first second }
+    ensures value { result ≡ one_with_fewer_points first second }
     ensures bound { (n : ℕ) → IfSome first (λ m. m.stone < n) → IfSome second (λ m. m.stone < n) → IfSome result (λ m. m.stone < n) }
 {
     let Some(b) = second else {
@@ -99,7 +99,7 @@ fn fewest_squares_proposal(game: &Game) -> Option<StoneWithPoints>
     let size = game.size();
     let mut found = None;
     for number in 0..size.point_count() {
-        found = smaller_nonempty_set(
+        found = one_with_fewer_points(
             found,
             proposal_if_closed(game, false, point_numbered(size, number)),
         );
@@ -143,9 +143,9 @@ pub fn proposal_unless_squared(
 }
 
 /// The stone on a point with its ways out, where a stone is there and has some.
-fn open_at(game: &Game, stone: Point) -> Option<StoneWithPoints>
+fn ways_out_at(game: &Game, stone: Point) -> Option<StoneWithPoints>
     requires { stone < point_count game.now.size }
-    ensures value { result ≡ open_at game.now stone (entry_at game.now.present stone) }
+    ensures value { result ≡ ways_out_at game.now stone (entry_at game.now.present stone) }
     ensures on_board { IfSome result (λ m. m.stone < point_count game.now.size) }
 {
     let colour = game.present().at(stone)?;
@@ -161,15 +161,15 @@ fn open_at(game: &Game, stone: Point) -> Option<StoneWithPoints>
 }
 
 /// Of all stones the one with the fewest ways out.
-#[tactic(auto, using(crate::proofs::Sets::open_none, crate::proofs::Sets::open_more), unfolding(crate::specs::Marking::least_open))]
-pub fn least_open(game: &Game) -> Option<StoneWithPoints>
-    ensures value { result ≡ least_open game.now (point_count game.now.size) }
+#[tactic(auto, using(crate::proofs::Sets::open_none, crate::proofs::Sets::open_more), unfolding(crate::specs::Marking::stone_with_fewest_ways_out))]
+pub fn stone_with_fewest_ways_out(game: &Game) -> Option<StoneWithPoints>
+    ensures value { result ≡ stone_with_fewest_ways_out game.now (point_count game.now.size) }
     ensures on_board { IfSome result (λ m. m.stone < point_count game.now.size) }
 {
     let size = game.size();
     let mut found = None;
     for number in 0..size.point_count() {
-        found = smaller_nonempty_set(found, open_at(game, point_numbered(size, number)));
+        found = one_with_fewer_points(found, ways_out_at(game, point_numbered(size, number)));
     }
     found
 }

@@ -5,27 +5,30 @@ ghost use Rattle.tt_sgf.specs.Sizes.{point_count};
 ghost use Rattle.tt_board.specs.declared.Colour.TheVariants.{Black, White};
 ghost use Rattle.tt_board.specs.Reach.{entry_at};
 ghost use Rattle.tt_game.specs.Nodes.{SQ, TR, has};
-ghost use Rattle.tt_game.specs.Problems.{nodes_before_solution, game_of};
-ghost use Rattle.tsumego_show.specs.Marking.{problem_nodes, chain_name, game_marked_or_kept, is_some_with_property, is_proposal_missing, is_last_node_squared, has_stones, has_triangles, is_game_left_unmarked, is_left_unmarked};
-ghost use Rattle.tsumego_show.specs.Marking.{tree_marked_or_kept, problem_with_proposal, no_enclosed_group_text, hints_and_marked_tree, unsquared_triangle_node, off_board_line, open_group_line, open_text, openings, kept_problem_text, proposal_unless_squared, why_no_group_enclosed, ways_text, why_unmarked_at_point};
+ghost use Rattle.tt_game.specs.Problems.{node_count_before_solution, game_of};
+ghost use Rattle.tsumego_show.specs.Marking.{nodes_before_solution, chain_name, game_marked_or_kept, is_some_with_property, is_proposal_missing, is_last_problem_node_squared, is_colour_on_board, has_triangles, is_game_left_unmarked, is_left_unmarked};
+ghost use Rattle.tsumego_show.specs.Marking.{tree_marked_or_kept, problem_with_proposal, no_enclosed_group_text, hints_and_marked_tree, unsquared_triangle_node, off_board_line, open_group_line, open_text, ways_out_or_nearby_text, kept_problem_text, proposal_unless_squared, why_no_group_enclosed, chain_and_ways_out_text, why_unmarked_at_point};
 ghost use Rattle.tsumego_show.specs.Marking.{why_unmarked, why_unmarked_at_place, why_unmarked_or_off_board, proposal_or_reason, tree_with_marks, unsquared_node_line};
-ghost use Rattle.tsumego_show.specs.Refusals.{fault_text};
+ghost use Rattle.tsumego_show.specs.Refusals.{refusal_and_why_text};
 ghost use Rattle.tsumego_show.specs.TreeBytes.{tree_as_given};
 
 use crate::hints::{
-    put_both_point_names, put_comments, put_hints, put_missing_mover_line, put_point_names_line,
+    put_both_point_names, put_hints, put_missing_mover_line, put_point_names_line,
+    put_unclosed_comment_lines,
 };
-use crate::mark_proposals::{StoneWithPoints, least_open, point_of_place, proposal_unless_squared};
+use crate::mark_proposals::{
+    StoneWithPoints, point_of_place, proposal_unless_squared, stone_with_fewest_ways_out,
+};
 use crate::mode::StonePlace;
 use crate::node_values::has_property;
 use crate::picture::colour_name;
-use crate::refusals::{put_fault, put_refusal};
-use crate::regions::{nearby_empties, stones, ways_out};
+use crate::refusals::{put_refusal_and_why, put_refusal_line};
+use crate::regions::{nearby_empties, stones_of_colour, ways_out};
 use crate::tree_bytes::{from_first_parenthesis, put_tree_as_given, semicolon_end};
 use crate::variations::{RootPointProperty, put_point_list_property};
 use std::alloc::Global;
 use tt_board::{Board, Colour};
-use tt_game::{Game, GameFault, Line, game_before_solution, nodes_before_solution};
+use tt_game::{Game, GameFault, Line, game_before_solution, node_count_before_solution};
 use tt_sgf::{MainLine, NoMemory, Node, Point, PointSet, Size};
 
 /// Writes a tree with the marks of a problem at the head of the node of this number behind the text.
@@ -64,7 +67,7 @@ fn put_hints_and_marked_tree(
 
 /// Writes the name of the chain of a stone of this colour behind the text.
 #[tactic(auto, unfolding(crate::specs::Marking::chain_name))]
-fn put_chain(
+fn put_chain_name(
     alloc: Global,
     out: &mut Vec<u8>,
     size: Size,
@@ -81,15 +84,15 @@ fn put_chain(
 }
 
 /// Writes the ways out, or where there are none the other points, behind the text.
-#[tactic(auto, unfolding(crate::specs::Marking::openings))]
-fn put_openings(
+#[tactic(auto, unfolding(crate::specs::Marking::ways_out_or_nearby_text))]
+fn put_ways_out_or_nearby(
     alloc: Global,
     out: &mut Vec<u8>,
     size: Size,
     ways: &PointSet,
     others: &PointSet,
 ) -> Result<(), NoMemory>
-    ensures { OnOk result (out.new.items ≡ out.old.items ++ openings size ways.now others.now) }
+    ensures { OnOk result (out.new.items ≡ out.old.items ++ ways_out_or_nearby_text size ways.now others.now) }
 {
     if ways.count() == 0 {
         out.extend_from_slice(b"put stones of the wall on some of these, or mark by hand:")?;
@@ -113,9 +116,9 @@ fn put_open_chain(
     requires { stone < point_count size }
     ensures { OnOk result (out.new.items ≡ out.old.items ++ open_text size colour stone ways.now others.now) }
 {
-    put_chain(alloc, out, size, colour, stone)?;
+    put_chain_name(alloc, out, size, colour, stone)?;
     out.extend_from_slice(b" is not enclosed with 2 to 40 points: ")?;
-    put_openings(alloc, out, size, ways, others)
+    put_ways_out_or_nearby(alloc, out, size, ways, others)
 }
 
 /// Writes where the chain of a stone of this colour is open behind the text.
@@ -178,23 +181,23 @@ fn put_why_unmarked_or_off_board(
 }
 
 /// Writes a chain and its ways out behind the text.
-#[tactic(auto, unfolding(crate::specs::Marking::ways_text))]
-fn put_fewest_ways(
+#[tactic(auto, unfolding(crate::specs::Marking::chain_and_ways_out_text))]
+fn put_chain_and_ways_out(
     alloc: Global,
     out: &mut Vec<u8>,
     size: Size,
     opening: &StoneWithPoints,
 ) -> Result<(), NoMemory>
     requires { opening.now.stone < point_count size }
-    ensures { OnOk result (out.new.items ≡ out.old.items ++ ways_text size opening.now) }
+    ensures { OnOk result (out.new.items ≡ out.old.items ++ chain_and_ways_out_text size opening.now) }
 {
-    put_chain(alloc, out, size, opening.colour, opening.stone)?;
+    put_chain_name(alloc, out, size, opening.colour, opening.stone)?;
     out.extend_from_slice(b", which gets out at")?;
     put_point_names_line(alloc, out, size, &opening.points)
 }
 
 /// Writes which chain is open least, where one is, behind the text.
-fn put_least_open(
+fn put_least_open_group_line(
     alloc: Global,
     out: &mut Vec<u8>,
     size: Size,
@@ -206,7 +209,7 @@ fn put_least_open(
     match opening {
         Some(opening) => {
             out.extend_from_slice(b"no group is enclosed with 2 to 40 points: least open is ")?;
-            put_fewest_ways(alloc, out, size, opening)
+            put_chain_and_ways_out(alloc, out, size, opening)
         }
         None => Ok(out.extend_from_slice(
             b"no group is enclosed with 2 to 40 points: close the wall, or name a stone of the group\n",
@@ -218,23 +221,23 @@ fn put_least_open(
 fn put_no_group_enclosed(alloc: Global, out: &mut Vec<u8>, game: &Game) -> Result<(), NoMemory>
     ensures { OnOk result (out.new.items ≡ out.old.items ++ why_no_group_enclosed game.now true true) }
 {
-    put_least_open(alloc, out, game.size(), &least_open(game))
+    put_least_open_group_line(alloc, out, game.size(), &stone_with_fewest_ways_out(game))
 }
 
 /// Whether a stone of a colour is on the board.
-fn has_stones(game: &Game, colour: Colour) -> bool
-    ensures { result ≡ has_stones game.now colour }
+fn is_colour_on_board(game: &Game, colour: Colour) -> bool
+    ensures { result ≡ is_colour_on_board game.now colour }
 {
-    0 < stones(game.present(), colour).count()
+    0 < stones_of_colour(game.present(), colour).count()
 }
 
 /// Writes that no group is enclosed, and where the least open one gets out; or that there is no wall, behind the text.
 fn put_why_no_group_enclosed(alloc: Global, out: &mut Vec<u8>, game: &Game) -> Result<(), NoMemory>
-    ensures { OnOk result (out.new.items ≡ out.old.items ++ why_no_group_enclosed game.now (has_stones game.now Black) (has_stones game.now White)) }
+    ensures { OnOk result (out.new.items ≡ out.old.items ++ why_no_group_enclosed game.now (is_colour_on_board game.now Black) (is_colour_on_board game.now White)) }
 {
     match (
-        has_stones(game, Colour::Black),
-        has_stones(game, Colour::White),
+        is_colour_on_board(game, Colour::Black),
+        is_colour_on_board(game, Colour::White),
     ) {
         (true, true) => put_no_group_enclosed(alloc, out, game),
         (true, false) => Ok(out.extend_from_slice(
@@ -286,26 +289,26 @@ fn put_why_unmarked(
 }
 
 /// The nodes up to where a main line asks.
-fn problem_nodes(nodes: &[Node]) -> &[Node]
-    ensures { result.now ≡ problem_nodes nodes.now }
+fn nodes_before_solution(nodes: &[Node]) -> &[Node]
+    ensures { result.now ≡ nodes_before_solution nodes.now }
 {
-    &nodes[..nodes_before_solution(nodes)]
+    &nodes[..node_count_before_solution(nodes)]
 }
 
 /// Whether a main line has triangles up to where it asks.
 fn has_triangles(nodes: &[Node]) -> bool
     ensures { result ≡ has_triangles nodes.now }
 {
-    problem_nodes(nodes)
+    nodes_before_solution(nodes)
         .iter()
         .any(|node| has_property(node, b"TR"))
 }
 
 /// Whether the node that is to get the marks has squares.
-fn is_last_node_squared(nodes: &[Node]) -> bool
-    ensures { result ≡ is_last_node_squared nodes.now }
+fn is_last_problem_node_squared(nodes: &[Node]) -> bool
+    ensures { result ≡ is_last_problem_node_squared nodes.now }
 {
-    match problem_nodes(nodes).last() {
+    match nodes_before_solution(nodes).last() {
         Some(node) => has_property(node, b"SQ"),
         None => false,
     }
@@ -340,19 +343,19 @@ fn put_proposal_or_reason(
     game: Game,
 ) -> Result<bool, NoMemory>
     ensures text { OnOk result (out.new.items ≡ out.old.items
-        ++ proposal_or_reason game (is_last_node_squared main.now.nodes) place number (nodes_before_solution false main.now.nodes) tree.now (proposal_unless_squared game (is_last_node_squared main.now.nodes) place)) }
-    ensures left { IfOk result (λ left. left ≡ is_proposal_missing (proposal_unless_squared game (is_last_node_squared main.now.nodes) place)) }
+        ++ proposal_or_reason game (is_last_problem_node_squared main.now.nodes) place number (node_count_before_solution false main.now.nodes) tree.now (proposal_unless_squared game (is_last_problem_node_squared main.now.nodes) place)) }
+    ensures left { IfOk result (λ left. left ≡ is_proposal_missing (proposal_unless_squared game (is_last_problem_node_squared main.now.nodes) place)) }
 {
     let nodes = main.nodes.as_slice();
-    let is_squared = is_last_node_squared(nodes);
+    let is_squared = is_last_problem_node_squared(nodes);
     match proposal_unless_squared(&game, is_squared, place) {
         Some(mark) => {
-            let node = nodes_before_solution(nodes);
+            let node = node_count_before_solution(nodes);
             put_game_with_proposal(alloc, out, game, mark, node, tree)?;
             Ok(false)
         }
         None => {
-            put_refusal(alloc, out, number, GameFault::NoTarget.code())?;
+            put_refusal_line(alloc, out, number, GameFault::NoTarget.code())?;
             out.extend_from_slice(b"why: ")?;
             put_why_unmarked(alloc, out, &game, is_squared, place)?;
             put_tree_as_given(out, tree)?;
@@ -362,7 +365,7 @@ fn put_proposal_or_reason(
 }
 
 /// Writes why a main line is refused, and its tree as it was, behind the text.
-fn put_fault_and_tree(
+fn put_refusal_why_and_tree(
     alloc: Global,
     out: &mut Vec<u8>,
     number: usize,
@@ -370,9 +373,9 @@ fn put_fault_and_tree(
     tree: &[u8],
     fault: GameFault,
 ) -> Result<(), NoMemory>
-    ensures { OnOk result (out.new.items ≡ out.old.items ++ (fault_text number main.nodes fault ++ tree_as_given tree.now)) }
+    ensures { OnOk result (out.new.items ≡ out.old.items ++ (refusal_and_why_text number main.nodes fault ++ tree_as_given tree.now)) }
 {
-    put_fault(alloc, out, number, main, fault)?;
+    put_refusal_and_why(alloc, out, number, main, fault)?;
     put_tree_as_given(out, tree)
 }
 
@@ -386,17 +389,17 @@ fn put_game_marked_or_kept(
     tree: &[u8],
 ) -> Result<bool, NoMemory>
     ensures text { OnOk result (out.new.items ≡ out.old.items ++ game_marked_or_kept place number tree.now main.nodes (game_of main.nodes)) }
-    ensures left { IfOk result (λ left. left ≡ is_game_left_unmarked (is_last_node_squared main.nodes) place (game_of main.nodes)) }
+    ensures left { IfOk result (λ left. left ≡ is_game_left_unmarked (is_last_problem_node_squared main.nodes) place (game_of main.nodes)) }
 {
     match game_before_solution(alloc, &main) {
         Ok(game) => {
-            put_missing_mover_line(out, problem_nodes(main.nodes.as_slice()))?;
-            put_comments(out, main.nodes.as_slice())?;
+            put_missing_mover_line(out, nodes_before_solution(main.nodes.as_slice()))?;
+            put_unclosed_comment_lines(out, main.nodes.as_slice())?;
             put_proposal_or_reason(alloc, out, place, number, &main, tree, game)
         }
         Err(GameFault::NoMemory) => Err(NoMemory),
         Err(fault) => {
-            put_fault_and_tree(alloc, out, number, main, tree, fault)?;
+            put_refusal_why_and_tree(alloc, out, number, main, tree, fault)?;
             Ok(true)
         }
     }
@@ -417,7 +420,7 @@ pub fn put_tree_marked_or_kept(
     ensures left { IfOk result (λ left. left ≡ is_left_unmarked place main.nodes) }
 {
     if has_triangles(main.nodes.as_slice()) {
-        put_fault_and_tree(alloc, out, number, main, tree, fault)?;
+        put_refusal_why_and_tree(alloc, out, number, main, tree, fault)?;
         return Ok(true);
     }
     put_game_marked_or_kept(alloc, out, place, number, main, tree)

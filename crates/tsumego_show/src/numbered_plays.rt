@@ -2,10 +2,10 @@
 ghost use Rattle.std.specs.Prelude.{◌≡◌, ◌<◌, IfOk, IfSome};
 ghost use Rattle.tt_sgf.specs.Sizes.{point_count};
 ghost use Rattle.tt_game.specs.Game.{after};
-ghost use Rattle.tt_proof.specs.Strategy.{AreInOrder, IsInOrder, IsOnBoard, entries_of_reply, strategy_of};
+ghost use Rattle.tt_proof.specs.Strategy.{AreInOrder, IsInOrder, IsTurnOnBoardOfSize, entries_of_reply, strategy_of};
 ghost use Rattle.tsumego_show.specs.inside.Plays.{AreNumberedPlays};
 ghost use Rattle.tsumego_show.specs.inside.Trees.{found_of};
-ghost use Rattle.tsumego_show.specs.NumberedPlays.{longer_plays, longest_plays, longest_plays_of_replies, most_numbers, plays_from_turn, numbered_plays, standing_line};
+ghost use Rattle.tsumego_show.specs.NumberedPlays.{longer_plays, longest_plays, longest_plays_of_replies, most_numbers, plays_from_turn, numbered_plays, plays_if_stone_stands};
 ghost use Rattle.tsumego_show.specs.Variations.{shown_depth};
 
 use crate::depths::shown_depth;
@@ -36,7 +36,7 @@ fn play_and_longest_rest(
 ) -> Result<Vec<usize>, NoMemory>
     requires on_board { point < point_count line.old.frame.size }
     requires in_order { IsInOrder line.old.frame.size (strategy_of child.now) }
-    ensures plays { IfOk result (λ l. l.items ≡ standing_line line.old.state point (longest_plays line.old.frame line.old.state (strategy_of child.now) left)) }
+    ensures plays { IfOk result (λ l. l.items ≡ plays_if_stone_stands line.old.state point (longest_plays line.old.frame line.old.state (strategy_of child.now) left)) }
     ensures same { line.new ≡ line.old }
 {
     if line.present().at(point).is_none() {
@@ -56,7 +56,7 @@ fn plays_from_turn(
     line: &mut Line,
     left: usize,
 ) -> Result<Vec<usize>, NoMemory>
-    requires on_board { IsOnBoard line.old.frame.size turn }
+    requires on_board { IsTurnOnBoardOfSize line.old.frame.size turn }
     requires in_order { IsInOrder line.old.frame.size (strategy_of child.now) }
     ensures plays { IfOk result (λ l. l.items ≡ plays_from_turn line.old.frame line.old.state turn
         (longest_plays line.old.frame (after line.old.frame line.old.state turn) (strategy_of child.now) left)) }

@@ -5,7 +5,7 @@ ghost use Rattle.tt_sgf.specs.Bytes.{newline, space};
 ghost use Rattle.tt_sgf.specs.Sizes.{point_count};
 ghost use Rattle.tt_game.specs.Game.{side_colour};
 ghost use Rattle.tsumego_show.specs.Picture.{mover_and_target_line, board_text, colour_name, editor_column_letter, editor_letters_line, spaced_columns_text, earlier_positions_text, sgf_letter, sgf_letters_line, point_symbol};
-ghost use Rattle.tsumego_show.specs.Picture.{mover_text, picture, row_line, row_number, row_symbol, region_stone_symbol, stone_symbol, target_colour_text};
+ghost use Rattle.tsumego_show.specs.Picture.{mover_text, picture, row_line, row_number, symbol_at_coordinates, region_stone_symbol, stone_symbol, target_colour_text};
 
 use std::alloc::Global;
 use tt_board::Colour;
@@ -44,11 +44,11 @@ fn point_symbol(line: &Line, point: Point) -> u8
     ensures { result ≡ point_symbol line.now point }
 {
     let is_target = line.frame().targets.has(point);
-    let is_playable = line.frame().region.has(point);
+    let in_region = line.frame().region.has(point);
     match line.present().at(point) {
-        None => if is_playable { b'+' } else { b'.' },
+        None => if in_region { b'+' } else { b'.' },
         Some(colour) => {
-            if is_playable {
+            if in_region {
                 region_stone_symbol(is_target, colour)
             } else {
                 stone_symbol(is_target, colour)
@@ -137,7 +137,7 @@ fn put_editor_letters_line(out: &mut Vec<u8>, size: Size) -> Result<(), NoMemory
 #[tactic(auto, using(crate::proofs::Texts::next_text))]
 fn put_row_symbols(out: &mut Vec<u8>, line: &Line, row: u16) -> Result<(), NoMemory>
     requires { row < line.now.frame.size.rows }
-    ensures { OnOk result (out.new.items ≡ out.old.items ++ spaced_columns_text (row_symbol line.now row) line.now.frame.size.columns) }
+    ensures { OnOk result (out.new.items ≡ out.old.items ++ spaced_columns_text (symbol_at_coordinates line.now row) line.now.frame.size.columns) }
 {
     let size = line.frame().size;
     for column in 0..size.columns() {
@@ -239,7 +239,11 @@ pub fn earlier_position_count(line: &Line) -> usize
 }
 
 /// Writes how many positions came before, where any did, behind the text.
-pub fn put_earlier_positions(alloc: Global, out: &mut Vec<u8>, count: usize) -> Result<(), NoMemory>
+pub fn put_earlier_position_count(
+    alloc: Global,
+    out: &mut Vec<u8>,
+    count: usize,
+) -> Result<(), NoMemory>
     ensures { OnOk result (out.new.items ≡ out.old.items ++ earlier_positions_text count) }
 {
     if count == 0 {
@@ -260,7 +264,7 @@ fn put_mover_and_target_line(alloc: Global, out: &mut Vec<u8>, line: &Line) -> R
 {
     put_mover(out, line)?;
     put_target_colour(out, line)?;
-    put_earlier_positions(alloc, out, earlier_position_count(line))?;
+    put_earlier_position_count(alloc, out, earlier_position_count(line))?;
     out.push(b'\n')?;
     Ok(())
 }

@@ -2,15 +2,15 @@
 ghost use Rattle.std.specs.Prelude.{◌≡◌, ◌++◌, ◌+◌, ◌-◌, ◌≤◌, length, nat_eq, take, IfOk, MatchOption, OnOk, Some};
 ghost use Rattle.tt_game.specs.Faults.{code_of};
 ghost use Rattle.tt_game.specs.Problems.{problem_of};
-ghost use Rattle.tsumego_show.specs.Hints.{comment_lines};
-ghost use Rattle.tsumego_show.specs.Refusals.{located_fault, fault_text, is_refused_with, nth_node, too_long_text, meaning, fault_at_node, needed_nodes, newline_count, no_tree_text, refusal_line, unreadable_tree_line, why_refused_text};
+ghost use Rattle.tsumego_show.specs.Hints.{unclosed_comment_lines};
+ghost use Rattle.tsumego_show.specs.Refusals.{located_fault_text, refusal_and_why_text, is_refused_with, nth_node, too_long_text, meaning, fault_at_node_text, needed_nodes, newline_count, no_tree_text, refusal_line, unreadable_tree_line, why_refused_text};
 
 use crate::fault_details::put_look_at_line;
-use crate::hints::put_comments;
+use crate::hints::put_unclosed_comment_lines;
 use crate::tree_bytes::from_first_parenthesis;
 use std::alloc::Global;
 use tt_game::{GameFault, problem};
-use tt_sgf::{Items, MainLine, NoMemory, Node};
+use tt_sgf::{ItemList, MainLine, NoMemory, Node};
 
 /// The most nodes of a main line in which the refused one is named.
 const MOST_NODES_TO_LOCATE_FAULT: usize = 1000;
@@ -47,7 +47,7 @@ fn meaning(fault: GameFault) -> &'static [u8]
 }
 
 /// Writes the line of a refusal behind the text.
-pub fn put_refusal(
+pub fn put_refusal_line(
     alloc: Global,
     out: &mut Vec<u8>,
     number: usize,
@@ -73,13 +73,17 @@ fn is_refused_with(alloc: Global, line: &MainLine, code: u8) -> Result<bool, NoM
 
 /// A refused node, and those in front of it.
 #[derive(Drop)]
-struct RefusedNode {
+struct RefusedNodeAndFront {
     front: MainLine,
     node: Node,
 }
 
 /// The node that is refused, and those in front of it, as many of the first nodes as are needed for the refusal.
-fn refused_node(alloc: Global, line: MainLine, code: u8) -> Result<Option<RefusedNode>, NoMemory>
+fn refused_node(
+    alloc: Global,
+    line: MainLine,
+    code: u8,
+) -> Result<Option<RefusedNodeAndFront>, NoMemory>
     ensures { IfOk result (λ r. MatchOption r (needed_nodes code line.nodes (length line.nodes) ≡ 0)
         (λ x. (x.front.nodes ≡ take (needed_nodes code line.nodes (length line.nodes) - 1) line.nodes)
         × (nth_node (needed_nodes code line.nodes (length line.nodes)) line.nodes ≡ Some x.node)
@@ -88,10 +92,10 @@ fn refused_node(alloc: Global, line: MainLine, code: u8) -> Result<Option<Refuse
     let mut nodes = line.nodes.into_vec();
     while let Some(node) = nodes.pop() {
         let front = MainLine {
-            nodes: Items::from_vec(nodes),
+            nodes: ItemList::from_vec(nodes),
         };
         if !is_refused_with(alloc, &front, code)? {
-            return Ok(Some(RefusedNode { front, node }));
+            return Ok(Some(RefusedNodeAndFront { front, node }));
         }
         nodes = front.nodes.into_vec();
     }
@@ -103,9 +107,9 @@ fn put_fault_at_node(
     alloc: Global,
     out: &mut Vec<u8>,
     fault: GameFault,
-    refused: &RefusedNode,
+    refused: &RefusedNodeAndFront,
 ) -> Result<(), NoMemory>
-    ensures { OnOk result (out.new.items ≡ out.old.items ++ fault_at_node fault (length refused.now.front.nodes + 1) refused.now.front.nodes refused.now.node) }
+    ensures { OnOk result (out.new.items ≡ out.old.items ++ fault_at_node_text fault (length refused.now.front.nodes + 1) refused.now.front.nodes refused.now.node) }
 {
     let number = refused.front.nodes.as_slice().len() + 1;
     let text = format!(in alloc; "node {number}: ")?;
@@ -122,7 +126,7 @@ fn put_located_fault(
     line: MainLine,
     fault: GameFault,
 ) -> Result<(), NoMemory>
-    ensures { OnOk result (out.new.items ≡ out.old.items ++ located_fault fault line.nodes) }
+    ensures { OnOk result (out.new.items ≡ out.old.items ++ located_fault_text fault line.nodes) }
 {
     match refused_node(alloc, line, fault.code())? {
         Some(refused) => put_fault_at_node(alloc, out, fault, &refused),
@@ -139,10 +143,10 @@ fn is_no_target_fault(fault: GameFault) -> bool
 
 /// Writes that no node of a main line has TR, and which comments may hold it, behind the text.
 fn put_no_target(out: &mut Vec<u8>, nodes: &[Node], fault: GameFault) -> Result<(), NoMemory>
-    ensures { OnOk result (out.new.items ≡ out.old.items ++ (meaning fault ++ comment_lines nodes.now)) }
+    ensures { OnOk result (out.new.items ≡ out.old.items ++ (meaning fault ++ unclosed_comment_lines nodes.now)) }
 {
     out.extend_from_slice(meaning(fault))?;
-    put_comments(out, nodes)
+    put_unclosed_comment_lines(out, nodes)
 }
 
 /// Writes why a main line is refused, at which node where one is and the main line is not too long to look for it, and how to go
@@ -165,16 +169,16 @@ fn put_why_refused(
 }
 
 /// Writes that a main line is refused, at which node and why, how to go on and what to look at, behind the text.
-pub fn put_fault(
+pub fn put_refusal_and_why(
     alloc: Global,
     out: &mut Vec<u8>,
     number: usize,
     line: MainLine,
     fault: GameFault,
 ) -> Result<(), NoMemory>
-    ensures { OnOk result (out.new.items ≡ out.old.items ++ fault_text number line.nodes fault) }
+    ensures { OnOk result (out.new.items ≡ out.old.items ++ refusal_and_why_text number line.nodes fault) }
 {
-    put_refusal(alloc, out, number, fault.code())?;
+    put_refusal_line(alloc, out, number, fault.code())?;
     out.extend_from_slice(b"why: ")?;
     put_why_refused(alloc, out, line, fault)
 }
@@ -220,7 +224,7 @@ pub fn put_no_tree(
     requires { length rest.now ≤ length input.now }
     ensures { OnOk result (out.new.items ≡ out.old.items ++ no_tree_text number input.now rest.now) }
 {
-    put_refusal(alloc, out, number, 1)?;
+    put_refusal_line(alloc, out, number, 1)?;
     out.extend_from_slice(b"why: ")?;
     let opened = from_first_parenthesis(rest);
     if opened.is_empty() {
@@ -233,7 +237,7 @@ pub fn put_no_tree(
 pub fn put_too_long(alloc: Global, out: &mut Vec<u8>, number: usize) -> Result<(), NoMemory>
     ensures { OnOk result (out.new.items ≡ out.old.items ++ too_long_text number) }
 {
-    put_refusal(alloc, out, number, 2)?;
+    put_refusal_line(alloc, out, number, 2)?;
     out.extend_from_slice(
         b"why: the input has more than 1,048,576 bytes: give each problem a file of its own\n",
     )?;

@@ -1,14 +1,14 @@
 //! The region that is proposed for the chain of a stone.
 ghost use Rattle.std.specs.Prelude.{◌≡◌, ◌<◌};
 ghost use Rattle.tt_sgf.specs.Sizes.{point_count};
-ghost use Rattle.tsumego_show.specs.Regions.{nearby_empties, chain, empties, reached_within_wall, is_closed, is_inner, is_adjacent_to, adjacent_points, reached, reached_in_steps, proposed_region, stones, chains_with_liberty_outside, wall, ways_out};
+ghost use Rattle.tsumego_show.specs.Regions.{nearby_empties, chain, empties, reached_within_wall, is_closed, is_inner, is_adjacent_to, adjacent_points, reached, reached_in_steps, proposed_region, stones_of_colour, chains_with_liberty_outside, wall, ways_out};
 
 use crate::points::{has_point_numbered, point_numbered};
 use tt_board::{Board, Colour};
 use tt_sgf::{Point, PointSet, Size};
 
 /// The most points of a region that is closed.
-const MOST_REGION_POINTS: u16 = 40;
+const MOST_ENCLOSED_POINTS: u16 = 40;
 
 /// So many steps around a chain an open region is told.
 const NEARBY_STEPS: usize = 3;
@@ -48,9 +48,9 @@ pub fn adjacent_points(size: Size, points: &PointSet) -> PointSet
 }
 
 /// The stones of a colour.
-#[tactic(auto, using(crate::proofs::Sets::none_passed, crate::proofs::Sets::one_in, crate::proofs::Sets::one_out), unfolding(crate::specs::Regions::stones))]
-pub fn stones(board: &Board, colour: Colour) -> PointSet
-    ensures { result ≡ stones board.now.size board.now.points colour }
+#[tactic(auto, using(crate::proofs::Sets::none_passed, crate::proofs::Sets::one_in, crate::proofs::Sets::one_out), unfolding(crate::specs::Regions::stones_of_colour))]
+pub fn stones_of_colour(board: &Board, colour: Colour) -> PointSet
+    ensures { result ≡ stones_of_colour board.now.size board.now.points colour }
 {
     let size = board.size();
     let mut made = PointSet::empty();
@@ -79,14 +79,14 @@ pub fn empties(board: &Board) -> PointSet
     made
 }
 
-/// What is reached from a set in so many steps through free points.
+/// What is reached from a set in so many steps through passable points.
 #[tactic(auto, using(crate::proofs::Sets::no_step, crate::proofs::Sets::one_step, crate::proofs::Sets::all_reached))]
-fn reached_in_steps(size: Size, free: &PointSet, steps: usize, start: PointSet) -> PointSet
-    ensures { result ≡ reached_in_steps size free.now steps start }
+fn reached_in_steps(size: Size, passable: &PointSet, steps: usize, start: PointSet) -> PointSet
+    ensures { result ≡ reached_in_steps size passable.now steps start }
 {
     let mut found = start;
     for _step in 0..steps {
-        let more = found.or(&free.and(&adjacent_points(size, &found)));
+        let more = found.or(&passable.and(&adjacent_points(size, &found)));
         if more.same(&found) {
             return found;
         }
@@ -95,11 +95,11 @@ fn reached_in_steps(size: Size, free: &PointSet, steps: usize, start: PointSet) 
     found
 }
 
-/// What is reached from a set through free points.
-pub fn reached(size: Size, free: &PointSet, start: PointSet) -> PointSet
-    ensures { result ≡ reached size free.now start }
+/// What is reached from a set through passable points.
+pub fn reached(size: Size, passable: &PointSet, start: PointSet) -> PointSet
+    ensures { result ≡ reached size passable.now start }
 {
-    reached_in_steps(size, free, size.point_count(), start)
+    reached_in_steps(size, passable, size.point_count(), start)
 }
 
 /// The chain of a stone of this colour.
@@ -107,8 +107,8 @@ pub fn reached(size: Size, free: &PointSet, start: PointSet) -> PointSet
 fn chain(board: &Board, colour: Colour, stone: Point) -> PointSet
     ensures { result ≡ chain board.now.size board.now.points colour stone }
 {
-    let free = stones(board, colour);
-    reached(board.size(), &free, PointSet::empty().with(stone))
+    let passable = stones_of_colour(board, colour);
+    reached(board.size(), &passable, PointSet::empty().with(stone))
 }
 
 /// What is reached from a point without passing a wall.
@@ -116,8 +116,8 @@ fn chain(board: &Board, colour: Colour, stone: Point) -> PointSet
 fn reached_within_wall(size: Size, point: Point, wall: &PointSet) -> PointSet
     ensures { result ≡ reached_within_wall size point wall.now }
 {
-    let free = PointSet::whole(size).minus(wall);
-    reached(size, &free, PointSet::empty().with(point))
+    let passable = PointSet::whole(size).minus(wall);
+    reached(size, &passable, PointSet::empty().with(point))
 }
 
 /// The chains of the other colour with a liberty outside.
@@ -126,10 +126,10 @@ pub fn chains_with_liberty_outside(board: &Board, colour: Colour, within: &Point
     ensures { result ≡ chains_with_liberty_outside board.now.size board.now.points colour within.now }
 {
     let size = board.size();
-    let others = stones(board, colour.other());
+    let others = stones_of_colour(board, colour.other());
     let liberties = empties(board).minus(within);
-    let free = others.and(&adjacent_points(size, &liberties));
-    reached(size, &others, free)
+    let beside = others.and(&adjacent_points(size, &liberties));
+    reached(size, &others, beside)
 }
 
 /// The wall around a stone of this colour: the stones of the other colour that can't be taken from inside.
@@ -137,7 +137,7 @@ pub fn chains_with_liberty_outside(board: &Board, colour: Colour, within: &Point
 fn wall(board: &Board, colour: Colour, stone: Point) -> PointSet
     ensures { result ≡ wall board.now.size board.now.points colour stone }
 {
-    let mut found = stones(board, colour.other());
+    let mut found = stones_of_colour(board, colour.other());
     for _time in 0..board.size().point_count() {
         let less = chains_with_liberty_outside(
             board,
@@ -152,7 +152,7 @@ fn wall(board: &Board, colour: Colour, stone: Point) -> PointSet
     found
 }
 
-/// The points of a region, and whether it is closed.
+/// The points of a region, and whether it is closed and inner.
 #[derive(Drop)]
 pub struct ProposedRegion {
     /// The points.
@@ -175,10 +175,10 @@ pub fn proposed_region(board: &Board, colour: Colour, stone: Point) -> ProposedR
         board, colour, stone,
     ));
     let count = points.count();
-    let free = empties(board);
+    let all_empties = empties(board);
     ProposedRegion {
-        inner: points.and(&free).count() <= free.minus(&points).count(),
-        closed: 0 < wall.count() && 1 < count && count <= MOST_REGION_POINTS,
+        inner: points.and(&all_empties).count() <= all_empties.minus(&points).count(),
+        closed: 0 < wall.count() && 1 < count && count <= MOST_ENCLOSED_POINTS,
         points,
     }
 }
@@ -189,8 +189,13 @@ pub fn nearby_empties(board: &Board, colour: Colour, stone: Point) -> PointSet
     ensures { result ≡ nearby_empties board.now.size board.now.points colour stone }
 {
     let size = board.size();
-    let free = PointSet::whole(size).minus(&stones(board, colour.other()));
-    empties(board).and(&reached_in_steps(size, &free, NEARBY_STEPS, chain(board, colour, stone)))
+    let passable = PointSet::whole(size).minus(&stones_of_colour(board, colour.other()));
+    empties(board).and(&reached_in_steps(
+        size,
+        &passable,
+        NEARBY_STEPS,
+        chain(board, colour, stone),
+    ))
 }
 
 /// Those beside the chain from which empty points lead further.
@@ -199,8 +204,8 @@ pub fn ways_out(board: &Board, colour: Colour, stone: Point) -> PointSet
     ensures { result ≡ ways_out board.now.size board.now.points colour stone }
 {
     let size = board.size();
-    let free = empties(board);
+    let passable = empties(board);
     let here = nearby_empties(board, colour, stone);
-    let leading = reached(size, &free, free.minus(&here));
+    let leading = reached(size, &passable, passable.minus(&here));
     adjacent_points(size, &chain(board, colour, stone)).and(&here.and(&leading))
 }

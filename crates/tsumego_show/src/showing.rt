@@ -6,12 +6,12 @@ ghost use Rattle.tsumego_show.specs.Shown.{IsFollowingText, IsDiagram, IsProblem
 
 use crate::diagram::put_svg;
 use crate::following_strategy::{claimed_winner, read_following_strategy};
-use crate::hints::{put_comments, put_hints, put_missing_mover_line};
+use crate::hints::{put_hints, put_missing_mover_line, put_unclosed_comment_lines};
 use crate::marking::{put_kept_problem, put_tree_marked_or_kept, unsquared_triangle_node};
 use crate::mode::Mode;
 use crate::numbered_plays::numbered_plays;
 use crate::picture::put_picture;
-use crate::refusals::{put_fault, put_no_tree, put_too_long};
+use crate::refusals::{put_no_tree, put_refusal_and_why, put_too_long};
 use crate::strategy_listing::put_certificate_listing;
 use crate::tree_bytes::has_no_parenthesis;
 use crate::variations::put_sgf;
@@ -35,7 +35,7 @@ fn put_following_text(
 }
 
 /// Writes the problem of these nodes behind the text.
-fn put_problem(
+fn put_picture_and_hints(
     alloc: Global,
     out: &mut Vec<u8>,
     number: usize,
@@ -48,7 +48,7 @@ fn put_problem(
     out.extend_from_slice(text.as_bytes())?;
     put_picture(alloc, out, line)?;
     put_missing_mover_line(out, nodes)?;
-    put_comments(out, nodes)?;
+    put_unclosed_comment_lines(out, nodes)?;
     put_hints(alloc, out, line)
 }
 
@@ -63,7 +63,7 @@ fn put_problem_and_strategy(
 ) -> Result<(), NoMemory>
     ensures { OnOk result ((text : List ℕ) × IsProblemText Picture number [] nodes.now line.now behind.now text × (out.new.items ≡ out.old.items ++ text)) }
 {
-    put_problem(alloc, out, number, nodes, line)?;
+    put_picture_and_hints(alloc, out, number, nodes, line)?;
     put_following_text(alloc, out, line, behind)
 }
 
@@ -181,7 +181,7 @@ fn put_non_problem(
     match mode {
         Mode::Marks(place) => put_tree_marked_or_kept(alloc, out, place, number, main, tree, fault),
         Mode::Picture | Mode::Diagram | Mode::Variations(_) => {
-            put_fault(alloc, out, number, main, fault)?;
+            put_refusal_and_why(alloc, out, number, main, fault)?;
             Ok(true)
         }
     }

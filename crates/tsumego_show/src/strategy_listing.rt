@@ -1,7 +1,7 @@
 //! Draws what follows a problem: the first turn and the strategy of a certificate.
 ghost use Rattle.std.specs.Prelude.{◌≡◌, ◌++◌, ◌∷◌, [], ℕ, List, replicate, IfOk, OnOk};
 ghost use Rattle.tt_sgf.specs.Bytes.{newline, space};
-ghost use Rattle.tt_proof.specs.Strategy.{AreInOrder, IsInOrder, IsOnBoard, entries_of_reply, strategy_of};
+ghost use Rattle.tt_proof.specs.Strategy.{AreInOrder, IsInOrder, IsTurnOnBoardOfSize, entries_of_reply, strategy_of};
 ghost use Rattle.tsumego_show.specs.Picture.{colour_name};
 ghost use Rattle.tsumego_show.specs.StrategyListing.{IsCertificateListing, IsFirstTurnAndBoard, both_turn_names, too_deep_line, next_indentation, entries_lines, heading, no_certificate_line, strategy_text, tree_lines, turn_line};
 ghost use Rattle.tsumego_show.specs.inside.Lines.{Goes};
@@ -43,7 +43,7 @@ fn put_colour_and_turn(
     size: Size,
     colour: Colour,
 ) -> Result<(), NoMemory>
-    requires { IsOnBoard size turn }
+    requires { IsTurnOnBoardOfSize size turn }
     ensures { OnOk result (out.new.items ≡ out.old.items ++ colour_name colour ++ space ∷ (both_turn_names size turn ++ newline ∷ [])) }
 {
     out.extend_from_slice(colour_name(colour))?;
@@ -63,7 +63,7 @@ fn put_turn_line(
     colour: Colour,
     level: usize,
 ) -> Result<(), NoMemory>
-    requires { IsOnBoard size turn }
+    requires { IsTurnOnBoardOfSize size turn }
     ensures { OnOk result (out.new.items ≡ out.old.items ++ turn_line size level colour turn) }
 {
     put_blanks(out, level)?;
@@ -81,7 +81,7 @@ fn put_turn_line_or_dots(
     level: usize,
     left: usize,
 ) -> Result<Option<usize>, NoMemory>
-    requires { IsOnBoard size turn }
+    requires { IsTurnOnBoardOfSize size turn }
     ensures { IfOk result (λ r. Goes r out.new.items out.old.items left (turn_line size level colour turn)) }
 {
     if left == 0 {
@@ -128,7 +128,7 @@ fn put_turn_and_subtree(
     level: usize,
     left: usize,
 ) -> Result<Option<usize>, NoMemory>
-    requires on_board { IsOnBoard size turn }
+    requires on_board { IsTurnOnBoardOfSize size turn }
     requires in_order { IsInOrder size (strategy_of child.now) }
     ensures { IfOk result (λ r. Goes r out.new.items out.old.items left
         (turn_line size level colour turn ++ tree_lines size own (next_indentation level) (strategy_of child.now))) }

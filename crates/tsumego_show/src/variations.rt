@@ -4,16 +4,16 @@ ghost use Rattle.tt_sgf.specs.Bytes.{close_tree};
 ghost use Rattle.tt_sgf.specs.Sizes.{point_count};
 ghost use Rattle.tt_game.specs.Game.{after, winner_of};
 ghost use Rattle.tt_game.specs.Nodes.{values_of};
-ghost use Rattle.tt_proof.specs.Strategy.{AreInOrder, IsInOrder, IsOnBoard, entries_of_reply, strategy_of};
+ghost use Rattle.tt_proof.specs.Strategy.{AreInOrder, IsInOrder, IsTurnOnBoardOfSize, entries_of_reply, strategy_of};
 ghost use Rattle.tsumego_show.specs.inside.Trees.{found_of};
 ghost use Rattle.tsumego_show.specs.Picture.{colour_name};
-ghost use Rattle.tsumego_show.specs.Variations.{bracketed, colour_letter, cut_comment, ending_text, strategy_variations, game_text, is_point_listed, variation_if_legal, first_value_text, kept_property, list_property_name, point_list_property, listed_value, listed_values};
+ghost use Rattle.tsumego_show.specs.Variations.{bracketed, colour_letter, cut_comment, ending_text, strategy_variations, game_text, is_point_written, variation_if_legal, first_value_text, kept_property, list_property_name, point_list_property, listed_value, listed_values};
 ghost use Rattle.tsumego_show.specs.Variations.{move_value_text, variation_head, mover_property, name_property, turns_or_ending, owner_or_words_text, reply_variations, root_text, sgf_text, size_text, variations, why_won, won_text};
 
 use crate::depths::shown_depth;
 use crate::diagram::has_square;
 use crate::node_values::first_value;
-use crate::picture::{colour_name, earlier_position_count, put_earlier_positions, side_colour};
+use crate::picture::{colour_name, earlier_position_count, put_earlier_position_count, side_colour};
 use crate::points::{has_stone_of_colour, is_target, point_numbered};
 use std::alloc::Global;
 use tt_board::Colour;
@@ -53,9 +53,9 @@ fn list_property_name(points: RootPointProperty) -> &'static [u8]
 }
 
 /// Whether a list has the point of this number.
-fn is_point_listed(line: &Line, points: RootPointProperty, number: usize) -> bool
+fn is_point_written(line: &Line, points: RootPointProperty, number: usize) -> bool
     requires { number < point_count line.now.frame.size }
-    ensures { result ≡ is_point_listed line.now points number }
+    ensures { result ≡ is_point_written line.now points number }
 {
     match points {
         RootPointProperty::Blacks => has_stone_of_colour(line, number, Colour::Black),
@@ -67,7 +67,7 @@ fn is_point_listed(line: &Line, points: RootPointProperty, number: usize) -> boo
 
 /// Writes the point of a play behind the text, and nothing for a pass.
 fn put_move_value(out: &mut Vec<u8>, size: Size, turn: Turn) -> Result<(), NoMemory>
-    requires { IsOnBoard size turn }
+    requires { IsTurnOnBoardOfSize size turn }
     ensures { OnOk result (out.new.items ≡ out.old.items ++ move_value_text size turn) }
 {
     match turn {
@@ -78,7 +78,7 @@ fn put_move_value(out: &mut Vec<u8>, size: Size, turn: Turn) -> Result<(), NoMem
 
 /// Writes the value of a turn behind the text.
 fn put_bracketed_move(out: &mut Vec<u8>, size: Size, turn: Turn) -> Result<(), NoMemory>
-    requires { IsOnBoard size turn }
+    requires { IsTurnOnBoardOfSize size turn }
     ensures { OnOk result (out.new.items ≡ out.old.items ++ bracketed (move_value_text size turn)) }
 {
     out.push(b'[')?;
@@ -99,7 +99,7 @@ fn put_listed_value(
     ensures { OnOk result (out.new.items ≡ out.old.items ++ listed_value line.now points number) }
 {
     let size = line.frame().size;
-    if is_point_listed(line, points, number) {
+    if is_point_written(line, points, number) {
         return put_bracketed_move(out, size, Turn::Play(point_numbered(size, number)));
     }
     Ok(())
@@ -155,7 +155,7 @@ fn put_size(alloc: Global, out: &mut Vec<u8>, size: Size) -> Result<(), NoMemory
 }
 
 /// Writes the value of a size behind the text.
-fn put_size_value(alloc: Global, out: &mut Vec<u8>, size: Size) -> Result<(), NoMemory>
+fn put_bracketed_size(alloc: Global, out: &mut Vec<u8>, size: Size) -> Result<(), NoMemory>
     ensures { OnOk result (out.new.items ≡ out.old.items ++ bracketed (size_text size)) }
 {
     out.push(b'[')?;
@@ -170,7 +170,7 @@ fn put_game_and_size(alloc: Global, out: &mut Vec<u8>, size: Size) -> Result<(),
     ensures { OnOk result (out.new.items ≡ out.old.items ++ game_text size) }
 {
     out.extend_from_slice(b"(;GM[1]FF[4]SZ")?;
-    put_size_value(alloc, out, size)
+    put_bracketed_size(alloc, out, size)
 }
 
 /// Writes who moves behind the text.
@@ -278,7 +278,7 @@ fn put_variation_head(
     colour: Colour,
     turn: Turn,
 ) -> Result<(), NoMemory>
-    requires { IsOnBoard size turn }
+    requires { IsTurnOnBoardOfSize size turn }
     ensures { OnOk result (out.new.items ≡ out.old.items ++ variation_head size colour turn) }
 {
     out.extend_from_slice(b"\n(;")?;
@@ -296,7 +296,7 @@ fn put_variation(
     line: &mut Line,
     left: usize,
 ) -> Result<(), NoMemory>
-    requires on_board { IsOnBoard line.old.frame.size turn.now }
+    requires on_board { IsTurnOnBoardOfSize line.old.frame.size turn.now }
     requires in_order { IsInOrder line.old.frame.size (strategy_of child.now) }
     ensures text { OnOk result (out.new.items ≡ out.old.items ++ (variation_head line.old.frame.size colour turn.now
         ++ (variations line.old.frame line.old.state (strategy_of child.now) left ++ close_tree ∷ []))) }
@@ -317,7 +317,7 @@ fn put_variation_if_legal(
     line: &mut Line,
     left: usize,
 ) -> Result<(), NoMemory>
-    requires on_board { IsOnBoard line.old.frame.size turn.now }
+    requires on_board { IsTurnOnBoardOfSize line.old.frame.size turn.now }
     requires in_order { IsInOrder line.old.frame.size (strategy_of child.now) }
     ensures text { OnOk result (out.new.items ≡ out.old.items ++ variation_if_legal line.old.frame line.old.state turn.now
         (variations line.old.frame (after line.old.frame line.old.state turn.now) (strategy_of child.now) left)) }
@@ -423,7 +423,7 @@ fn put_name_property(
 {
     out.extend_from_slice(b"N[")?;
     put_owner_or_words(out, line, without, found)?;
-    put_earlier_positions(alloc, out, earlier_position_count(line))?;
+    put_earlier_position_count(alloc, out, earlier_position_count(line))?;
     out.push(b']')?;
     Ok(())
 }

@@ -12,7 +12,7 @@ use Rattle.tt_board.specs.Position.{Colouring}
 use Rattle.tt_board.specs.Reach.{entry_at}
 use Rattle.tt_board.specs.inside.Chains.{AreLinked, name_at, root_of, IsNamed, touching, is_liberty, liberty_count, stone_count, renamed, AreCounted, AreNamesBut, AreGathered, Touches}
 use Rattle.tt_board.specs.Decided.{decision_test}
-use Rattle.tt_board.specs.declared.counted.play_kind.TheConstants.{NO_POINT_NAME}
+use Rattle.tt_board.specs.declared.counted.play_kind.TheConstants.{OFF_BOARD_NAME}
 use Rattle.tt_board.proofs.CountLemmas.{same_decided, count_same}
 use Rattle.tt_board.proofs.LiftLemmas.{near_back}
 use Rattle.tt_board.proofs.LinkLemmas.{linked_trans, linked_sym, linked_on, linked_self, named_bare}
@@ -405,7 +405,7 @@ module _ (s : Size) (ns : List ℕ) (p m a b : ℕ) (in_p : p < point_count s) (
   codes_back w = ap (λ x. x / 512) w.1 ∙ codes ∙ ap (λ x. x / 512) (sym w.0)
 
   -- where a stone of m is beside p they are linked, in each colouring that the names fit
-  pub gathered_united : (m ≢ NO_POINT_NAME → Touches s ns m p) → AreGathered s ns (map (renamed a b) ns) p
+  pub gathered_united : (m ≢ OFF_BOARD_NAME → Touches s ns m p) → AreGathered s ns (map (renamed a b) ns) p
   gathered_united touch = record {
     ends = λ r past. now_same r (λ e. living_a (sym e ∙ ends r past)) ∙ ends r past;
     stone = elim which [

@@ -6,26 +6,26 @@ use Rattle.std.proofs.lemmas.List.{get_or_past}
 use Rattle.tt_sgf.specs.declared.size.Size.{Size}
 use Rattle.tt_board.specs.declared.Colour.{Colour}
 use Rattle.tt_board.specs.declared.Colour.TheVariants.{Black, White}
-use Rattle.tt_board.specs.declared.counted.play_kind.TheConstants.{NO_POINT_NAME}
+use Rattle.tt_board.specs.declared.counted.play_kind.TheConstants.{OFF_BOARD_NAME}
 use Rattle.tt_board.specs.Near.{IsNeighbour}
 use Rattle.tt_board.specs.inside.Neighbours.{IsOneOf}
 use Rattle.tt_board.specs.inside.Chains.{name_at, root_of, colour_number, IsNamed, Touches, IsOneName, bare_one, count_there}
 
 module _ (s : Size) (ns : List ℕ) (p m : ℕ) where
   -- what is on a point that is there touches p
-  side : (index : Option ℕ) (r : ℕ) → MatchOption index (r ≡ NO_POINT_NAME) (λ q. r ≡ name_at ns q) → ((q : ℕ) → index ≡ Some q → IsNeighbour s p q) → m ≢ NO_POINT_NAME → r ≡ m → Touches s ns m p
+  side : (index : Option ℕ) (r : ℕ) → MatchOption index (r ≡ OFF_BOARD_NAME) (λ q. r ≡ name_at ns q) → ((q : ℕ) → index ≡ Some q → IsNeighbour s p q) → m ≢ OFF_BOARD_NAME → r ≡ m → Touches s ns m p
   side None r h inside apart e = absurd (apart (sym e ∙ h))
   side (Some q) r h inside apart e = let n = inside q refl in (q, n.0, (n, sym h ∙ e))
 
   -- and the name of such a point is its own
-  given : (index : Option ℕ) (r q : ℕ) → MatchOption index (r ≡ NO_POINT_NAME) (λ x. r ≡ name_at ns x) → index ≡ Some q → r ≡ name_at ns q
-  given index r q h is = subst (λ o. MatchOption o (r ≡ NO_POINT_NAME) (λ x. r ≡ name_at ns x)) is h
+  given : (index : Option ℕ) (r q : ℕ) → MatchOption index (r ≡ OFF_BOARD_NAME) (λ x. r ≡ name_at ns x) → index ≡ Some q → r ≡ name_at ns q
+  given index r q h is = subst (λ o. MatchOption o (r ≡ OFF_BOARD_NAME) (λ x. r ≡ name_at ns x)) is h
 
   -- so the four names are those of the chains that touch p, and 0 where a point beside it is empty
   pub one_touches : (a b c d : Option ℕ) (w x y z : ℕ) → ((q : ℕ) → IsOneOf a b c d q ↔ IsNeighbour s p q)
-      → MatchOption a (w ≡ NO_POINT_NAME) (λ q. w ≡ name_at ns q) → MatchOption b (x ≡ NO_POINT_NAME) (λ q. x ≡ name_at ns q)
-      → MatchOption c (y ≡ NO_POINT_NAME) (λ q. y ≡ name_at ns q) → MatchOption d (z ≡ NO_POINT_NAME) (λ q. z ≡ name_at ns q)
-      → m ≢ NO_POINT_NAME → IsOneName w x y z m ↔ Touches s ns m p
+      → MatchOption a (w ≡ OFF_BOARD_NAME) (λ q. w ≡ name_at ns q) → MatchOption b (x ≡ OFF_BOARD_NAME) (λ q. x ≡ name_at ns q)
+      → MatchOption c (y ≡ OFF_BOARD_NAME) (λ q. y ≡ name_at ns q) → MatchOption d (z ≡ OFF_BOARD_NAME) (λ q. z ≡ name_at ns q)
+      → m ≢ OFF_BOARD_NAME → IsOneName w x y z m ↔ Touches s ns m p
   one_touches a b c d w x y z near on_a on_b on_c on_d apart = (
     λ one. elim one [
       | inl e ↦ side a w on_a (λ q is. (near q).0 (inl is)) apart e
@@ -42,19 +42,19 @@ module _ (s : Size) (ns : List ℕ) (p m : ℕ) where
   )
 
 -- the name of a point is 0 exactly where the point is there and empty
-pub bare_index : (ns : List ℕ) (index : Option ℕ) (r : ℕ) → MatchOption index (r ≡ NO_POINT_NAME) (λ q. r ≡ name_at ns q) → bare_one r ≡ count_there (λ q. name_at ns q == 0) index
+pub bare_index : (ns : List ℕ) (index : Option ℕ) (r : ℕ) → MatchOption index (r ≡ OFF_BOARD_NAME) (λ q. r ≡ name_at ns q) → bare_one r ≡ count_there (λ q. name_at ns q == 0) index
 bare_index ns None r h = ap bare_one h
 bare_index ns (Some q) r h = ap bare_one h
 
 -- a name of a colour's code is of a chain
-pub coded : (m : ℕ) (k : Colour) → m / 512 ≡ colour_number k → m ≢ NO_POINT_NAME
+pub coded : (m : ℕ) (k : Colour) → m / 512 ≡ colour_number k → m ≢ OFF_BOARD_NAME
 coded m Black code is = omega (arith, code, is)
 coded m White code is = omega (arith, code, is)
 
 -- the counts of each name beside a point have their point
 pub roots_below : (s : Size) (ns : List ℕ) (p m : ℕ) → length ns ≡ 361 → ((q : ℕ) → name_at ns q ≢ 0 → name_at ns (root_of (name_at ns q)) ≡ name_at ns q)
-    → (m ≢ NO_POINT_NAME → Touches s ns m p) → root_of m < 361
-roots_below s ns p m wide rooted touch = elim (cases_eq m NO_POINT_NAME) [
+    → (m ≢ OFF_BOARD_NAME → Touches s ns m p) → root_of m < 361
+roots_below s ns p m wide rooted touch = elim (cases_eq m OFF_BOARD_NAME) [
   | inl is ↦ omega (arith, is)
   | inr apart ↦ elim (cases_eq m 0) [
     | inl zero ↦ omega (arith, zero)
@@ -69,6 +69,6 @@ roots_below s ns p m wide rooted touch = elim (cases_eq m NO_POINT_NAME) [
 ]
 
 -- no name on a board is that of no point
-pub never_nowhere : (e : Option Colour) (m : ℕ) → IsNamed e m → m ≢ NO_POINT_NAME
+pub never_nowhere : (e : Option Colour) (m : ℕ) → IsNamed e m → m ≢ OFF_BOARD_NAME
 never_nowhere None m named = omega (arith, named)
 never_nowhere (Some k) m named = coded m k named

@@ -15,7 +15,7 @@ use Rattle.tt_board.specs.declared.Colour.TheVariants.{Black, White}
 use Rattle.tt_board.specs.Position.{Colouring}
 use Rattle.tt_board.specs.Reach.{entry_at}
 use Rattle.tt_board.specs.Play.{is_empty, is_stone_of}
-use Rattle.tt_board.specs.Stones.{Points, any_empty, all_stones_of, IsEmptyIn}
+use Rattle.tt_board.specs.Stones.{PointNumberSet, any_empty, all_stones_of, IsEmptyPointOfSet}
 
 -- ---- sets
 
@@ -62,7 +62,7 @@ decide_not true h = absurd (h refl)
 decide_not false h = refl
 
 -- words with the bits of the set, over two words of which one has the bit of each point that fails a test no
-module _ (s : Points) (n : ℕ) (small : n ≤ 361) (within : (p : ℕ) → set.contains s p ≡ true → p < n) (ws xs ys : List ℕ)
+module _ (s : PointNumberSet) (n : ℕ) (small : n ≤ 361) (within : (p : ℕ) → set.contains s p ≡ true → p < n) (ws xs ys : List ℕ)
     (is : AreBitsOf ws 361 (λ p. set.contains s p)) (test : ℕ → Bool)
     (out : (p : ℕ) → p < n → test p ≡ true → (bit_in xs p || bit_in ys p) ≡ false) (in' : (p : ℕ) → p < n → test p ≡ false → (bit_in xs p || bit_in ys p) ≡ true) where
   -- where the two words cover the set, no point of it passes the test
@@ -104,7 +104,7 @@ twice true = refl
 twice false = refl
 
 -- words of a set that lies on the board
-module _ (s : Points) (n : ℕ) (small : n ≤ 361) (within : (p : ℕ) → set.contains s p ≡ true → p < n) (c : Colouring)
+module _ (s : PointNumberSet) (n : ℕ) (small : n ≤ 361) (within : (p : ℕ) → set.contains s p ≡ true → p < n) (c : Colouring)
     (ws : List ℕ) (is : AreBitsOf ws 361 (λ p. set.contains s p)) where
   -- over the words of both colours' stones
   pub empty_is : (xs ys : List ℕ) → AreBitsOf xs n (λ p. is_stone_of (entry_at c p) Black) → AreBitsOf ys n (λ p. is_stone_of (entry_at c p) White)
@@ -138,7 +138,7 @@ bare None on = refl
 bare (Some k) on = absurd (false≢true on)
 
 -- words of a set, and those of both colours' stones on a board
-module _ (size : Size) (s : Points) (c : Colouring) (ws xs ys : List ℕ) (is : AreBitsOf ws 361 (λ p. set.contains s p))
+module _ (size : Size) (s : PointNumberSet) (c : Colouring) (ws xs ys : List ℕ) (is : AreBitsOf ws 361 (λ p. set.contains s p))
     (blacks : AreBitsOf xs (point_count size) (λ p. is_stone_of (entry_at c p) Black)) (whites : AreBitsOf ys (point_count size) (λ p. is_stone_of (entry_at c p) White)) where
   -- where the bits of both colours are taken from the set's, those that are left on the board are of its empty points
   left_told : (rest left : List ℕ) (p : ℕ) → p < point_count size → bit_in rest p ≡ (bit_in ws p && not (bit_in xs p)) → bit_in left p ≡ (bit_in rest p && not (bit_in ys p))
@@ -162,7 +162,7 @@ module _ (size : Size) (s : Points) (c : Colouring) (ws xs ys : List ℕ) (is : 
 
   -- so each is that of an empty point, and the other way round
   pub left_empty : (rest left : List ℕ) (p : ℕ) → p < point_count size → bit_in rest p ≡ (bit_in ws p && not (bit_in xs p)) → bit_in left p ≡ (bit_in rest p && not (bit_in ys p))
-      → (bit_in left p ≡ true) ↔ IsEmptyIn size s c p
+      → (bit_in left p ≡ true) ↔ IsEmptyPointOfSet size s c p
   left_empty rest left p lt first second =
       let e = left_told rest left p lt first second in (
         λ on. let r = and_parts (set.contains s p) (is_empty (entry_at c p)) (sym e ∙ on) in (lt, bare (entry_at c p) r.1, r.0),

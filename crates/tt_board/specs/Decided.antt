@@ -10,7 +10,7 @@ use Rattle.tt_sgf.specs.Sizes.{point_count}
 use Rattle.tt_board.specs.Near.{AreConsecutive, IsNeighbour}
 use Rattle.tt_board.specs.Position.{Colouring}
 use Rattle.tt_board.specs.Reach.{entry_at, Reaches}
-use Rattle.tt_board.specs.Fill.{is_flagged, IsBesideFilled, IsSoundFill, IsReachingFill, unfilled_count}
+use Rattle.tt_board.specs.Fill.{is_flagged, IsFillableNext, IsSoundFill, IsReachingFill, unfilled_count}
 use Rattle.tt_board.specs.ReachLaws.{sound_more, unfilled_fewer, filled}
 
 -- a fact, or that it doesn't hold
@@ -89,7 +89,7 @@ decide_neighbour s p q = decide_both (below q (point_count s))
 
 module _ (s : Size) (c : Colouring) (e : Option Colour) where
   -- whether p may be filled next
-  next : (m : List Bool) (p : ℕ) → Decision (IsBesideFilled s c e m p)
+  next : (m : List Bool) (p : ℕ) → Decision (IsFillableNext s c e m p)
   next m p = elim (decide_not (decide_same_entry (entry_at c p) e)) [
     | inr same ↦ inr (λ h. same h.0)
     | inl other ↦ elim (decide_some_below (λ q. IsNeighbour s p q × ((entry_at c q ≡ e) ⊎ ((entry_at c q ≡ entry_at c p) × IsTrue (is_flagged m q))))
@@ -107,7 +107,7 @@ module _ (s : Size) (c : Colouring) (e : Option Colour) where
       → (m' : List Bool) × IsReachingFill s c e m'
   grown zero m fits sound enough = absurd (omega arith)
   grown (suc room) m fits sound enough =
-      elim (decide_some_below (λ p. IsBesideFilled s c e m p × (is_flagged m p ≡ false)) (λ p. decide_both (next m p) (bare p)) (point_count s)) [
+      elim (decide_some_below (λ p. IsFillableNext s c e m p × (is_flagged m p ≡ false)) (λ p. decide_both (next m p) (bare p)) (point_count s)) [
         | inl h ↦ grown room (slice_set m h.0 true) (length-set m h.0 true ∙ fits)
             (sound_more s c e m h.0 (omega (arith, h.1)) sound h.2.0) (omega (arith, unfilled_fewer m h.0 (omega (arith, h.1)) h.2.1))
         | inr none ↦ (m, filled s c e m sound (λ p in_p nx. elim (cases_Bool (is_flagged m p)) [ inl on ↦ on | inr off ↦ absurd (none (p, in_p, (nx, off))) ]))

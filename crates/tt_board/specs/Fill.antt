@@ -13,8 +13,8 @@ abbrev pub is_flagged : List Bool → ℕ → Bool
 is_flagged m p = slice_index_or m p false
 
 -- p, which is not e, is beside a point that is e, or beside one in the fill that is like p
-abbrev pub IsBesideFilled : Size → Colouring → Option Colour → List Bool → ℕ → Type 0
-IsBesideFilled s c e m p =
+abbrev pub IsFillableNext : Size → Colouring → Option Colour → List Bool → ℕ → Type 0
+IsFillableNext s c e m p =
     (entry_at c p ≢ e) × ((q : ℕ) × IsNeighbour s p q × ((entry_at c q ≡ e) ⊎ ((entry_at c q ≡ entry_at c p) × IsTrue (is_flagged m q))))
 
 -- only points that reach e are filled
@@ -23,7 +23,7 @@ IsSoundFill s c e m = (p : ℕ) → p < point_count s → IsTrue (is_flagged m p
 
 -- all that is next to the fill is filled
 abbrev pub IsClosedFill : Size → Colouring → Option Colour → List Bool → Type 0
-IsClosedFill s c e m = (p : ℕ) → p < point_count s → IsBesideFilled s c e m p → IsTrue (is_flagged m p)
+IsClosedFill s c e m = (p : ℕ) → p < point_count s → IsFillableNext s c e m p → IsTrue (is_flagged m p)
 
 -- exactly the points that reach e are filled
 abbrev pub IsReachingFill : Size → Colouring → Option Colour → List Bool → Type 0

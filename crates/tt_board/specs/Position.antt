@@ -17,5 +17,5 @@ abbrev pub colourings : List Position → List Colouring
 colourings bs = map (λ b. b.points) bs
 
 -- the colouring is in the history: positional superko bars a play that makes it
-abbrev pub HasBeen : List Colouring → Colouring → Type 0
-HasBeen history c = Contains history c
+abbrev pub IsInHistory : List Colouring → Colouring → Type 0
+IsInHistory history c = Contains history c

@@ -10,7 +10,7 @@ use Rattle.tt_sgf.specs.Sizes.{point_count}
 use Rattle.tt_board.specs.Near.{IsNeighbour}
 use Rattle.tt_board.specs.Position.{Colouring}
 use Rattle.tt_board.specs.Reach.{entry_at, IsPath, path_end, Reaches}
-use Rattle.tt_board.specs.Fill.{is_flagged, IsBesideFilled, IsSoundFill, IsClosedFill, IsReachingFill, unfilled_count}
+use Rattle.tt_board.specs.Fill.{is_flagged, IsFillableNext, IsSoundFill, IsClosedFill, IsReachingFill, unfilled_count}
 
 module _ (s : Size) (c : Colouring) (e : Option Colour) where
   -- a point beside one with entry e reaches it
@@ -54,7 +54,7 @@ module _ (s : Size) (c : Colouring) (e : Option Colour) where
       (λ h. other (sym same ∙ h)) found near has)
 
   -- a step of the fill takes only what reaches e
-  pub next_reaches : (m : List Bool) (p : ℕ) → IsSoundFill s c e m → IsBesideFilled s c e m p → Reaches s c p e
+  pub next_reaches : (m : List Bool) (p : ℕ) → IsSoundFill s c e m → IsFillableNext s c e m p → Reaches s c p e
   next_reaches m p sound (other, (q, near, inl has)) = reaches_beside p q other near has
   next_reaches m p sound (other, (q, near, inr like)) = reaches_on p q near like.0 (sound q near.0 like.1)
 
@@ -70,7 +70,7 @@ module _ (s : Size) (c : Colouring) (e : Option Colour) where
   )
 
   -- a point that is next may be filled
-  pub sound_more : (m : List Bool) (p : ℕ) → p < length m → IsSoundFill s c e m → IsBesideFilled s c e m p → IsSoundFill s c e (set m p true)
+  pub sound_more : (m : List Bool) (p : ℕ) → p < length m → IsSoundFill s c e m → IsFillableNext s c e m p → IsSoundFill s c e (set m p true)
   sound_more m p in_m sound next q in_q in_fill =
       elim (cases_eq q p) [
         | inl same ↦ subst (λ x. Reaches s c x e) (sym same) (next_reaches m p sound next)

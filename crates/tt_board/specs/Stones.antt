@@ -11,21 +11,21 @@ use Rattle.tt_board.specs.Reach.{entry_at}
 use Rattle.tt_board.specs.Play.{is_empty, is_stone_of}
 
 -- a set of points
-abbrev pub Points : Type 0
-Points = set.FinSet nat_cmp
+abbrev pub PointNumberSet : Type 0
+PointNumberSet = set.FinSet nat_cmp
 
 -- all points of the set are on a board of this size
-abbrev pub LiesOn : Size → Points → Type 0
-LiesOn size s = (p : ℕ) → set.contains s p ≡ true → p < point_count size
+abbrev pub IsSetOnBoard : Size → PointNumberSet → Type 0
+IsSetOnBoard size s = (p : ℕ) → set.contains s p ≡ true → p < point_count size
 
 -- some point of the set is empty
-unfoldable pub any_empty : Points → Colouring → Bool
+unfoldable pub any_empty : PointNumberSet → Colouring → Bool
 any_empty s c = list_any (λ p. is_empty (entry_at c p)) (set.items s)
 
 -- a stone of this colour stands on each point of the set
-unfoldable pub all_stones_of : Points → Colouring → Colour → Bool
+unfoldable pub all_stones_of : PointNumberSet → Colouring → Colour → Bool
 all_stones_of s c k = list_all (λ p. is_stone_of (entry_at c p) k) (set.items s)
 
 -- the number is that of an empty point of the board that the set has
-abbrev pub IsEmptyIn : Size → Points → Colouring → ℕ → Type 0
-IsEmptyIn size s c p = (p < point_count size) × (entry_at c p ≡ None) × (set.contains s p ≡ true)
+abbrev pub IsEmptyPointOfSet : Size → PointNumberSet → Colouring → ℕ → Type 0
+IsEmptyPointOfSet size s c p = (p < point_count size) × (entry_at c p ≡ None) × (set.contains s p ≡ true)

@@ -105,7 +105,7 @@ impl Board {
     }
 
     /// Whether a stone of this colour stands on `p`, a point of the board.
-    pub fn has_stone(&self, colour: Colour, p: Point) -> bool
+    pub fn has_stone_of(&self, colour: Colour, p: Point) -> bool
         requires { p < point_count self.now.size }
         ensures { result ≡ is_stone_of (entry_at self.now.points p) colour }
     {

@@ -111,8 +111,8 @@ impl Colouring {
         requires { p < length self.old }
         ensures { self.new ≡ slice_set self.old p entry }
     {
-        self.black.put(p, is_stone_of(entry, Colour::Black));
-        self.white.put(p, is_stone_of(entry, Colour::White));
+        self.black.write_bit(p, is_stone_of(entry, Colour::Black));
+        self.white.write_bit(p, is_stone_of(entry, Colour::White));
     }
 
     /// The stones of a colour as bits.

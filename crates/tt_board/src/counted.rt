@@ -90,13 +90,13 @@ impl CountedBoard {
     }
 
     /// Some of these empty points on which a play of `colour` puts a stone and takes none off, by what is beside them.
-    pub fn no_capture_among(&self, colour: Colour, points: &Bits) -> Bits
+    pub fn some_noncapturing_plays(&self, colour: Colour, points: &Bits) -> Bits
         requires { (q : ℕ) → q < point_count self.now.size → bit_in points.now.words q ≡ true → entry_at self.now.points q ≡ None }
         ensures fits { length self.now.points ≡ point_count self.now.size }
         ensures no_capture { (p : ℕ) → p < BITS → bit_in result.words p ≡ true → (bit_in points.now.words p ≡ true)
             × (play_of self.now.size self.now.points colour p ≡ slice_set self.now.points p (Some colour)) }
     {
-        self.chains.no_capture_among(colour, points)
+        self.chains.some_noncapturing_plays(colour, points)
     }
 
     /// The board after a play of `colour` on `p`, an empty point: the stone is put, then the other colour is cleared, then
@@ -128,7 +128,7 @@ impl CountedBoard {
         requires free { entry_at self.old.points p ≡ None }
         ensures { self.new ≡ record { size = self.old.size; points = play_of self.old.size self.old.points colour p } }
     {
-        self.chains.play_stone(colour, usize::from(p.number()));
+        self.chains.play_and_clear(colour, usize::from(p.number()));
     }
 
     /// Becomes what another board is after a play of `colour` on `p`, an empty point of that one.

@@ -3,6 +3,6 @@
 ghost use Rattle.tt_board.specs.Laws.{ReachesTestIsExact};
 
 /// The test `reaches` of the definitions is true exactly of the points from which a path leads.
-pub fn reaches_decides()
+pub fn reaches_test_is_exact()
     ensures { ReachesTestIsExact }
 {}

@@ -5,7 +5,7 @@ use Rattle.std.specs.declared.result.Result.{Result}
 use Rattle.std.specs.FinSet as set
 use Rattle.tt_sgf.specs.declared.nodes.Node.{Node}
 use Rattle.tt_board.specs.declared.Colour.{Colour}
-use Rattle.tt_board.specs.Stones.{Points, any_empty}
+use Rattle.tt_board.specs.Stones.{PointNumberSet, any_empty}
 use Rattle.tt_game.specs.declared.faults.GameFault.{GameFault}
 use Rattle.tt_game.specs.declared.frame.Side.TheVariants.{Attacker, Defender}
 use Rattle.tt_game.specs.declared.records.GameSoFar.{GameSoFar}
@@ -13,8 +13,8 @@ use Rattle.tt_game.specs.Game.{winner_of}
 use Rattle.tt_game.specs.Games.{GameState}
 use Rattle.tt_game.specs.Line.{LineWithUndo}
 use Rattle.tt_game.specs.Nodes.{TR, has, set_named}
-use Rattle.tt_game.specs.Problems.{common_colour, posed_problem, problem_of_sets, problem_of, problem_on, problem_with, region_of, problem_at_targets}
-use Rattle.tt_game.specs.Records.{and_then, begin_record, step_node}
+use Rattle.tt_game.specs.Problems.{common_colour, posed_problem, problem_of_sets, problem_of, problem_if_targets_valid, problem_if_one_colour, region_of, problem_at_targets}
+use Rattle.tt_game.specs.Records.{and_then, empty_game_for_nodes, step_node}
 
 -- nobody has won at it
 abbrev IsOpen : LineWithUndo → Type 0
@@ -31,7 +31,7 @@ either true x y z e = inl e
 either false x y z e = inr e
 
 -- a problem whose targets all have a stone is open
-open_with : (s : GameState) (region targets : Points) (o : Option Colour) (q : LineWithUndo) → any_empty targets s.present ≡ false → problem_with s region targets o ≡ Ok q → IsOpen q
+open_with : (s : GameState) (region targets : PointNumberSet) (o : Option Colour) (q : LineWithUndo) → any_empty targets s.present ≡ false → problem_if_one_colour s region targets o ≡ Ok q → IsOpen q
 open_with s region targets None q full h = let bad : Err _ ≡ Ok q = h in cc
 open_with s region targets (Some k) q full h =
     let same : posed_problem s region targets k ≡ q = cc in
@@ -40,7 +40,7 @@ open_with s region targets (Some k) q full h =
     subst IsOpen same won
 
 -- so is one posed on sets
-open_on : (s : GameState) (region targets : Points) (q : LineWithUndo) → problem_on s region targets ≡ Ok q → IsOpen q
+open_on : (s : GameState) (region targets : PointNumberSet) (q : LineWithUndo) → problem_if_targets_valid s region targets ≡ Ok q → IsOpen q
 open_on s region targets q h = elim (either (nat_eq (set.len targets) 0) _ _ _ h) [
   | inl none ↦ let bad : Err _ ≡ Ok q = none in cc
   | inr some ↦ elim (cases_Bool (any_empty targets s.present)) [
@@ -50,7 +50,7 @@ open_on s region targets q h = elim (either (nat_eq (set.len targets) 0) _ _ _ h
 ]
 
 -- and one of sets that a node names
-open_at : (s : GameState) (targets region : Option Points) (q : LineWithUndo) → problem_of_sets s targets region ≡ Ok q → IsOpen q
+open_at : (s : GameState) (targets region : Option PointNumberSet) (q : LineWithUndo) → problem_of_sets s targets region ≡ Ok q → IsOpen q
 open_at s None region q h = let bad : Err _ ≡ Ok q = h in cc
 open_at s (Some targets) None q h = let bad : Err _ ≡ Ok q = h in cc
 open_at s (Some targets) (Some region) q h = open_on s region targets q h
@@ -69,4 +69,4 @@ open_nodes r (n ∷ ns) q h =
 -- nobody has won at a problem
 pub problem_open : (ns : List Node) (q : LineWithUndo) → problem_of ns ≡ Ok q → winner_of q.frame q.state ≡ None
 unfolding problem_of
-problem_open ns q h = let made = step_made (begin_record ns) _ q h in open_nodes made.0 ns q made.2
+problem_open ns q h = let made = step_made (empty_game_for_nodes ns) _ q h in open_nodes made.0 ns q made.2

@@ -17,7 +17,7 @@ use Rattle.tt_game.specs.declared.faults.GameFault.TheVariants.{NoTarget}
 use Rattle.tt_game.specs.declared.records.GameSoFar.{GameSoFar}
 use Rattle.tt_game.specs.Nodes.{TR, has, move_count, set_named}
 use Rattle.tt_game.specs.Records.{and_then, step_node}
-use Rattle.tt_game.specs.Problems.{nodes_before_solution, puts_stones, region_of, problem_of_sets, problem_at_targets}
+use Rattle.tt_game.specs.Problems.{node_count_before_solution, adds_stones, region_of, problem_of_sets, problem_at_targets}
 
 -- what a value covers is on the board
 covered_on : (size : Size) (e : Option _) (q : ℕ) → rectangle_covers size e q ≡ true → q < point_count size
@@ -66,16 +66,16 @@ mark-here s t n ns h on =
 
 -- ---- the nodes in front of a solution
 
-pub asked_nil : (up : Bool) → nodes_before_solution up [] ≡ 0
-unfolding nodes_before_solution
+pub asked_nil : (up : Bool) → node_count_before_solution up [] ≡ 0
+unfolding node_count_before_solution
 asked_nil up = refl
 
 -- a solution begins
-pub asked_stop : (up : Bool) (n : Node) (ns : List Node) → (up && nat_le 1 (move_count n)) ≡ true → nodes_before_solution up (n ∷ ns) ≡ 0
-unfolding nodes_before_solution
+pub asked_stop : (up : Bool) (n : Node) (ns : List Node) → (up && nat_le 1 (move_count n)) ≡ true → node_count_before_solution up (n ∷ ns) ≡ 0
+unfolding node_count_before_solution
 asked_stop up n ns h = rw h refl
 
 -- or it doesn't yet
-pub asked_step : (up : Bool) (n : Node) (ns : List Node) → (up && nat_le 1 (move_count n)) ≡ false → nodes_before_solution up (n ∷ ns) ≡ suc (nodes_before_solution (up || puts_stones n) ns)
-unfolding nodes_before_solution
+pub asked_step : (up : Bool) (n : Node) (ns : List Node) → (up && nat_le 1 (move_count n)) ≡ false → node_count_before_solution up (n ∷ ns) ≡ suc (node_count_before_solution (up || adds_stones n) ns)
+unfolding node_count_before_solution
 asked_step up n ns h = rw h refl

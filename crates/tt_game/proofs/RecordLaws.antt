@@ -22,7 +22,7 @@ use Rattle.tt_board.specs.declared.Colour.TheVariants.{Black, White}
 use Rattle.tt_board.specs.Position.{Colouring}
 use Rattle.tt_board.specs.Reach.{entry_at}
 use Rattle.tt_board.specs.Play.{is_empty, same_colour}
-use Rattle.tt_board.specs.Stones.{Points, any_empty}
+use Rattle.tt_board.specs.Stones.{PointNumberSet, any_empty}
 use Rattle.tt_board.specs.Setup.{placed}
 use Rattle.tt_game.specs.declared.faults.GameFault.{GameFault}
 use Rattle.tt_game.specs.declared.faults.GameFault.TheVariants.{NoTarget}
@@ -36,12 +36,12 @@ use Rattle.tt_game.specs.Games.{GameState, game_colourings, begun_with, empty_ga
 use Rattle.tt_game.specs.Superko.{repeats, repeats_is_exact}
 use Rattle.tt_game.specs.Line.{LineWithUndo}
 use Rattle.tt_game.specs.Nodes.{AB, AE, AW, B, GM, PL, SZ, TR, W, apart, mover_of_values, has, is_go, is_setup, move_count, set_named, size_or_default, values_of}
-use Rattle.tt_game.specs.Problems.{common_colour, posed_problem, problem_of_sets, problem_of, problem_on, problem_with, region_of, problem_at_targets}
-use Rattle.tt_game.specs.Records.{all_have_liberties, and_then, as_turn, begin_at, begin_record, begin_node, game_after_setup, turn_or_fault, play_node_move, record_at, record_of, run_nodes, set_up_by, step_node}
+use Rattle.tt_game.specs.Problems.{common_colour, posed_problem, problem_of_sets, problem_of, problem_if_targets_valid, problem_if_one_colour, region_of, problem_at_targets}
+use Rattle.tt_game.specs.Records.{all_have_liberties, and_then, as_turn, begin_with_size, empty_game_for_nodes, empty_game_for_root, game_after_setup, turn_or_fault, play_node_move, record_of_game, record_of, apply_nodes, set_up_by, step_node}
 use Rattle.tt_game.specs.Records.{play_turn_by, play_named_turn, play_next_turn}
 use Rattle.tt_game.specs.RecordLaws.{UnmarkedAreNoProblems}
-use Rattle.tt_game.specs.RecordLaws.{ArePlays, IsByTheRules, IsRefusalOfFirstNode, IsPlay, FirstRefusalDecides, ProblemsAreGames, RefusalsCarryToProblems, RecordsAreGames, SetupsBeginHistories, SuperkoDecides}
-use Rattle.tt_game.specs.Turns.{IsOnBoard}
+use Rattle.tt_game.specs.RecordLaws.{AreMadeByPlays, IsByTheRules, IsFirstRefusal, IsMadeByPlay, FirstRefusalDecides, ProblemsAreGames, RefusalsCarryToProblems, RecordsAreGames, SetupsBeginHistories, RepeatsTestIsExact}
+use Rattle.tt_game.specs.Turns.{IsTurnOnBoardOfSize}
 use Rattle.tt_game.proofs.OpenProblems.{step_made}
 
 -- ---- choices
@@ -60,11 +60,11 @@ step_refused (Err c) f e h = inl (let same : c ≡ e = cc in ap Err same)
 -- ---- plays
 
 -- the test of superko is true exactly where the colouring is in the history
-pub superko_decides : SuperkoDecides
-superko_decides h c = ((repeats_is_exact h c).0, (repeats_is_exact h c).1)
+pub repeats_test_is_exact : RepeatsTestIsExact
+repeats_test_is_exact h c = ((repeats_is_exact h c).0, (repeats_is_exact h c).1)
 
 -- one more play behind a history of plays
-plays_on : (size : Size) (h : List Colouring) (c d : Colouring) → ArePlays size (h ++ c ∷ []) → IsPlay size c d → ArePlays size ((h ++ c ∷ []) ++ d ∷ [])
+plays_on : (size : Size) (h : List Colouring) (c d : Colouring) → AreMadeByPlays size (h ++ c ∷ []) → IsMadeByPlay size c d → AreMadeByPlays size ((h ++ c ∷ []) ++ d ∷ [])
 plays_on size [] c d are play = (play, tt)
 plays_on size (a ∷ []) c d are play = (are.0, (play, tt))
 plays_on size (a ∷ b ∷ h) c d are play = (are.0, plays_on size (b ∷ h) c d are.1 play)
@@ -130,7 +130,7 @@ turn_made r t q e = elim (choice (r.game.passes == 2) _ _ _ e) [
     gone (Some why) h = let bad : Err _ ≡ Ok q = h in cc
 
 -- a lawful turn keeps a history by the rules and the count within 2,000
-goes_on : (r : GameSoFar) (t : Turn) → IsOnBoard r.game.size t → refusal_of r.game t ≡ None → r.turns < 2000 → GoesOn r (after_turn r t)
+goes_on : (r : GameSoFar) (t : Turn) → IsTurnOnBoardOfSize r.game.size t → refusal_of r.game t ≡ None → r.turns < 2000 → GoesOn r (after_turn r t)
 goes_on r Pass on taken few = record { lawful = λ h. (h.0, omega (arith, few)); grows = inl refl }
 goes_on r (Play p) on taken few =
     let s = r.game in
@@ -147,11 +147,11 @@ goes_on r (Play p) on taken few =
     }
 
 -- so does a turn that was taken
-one_turn : (r : GameSoFar) (t : Turn) (q : GameSoFar) → IsOnBoard r.game.size t → play_next_turn r t ≡ Ok q → GoesOn r q
+one_turn : (r : GameSoFar) (t : Turn) (q : GameSoFar) → IsTurnOnBoardOfSize r.game.size t → play_next_turn r t ≡ Ok q → GoesOn r q
 one_turn r t q on e = let made = turn_made r t q e in subst (λ (x : GameSoFar). GoesOn r x) made.2 (goes_on r t on made.0 made.1)
 
 -- and a turn of a colour, with the pass before it where that is needed
-turns_by : (r : GameSoFar) (k : Colour) (t : Turn) (q : GameSoFar) → IsOnBoard r.game.size t → play_turn_by r k t ≡ Ok q → GoesOn r q
+turns_by : (r : GameSoFar) (k : Colour) (t : Turn) (q : GameSoFar) → IsTurnOnBoardOfSize r.game.size t → play_turn_by r k t ≡ Ok q → GoesOn r q
 turns_by r k t q on e = elim (choice (same_colour r.game.to_move k) _ _ _ e) [
   | inl its ↦ one_turn r t q on its.1
   | inr others ↦
@@ -175,7 +175,7 @@ place_on size c d p e = elim (choice ((nat_le 97 c && nat_lt (c - 97) size.colum
 ]
 
 -- a value's turn is on the board
-value_on : (size : Size) (text : List ℕ) (v : PointOrPass) → point_of size text ≡ Some v → IsOnBoard size (as_turn v)
+value_on : (size : Size) (text : List ℕ) (v : PointOrPass) → point_of size text ≡ Some v → IsTurnOnBoardOfSize size (as_turn v)
 unfolding point_of
 value_on size text values.Pass e = tt
 value_on size [] (On p) e = let bad : Some values.Pass ≡ Some (On p) = e in cc
@@ -216,7 +216,7 @@ begun_anew r c k q e = elim (choice (all_have_liberties r.game.size c) _ _ _ e) 
 ]
 
 -- so do sets put over the board
-set_up_anew : (r : GameSoFar) (black white bare : Option Points) (k : Option Colour) (q : GameSoFar) → set_up_by r black white bare k ≡ Ok q → BeginsAnew r q
+set_up_anew : (r : GameSoFar) (black white bare : Option PointNumberSet) (k : Option Colour) (q : GameSoFar) → set_up_by r black white bare k ≡ Ok q → BeginsAnew r q
 set_up_anew r None white bare k q e = let bad : Err _ ≡ Ok q = e in cc
 set_up_anew r (Some black) None bare k q e = let bad : Err _ ≡ Ok q = e in cc
 set_up_anew r (Some black) (Some white) None k q e = let bad : Err _ ≡ Ok q = e in cc
@@ -254,23 +254,23 @@ node_lawful : (r : GameSoFar) (n : Node) (q : GameSoFar) → step_node r n ≡ O
 node_lawful r n q e h = elim (node_does r n q e) [ inl setup ↦ setup.1.lawful h | inr move ↦ move.1.lawful h ]
 
 -- so do nodes one after another
-run_lawful : (r : GameSoFar) (ns : List Node) (q : GameSoFar) → run_nodes r ns ≡ Ok q → IsLawful r → IsLawful q
-unfolding run_nodes
+run_lawful : (r : GameSoFar) (ns : List Node) (q : GameSoFar) → apply_nodes r ns ≡ Ok q → IsLawful r → IsLawful q
+unfolding apply_nodes
 run_lawful r [] q e h = let same : r ≡ q = cc in subst IsLawful same h
 run_lawful r (n ∷ ns) q e h =
     let made = step_made (step_node r n) _ q e in
     run_lawful made.0 ns q made.2 (node_lawful r n made.0 made.1 h)
 
 -- the empty board begins a history by the rules
-empty_lawful : (o : Option Size) (q : GameSoFar) → begin_at o ≡ Ok q → IsLawful q
+empty_lawful : (o : Option Size) (q : GameSoFar) → begin_with_size o ≡ Ok q → IsLawful q
 empty_lawful None q e = let bad : Err _ ≡ Ok q = e in cc
 empty_lawful (Some size) q e =
     let same : record { game = empty_game size; turns = 0 } ≡ q = cc in
     subst IsLawful same (alone size (empty_game size).present, omega arith)
 
 -- a line begins with a history by the rules
-begin_lawful : (ns : List Node) (q : GameSoFar) → begin_record ns ≡ Ok q → IsLawful q
-unfolding begin_node
+begin_lawful : (ns : List Node) (q : GameSoFar) → empty_game_for_nodes ns ≡ Ok q → IsLawful q
+unfolding empty_game_for_root
 begin_lawful [] q e = empty_lawful (sized 19 19) q e
 begin_lawful (n ∷ ns) q e = elim (choice (is_go (values_of GM n.properties)) _ _ _ e) [
   | inl go ↦ empty_lawful (size_or_default (values_of SZ n.properties)) q go.1
@@ -280,7 +280,7 @@ begin_lawful (n ∷ ns) q e = elim (choice (is_go (values_of GM n.properties)) _
 -- the history of a record's game is by the rules
 pub records_are_games : RecordsAreGames
 records_are_games ns r e =
-    let made = step_made (begin_record ns) _ r e in
+    let made = step_made (empty_game_for_nodes ns) _ r e in
     run_lawful made.0 ns r made.2 (begin_lawful ns made.0 made.1)
 
 -- ---- problems
@@ -291,14 +291,14 @@ record IsOfGame (s : GameState) (q : LineWithUndo) : Type 0 where
   history : game_colourings s ≡ history q.state
 
 -- a problem posed in a game has that game's history and size
-of_game_with : (s : GameState) (region targets : Points) (o : Option Colour) (q : LineWithUndo) → problem_with s region targets o ≡ Ok q → IsOfGame s q
+of_game_with : (s : GameState) (region targets : PointNumberSet) (o : Option Colour) (q : LineWithUndo) → problem_if_one_colour s region targets o ≡ Ok q → IsOfGame s q
 of_game_with s region targets None q e = let bad : Err _ ≡ Ok q = e in cc
 of_game_with s region targets (Some k) q e =
     let same : posed_problem s region targets k ≡ q = cc in
     subst (λ (x : LineWithUndo). IsOfGame s x) same (record { size = refl; history = refl })
 
 -- so has one posed on sets
-of_game_on : (s : GameState) (region targets : Points) (q : LineWithUndo) → problem_on s region targets ≡ Ok q → IsOfGame s q
+of_game_on : (s : GameState) (region targets : PointNumberSet) (q : LineWithUndo) → problem_if_targets_valid s region targets ≡ Ok q → IsOfGame s q
 of_game_on s region targets q e = elim (choice (nat_eq (set.len targets) 0) _ _ _ e) [
   | inl none ↦ let bad : Err _ ≡ Ok q = none.1 in cc
   | inr some ↦ elim (choice (any_empty targets s.present) _ _ _ some.1) [
@@ -308,7 +308,7 @@ of_game_on s region targets q e = elim (choice (nat_eq (set.len targets) 0) _ _ 
 ]
 
 -- and one of sets that a node names
-of_game : (s : GameState) (targets region : Option Points) (q : LineWithUndo) → problem_of_sets s targets region ≡ Ok q → IsOfGame s q
+of_game : (s : GameState) (targets region : Option PointNumberSet) (q : LineWithUndo) → problem_of_sets s targets region ≡ Ok q → IsOfGame s q
 of_game s None region q e = let bad : Err _ ≡ Ok q = e in cc
 of_game s (Some targets) None q e = let bad : Err _ ≡ Ok q = e in cc
 of_game s (Some targets) (Some region) q e = of_game_on s region targets q e
@@ -332,7 +332,7 @@ mark_lawful r (n ∷ ns) q e h =
 pub problems_are_games : ProblemsAreGames
 unfolding problem_of
 problems_are_games ns q e =
-    let made = step_made (begin_record ns) _ q e in
+    let made = step_made (empty_game_for_nodes ns) _ q e in
     mark_lawful made.0 ns q made.2 (begin_lawful ns made.0 made.1)
 
 -- ---- refusals
@@ -344,12 +344,12 @@ record StopsAt (r : GameSoFar) (ns : List Node) (e : GameFault) : Type 0 where
   behind : List Node
   last : GameSoFar
   parts : ns ≡ front ++ node ∷ behind
-  taken : run_nodes r front ≡ Ok last
+  taken : apply_nodes r front ≡ Ok last
   refused : step_node last node ≡ Err e
 
 -- a refused run stops at a node: the ones before it came to something, and it was refused
-stops_at : (r : GameSoFar) (ns : List Node) (e : GameFault) → run_nodes r ns ≡ Err e → StopsAt r ns e
-unfolding run_nodes
+stops_at : (r : GameSoFar) (ns : List Node) (e : GameFault) → apply_nodes r ns ≡ Err e → StopsAt r ns e
+unfolding apply_nodes
 stops_at r [] e h = let bad : Ok r ≡ Err e = h in cc
 stops_at r (n ∷ ns) e h = elim (step_refused (step_node r n) _ e h) [
   | inl here ↦ record { front = []; node = n; behind = ns; last = r; parts = refl; taken = refl; refused = here }
@@ -361,33 +361,33 @@ stops_at r (n ∷ ns) e h = elim (step_refused (step_node r n) _ e h) [
         behind = later.behind;
         last = later.last;
         parts = ap (λ (x : List Node). n ∷ x) later.parts;
-        taken = ap (λ x. and_then x (λ q. run_nodes q later.front)) on.1 ∙ later.taken;
+        taken = ap (λ x. and_then x (λ q. apply_nodes q later.front)) on.1 ∙ later.taken;
         refused = later.refused;
       }
 ]
 
 -- a run over nodes goes on from what the first of them came to
-run_on : (r : GameSoFar) (front ns : List Node) (q : GameSoFar) → run_nodes r front ≡ Ok q → run_nodes r (front ++ ns) ≡ run_nodes q ns
-unfolding run_nodes
-run_on r [] ns q e = let same : r ≡ q = cc in ap (λ (x : GameSoFar). run_nodes x ns) same
+run_on : (r : GameSoFar) (front ns : List Node) (q : GameSoFar) → apply_nodes r front ≡ Ok q → apply_nodes r (front ++ ns) ≡ apply_nodes q ns
+unfolding apply_nodes
+run_on r [] ns q e = let same : r ≡ q = cc in ap (λ (x : GameSoFar). apply_nodes x ns) same
 run_on r (n ∷ front) ns q e =
     let made = step_made (step_node r n) _ q e in
-    ap (λ x. and_then x (λ s. run_nodes s (front ++ ns))) made.1 ∙ run_on made.0 front ns q made.2
+    ap (λ x. and_then x (λ s. apply_nodes s (front ++ ns))) made.1 ∙ run_on made.0 front ns q made.2
 
 -- a node that is refused ends a run
-ends_run : (q : GameSoFar) (n : Node) (ns : List Node) (e : GameFault) → step_node q n ≡ Err e → run_nodes q (n ∷ ns) ≡ Err e
-unfolding run_nodes
-ends_run q n ns e h = ap (λ x. and_then x (λ s. run_nodes s ns)) h
+ends_run : (q : GameSoFar) (n : Node) (ns : List Node) (e : GameFault) → step_node q n ≡ Err e → apply_nodes q (n ∷ ns) ≡ Err e
+unfolding apply_nodes
+ends_run q n ns e h = ap (λ x. and_then x (λ s. apply_nodes s ns)) h
 
 -- the record of nodes, where the begin of the line is known
-record_begun : (ns : List Node) (r : GameSoFar) → begin_record ns ≡ Ok r → record_of ns ≡ and_then (run_nodes r ns) (λ q. Ok (record_at q.game))
+record_begun : (ns : List Node) (r : GameSoFar) → empty_game_for_nodes ns ≡ Ok r → record_of ns ≡ and_then (apply_nodes r ns) (λ q. Ok (record_of_game q.game))
 unfolding record_of
-record_begun ns r e = ap (λ x. and_then x (λ s. and_then (run_nodes s ns) (λ q. Ok (record_at q.game)))) e
+record_begun ns r e = ap (λ x. and_then x (λ s. and_then (apply_nodes s ns) (λ q. Ok (record_of_game q.game)))) e
 
 -- a record that isn't begun is refused
-never_begun : (ns : List Node) (e : GameFault) → begin_record ns ≡ Err e → record_of ns ≡ Err e
+never_begun : (ns : List Node) (e : GameFault) → empty_game_for_nodes ns ≡ Err e → record_of ns ≡ Err e
 unfolding record_of
-never_begun ns e h = ap (λ x. and_then x (λ s. and_then (run_nodes s ns) (λ q. Ok (record_at q.game)))) h
+never_begun ns e h = ap (λ x. and_then x (λ s. and_then (apply_nodes s ns) (λ q. Ok (record_of_game q.game)))) h
 
 -- the board of a line that names no size
 common_size : Size
@@ -395,28 +395,28 @@ common_size = record { columns = 19; rows = 19; columns_in = (omega arith, omega
 
 -- the record without a node
 empty_record : (r : Record) × (record_of [] ≡ Ok r)
-unfolding record_of run_nodes common_size
-empty_record = (record_at (empty_game common_size), ap (λ o. and_then (begin_at o) (λ r. and_then (run_nodes r []) (λ q. Ok (record_at q.game)))) (sized_returns_size common_size))
+unfolding record_of apply_nodes common_size
+empty_record = (record_of_game (empty_game common_size), ap (λ o. and_then (begin_with_size o) (λ r. and_then (apply_nodes r []) (λ q. Ok (record_of_game q.game)))) (sized_returns_size common_size))
 
 -- a line without a node is never refused
 never_empty : (e : GameFault) → record_of [] ≡ Err e → ⊥
 never_empty e h = let r = empty_record in let bad : Ok r.0 ≡ Err e = sym r.1 ∙ h in cc
 
 -- a line begins by its first node alone
-begins_alike : (front : List Node) (n : Node) (ns others : List Node) → begin_record (front ++ n ∷ others) ≡ begin_record (front ++ n ∷ ns)
+begins_alike : (front : List Node) (n : Node) (ns others : List Node) → empty_game_for_nodes (front ++ n ∷ others) ≡ empty_game_for_nodes (front ++ n ∷ ns)
 begins_alike [] n ns others = refl
 begins_alike (m ∷ front) n ns others = refl
 
 -- the nodes before a refused one are a record
-front_taken : (front : List Node) (n : Node) (ns : List Node) (r q : GameSoFar) → begin_record (front ++ n ∷ ns) ≡ Ok r → run_nodes r front ≡ Ok q → (s : Record) × (record_of front ≡ Ok s)
+front_taken : (front : List Node) (n : Node) (ns : List Node) (r q : GameSoFar) → empty_game_for_nodes (front ++ n ∷ ns) ≡ Ok r → apply_nodes r front ≡ Ok q → (s : Record) × (record_of front ≡ Ok s)
 front_taken [] n ns r q begins runs = empty_record
 front_taken (m ∷ front) n ns r q begins runs =
-    (record_at q.game, record_begun (m ∷ front) r begins ∙ ap (λ x. and_then x (λ s. Ok (record_at s.game))) runs)
+    (record_of_game q.game, record_begun (m ∷ front) r begins ∙ ap (λ x. and_then x (λ s. Ok (record_of_game s.game))) runs)
 
 -- where a run stops, the record stops
-least_of : (ns : List Node) (r : GameSoFar) (e : GameFault) → begin_record ns ≡ Ok r → StopsAt r ns e → IsRefusalOfFirstNode ns e
+least_of : (ns : List Node) (r : GameSoFar) (e : GameFault) → empty_game_for_nodes ns ≡ Ok r → StopsAt r ns e → IsFirstRefusal ns e
 least_of ns r e begins stop =
-    let begins_so : begin_record (stop.front ++ stop.node ∷ stop.behind) ≡ Ok r = ap begin_record (sym stop.parts) ∙ begins in
+    let begins_so : empty_game_for_nodes (stop.front ++ stop.node ∷ stop.behind) ≡ Ok r = ap empty_game_for_nodes (sym stop.parts) ∙ begins in
     let taken = front_taken stop.front stop.node stop.behind r stop.last begins_so stop.taken in
     record {
       front = stop.front;
@@ -428,24 +428,24 @@ least_of ns r e begins stop =
       refused = λ others.
           let run = run_on r stop.front (stop.node ∷ others) stop.last stop.taken ∙ ends_run stop.last stop.node others e stop.refused in
           record_begun (stop.front ++ stop.node ∷ others) r (begins_alike stop.front stop.node stop.behind others ∙ begins_so)
-          ∙ ap (λ x. and_then x (λ s. Ok (record_at s.game))) run;
+          ∙ ap (λ x. and_then x (λ s. Ok (record_of_game s.game))) run;
     }
 
 -- a record is refused before its first node, or by a run
-refused_by : (ns : List Node) (e : GameFault) → record_of ns ≡ Err e → (begin_record ns ≡ Err e) ⊎ ((r : GameSoFar) × (begin_record ns ≡ Ok r) × (run_nodes r ns ≡ Err e))
+refused_by : (ns : List Node) (e : GameFault) → record_of ns ≡ Err e → (empty_game_for_nodes ns ≡ Err e) ⊎ ((r : GameSoFar) × (empty_game_for_nodes ns ≡ Ok r) × (apply_nodes r ns ≡ Err e))
 unfolding record_of
-refused_by ns e h = elim (step_refused (begin_record ns) _ e h) [
+refused_by ns e h = elim (step_refused (empty_game_for_nodes ns) _ e h) [
   | inl never ↦ inl never
-  | inr on ↦ elim (step_refused (run_nodes on.0 ns) _ e on.2) [
+  | inr on ↦ elim (step_refused (apply_nodes on.0 ns) _ e on.2) [
     | inl stops ↦ inr (on.0, on.1, stops)
-    | inr ends ↦ let bad : Ok (record_at ends.0.game) ≡ Err e = ends.2 in cc
+    | inr ends ↦ let bad : Ok (record_of_game ends.0.game) ≡ Err e = ends.2 in cc
   ]
 ]
 
 -- a refusal is that of the record's least node that has one
-pub least_nodes_refuse : FirstRefusalDecides
-least_nodes_refuse [] e h = absurd (never_empty e h)
-least_nodes_refuse (m ∷ ms) e h = elim (refused_by (m ∷ ms) e h) [
+pub first_refusal_decides : FirstRefusalDecides
+first_refusal_decides [] e h = absurd (never_empty e h)
+first_refusal_decides (m ∷ ms) e h = elim (refused_by (m ∷ ms) e h) [
   | inl never ↦ record {
     front = [];
     node = m;
@@ -459,8 +459,8 @@ least_nodes_refuse (m ∷ ms) e h = elim (refused_by (m ∷ ms) e h) [
 ]
 
 -- a run that is refused before a mark is refused on the way to the mark
-mark_refused : (r : GameSoFar) (ns behind : List Node) (e : GameFault) → All (λ n. has TR n ≡ false) ns → run_nodes r ns ≡ Err e → problem_at_targets r (ns ++ behind) ≡ Err e
-unfolding run_nodes problem_at_targets
+mark_refused : (r : GameSoFar) (ns behind : List Node) (e : GameFault) → All (λ n. has TR n ≡ false) ns → apply_nodes r ns ≡ Err e → problem_at_targets r (ns ++ behind) ≡ Err e
+unfolding apply_nodes problem_at_targets
 mark_refused r [] behind e unmarked h = let bad : Ok r ≡ Err e = h in cc
 mark_refused r (n ∷ ns) behind e unmarked h =
     let go = λ (q : GameSoFar). cond (has TR n) (problem_of_sets q.game (set_named q.game.size TR n) (region_of q.game.size n)) (problem_at_targets q (ns ++ behind)) in
@@ -484,8 +484,8 @@ refusals_carry_to_problems (m ∷ ms) behind e unmarked h =
     ]
 
 -- nodes without a mark come to the end of the way to the mark
-mark_missing : (r q : GameSoFar) (ns : List Node) → All (λ n. has TR n ≡ false) ns → run_nodes r ns ≡ Ok q → problem_at_targets r ns ≡ Err NoTarget
-unfolding run_nodes problem_at_targets
+mark_missing : (r q : GameSoFar) (ns : List Node) → All (λ n. has TR n ≡ false) ns → apply_nodes r ns ≡ Ok q → problem_at_targets r ns ≡ Err NoTarget
+unfolding apply_nodes problem_at_targets
 mark_missing r q [] unmarked h = refl
 mark_missing r q (n ∷ ns) unmarked h =
     let go = λ (x : GameSoFar). cond (has TR n) (problem_of_sets x.game (set_named x.game.size TR n) (region_of x.game.size n)) (problem_at_targets x ns) in
@@ -498,5 +498,5 @@ mark_missing r q (n ∷ ns) unmarked h =
 pub unmarked_are_no_problems : UnmarkedAreNoProblems
 unfolding problem_of
 unmarked_are_no_problems nodes r unmarked h =
-    let on = step_made (begin_record nodes) _ r h in
+    let on = step_made (empty_game_for_nodes nodes) _ r h in
     ap (λ x. and_then x (λ q. problem_at_targets q nodes)) on.1 ∙ mark_missing on.0 r nodes unmarked on.2

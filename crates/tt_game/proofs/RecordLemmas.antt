@@ -13,15 +13,15 @@ use Rattle.tt_board.specs.Play.{is_empty}
 use Rattle.tt_board.specs.Setup.{AllHaveLiberties, IsLeastWithoutLiberty}
 use Rattle.tt_game.specs.Superko.{repeats, repeats_is_exact}
 use Rattle.tt_game.specs.declared.records.GameSoFar.{GameSoFar}
-use Rattle.tt_game.specs.Records.{have_liberties_below, all_have_liberties, run_nodes, step_node, and_then}
+use Rattle.tt_game.specs.Records.{have_liberties_below, all_have_liberties, apply_nodes, step_node, and_then}
 use Rattle.tt_game.specs.declared.faults.GameFault.{GameFault}
 use Rattle.tt_sgf.specs.declared.nodes.Node.{Node}
 use Rattle.std.specs.Prelude.{Ok, Err}
-use Rattle.tt_game.specs.GameHistory.{HasBeen}
+use Rattle.tt_game.specs.GameHistory.{IsInHistory}
 use Rattle.tt_game.proofs.FrameLemmas.{bools}
 
 -- the test of a repeat is what says exactly whether the colouring has been
-pub been_is : (h : List (List (Option Colour))) (c : List (Option Colour)) (r : Bool) → (IsTrue r → HasBeen h c) × (HasBeen h c → IsTrue r) → r ≡ repeats h c
+pub been_is : (h : List (List (Option Colour))) (c : List (Option Colour)) (r : Bool) → (IsTrue r → IsInHistory h c) × (IsInHistory h c → IsTrue r) → r ≡ repeats h c
 been_is h c r told = bools r (repeats h c) (λ y. (repeats_is_exact h c).1 (told.0 y)) (λ y. told.1 ((repeats_is_exact h c).0 y))
 
 -- a point whose stone, if any, reaches empty passes the test
@@ -77,14 +77,14 @@ pub counted_two : (a b : ℕ) → leb 2 (min 2 a + min 2 b) ≡ leb 2 (a + b)
 counted_two a b = counted 2 a b (omega arith)
 
 -- a run over nodes: at its end what it came to, on from a node, and up to a refused one
-pub run-nil : (s : GameSoFar) → run_nodes s [] ≡ Ok s
-unfolding run_nodes
+pub run-nil : (s : GameSoFar) → apply_nodes s [] ≡ Ok s
+unfolding apply_nodes
 run-nil s = refl
 
-pub run-step : (s t : GameSoFar) (n : Node) (ns : List Node) → step_node s n ≡ Ok t → run_nodes s (n ∷ ns) ≡ run_nodes t ns
-unfolding run_nodes
-run-step s t n ns e = ap (λ r. and_then r (λ x. run_nodes x ns)) e
+pub run-step : (s t : GameSoFar) (n : Node) (ns : List Node) → step_node s n ≡ Ok t → apply_nodes s (n ∷ ns) ≡ apply_nodes t ns
+unfolding apply_nodes
+run-step s t n ns e = ap (λ r. and_then r (λ x. apply_nodes x ns)) e
 
-pub run-stop : (s : GameSoFar) (e : GameFault) (n : Node) (ns : List Node) → step_node s n ≡ Err e → run_nodes s (n ∷ ns) ≡ Err e
-unfolding run_nodes
-run-stop s e n ns h = ap (λ r. and_then r (λ x. run_nodes x ns)) h
+pub run-stop : (s : GameSoFar) (e : GameFault) (n : Node) (ns : List Node) → step_node s n ≡ Err e → apply_nodes s (n ∷ ns) ≡ Err e
+unfolding apply_nodes
+run-stop s e n ns h = ap (λ r. and_then r (λ x. apply_nodes x ns)) h

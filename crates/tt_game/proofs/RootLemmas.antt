@@ -8,7 +8,7 @@ use Rattle.tt_game.specs.declared.frame.Side.{Side}
 use Rattle.tt_game.specs.declared.line.Undo.{Undo}
 use Rattle.tt_game.specs.declared.line.Undo.TheVariants.{UndoPlay, UndoPass}
 use Rattle.tt_game.specs.Game.{State, history, opponent}
-use Rattle.tt_game.specs.GameHistory.{GameHistory, so_far, colourings, with_colouring, with_pass}
+use Rattle.tt_game.specs.GameHistory.{GameHistory, so_far, colourings, with_next_colouring, with_pass}
 use Rattle.tt_game.specs.inside.Undoing.{game_history_of, state_at, undone, board_on, last, IsUndoable}
 use Rattle.tt_game.specs.inside.Roots.{BoardsBegin, AreRooted}
 use Rattle.tt_game.specs.laws.Members.{IsIn, in_of_contains, contains_of_in}
@@ -44,7 +44,7 @@ same_state xs ys x y a b n m e f g h = cc
 before_pass : (c : GameHistory) (side : Side) → undone (state_at (with_pass c) (opponent side)) UndoPass ≡ state_at c side
 before_pass c side = same_state c.earlier c.earlier c.present c.present _ side _ c.passes refl refl (twice side) (omega arith)
 
-before_play : (c : GameHistory) (side : Side) (next : Colouring) → undone (state_at (with_colouring c next) (opponent side)) (UndoPlay c.passes) ≡ state_at c side
+before_play : (c : GameHistory) (side : Side) (next : Colouring) → undone (state_at (with_next_colouring c next) (opponent side)) (UndoPlay c.passes) ≡ state_at c side
 before_play c side next = same_state _ c.earlier _ c.present _ side c.passes c.passes (front_push c.earlier c.present) (last_push c.earlier c.present) (twice side) refl
 
 -- a pass keeps the histories
@@ -56,9 +56,9 @@ rooted_pass bs c side ps r =
 
 -- a play goes on with them
 pub rooted_play : (bs : List Position) (c : GameHistory) (side : Side) (ps : List Undo) (next : Colouring) → AreRooted bs (state_at c side) (reverse ps)
-    → AreRooted bs (state_at (with_colouring c next) (opponent side)) (reverse (ps ++ UndoPlay c.passes ∷ []))
+    → AreRooted bs (state_at (with_next_colouring c next) (opponent side)) (reverse (ps ++ UndoPlay c.passes ∷ []))
 rooted_play bs c side ps next r =
-    rooted_push bs (state_at c side) (state_at (with_colouring c next) (opponent side)) (UndoPlay c.passes) ps
+    rooted_push bs (state_at c side) (state_at (with_next_colouring c next) (opponent side)) (UndoPlay c.passes) ps
     (before_play c side next) (begins_on bs (so_far c) (next ∷ []) (rooted_here bs (state_at c side) (reverse ps) r)) r
 
 -- a pass can be undone, and so can what could before it
@@ -71,9 +71,9 @@ undoable_pass g c side ps below u =
 -- so can a play, where the board before it is kept
 pub undoable_play : (g : Size) (c : GameHistory) (side : Side) (ps : List Undo) (next : Colouring) (b : Position) (below : List Position) → c.passes ≤ 2
     → b ≡ board_on g c.present → IsUndoable g (state_at c side) (reverse ps) below
-    → IsUndoable g (state_at (with_colouring c next) (opponent side)) (reverse (ps ++ UndoPlay c.passes ∷ [])) (b ∷ below)
+    → IsUndoable g (state_at (with_next_colouring c next) (opponent side)) (reverse (ps ++ UndoPlay c.passes ∷ [])) (b ∷ below)
 undoable_play g c side ps next b below most here u =
-    subst (λ us. IsUndoable g (state_at (with_colouring c next) (opponent side)) us (b ∷ below)) (sym (reverse-append ps (UndoPlay c.passes ∷ []))) (
+    subst (λ us. IsUndoable g (state_at (with_next_colouring c next) (opponent side)) us (b ∷ below)) (sym (reverse-append ps (UndoPlay c.passes ∷ []))) (
       omega (arith, length_push c.earlier c.present),
       most,
       here ∙ ap (board_on g) (sym (last_push c.earlier c.present)),

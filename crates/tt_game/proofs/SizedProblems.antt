@@ -13,18 +13,18 @@ use Rattle.tt_board.specs.declared.Colour.{Colour}
 use Rattle.tt_board.specs.declared.Colour.TheVariants.{Black, White}
 use Rattle.tt_board.specs.Position.{Colouring}
 use Rattle.tt_board.specs.Play.{length-play_of, same_colour}
-use Rattle.tt_board.specs.Stones.{Points, any_empty}
+use Rattle.tt_board.specs.Stones.{PointNumberSet, any_empty}
 use Rattle.tt_board.specs.Setup.{length-placed, placed}
 use Rattle.tt_game.specs.declared.faults.Why.{Why}
 use Rattle.tt_game.specs.declared.records.GameSoFar.{GameSoFar}
 use Rattle.tt_game.specs.declared.turns.Turn.{Turn}
 use Rattle.tt_game.specs.declared.turns.Turn.TheVariants.{Play, Pass}
 use Rattle.tt_game.specs.Games.{GameState, game_colourings, begun_with, empty_game, colouring_after_move, refusal_of, game_after_turn}
-use Rattle.tt_game.specs.GameLaws.{IsState, ProblemsAreStates}
+use Rattle.tt_game.specs.GameLaws.{IsWellFormedState, ProblemsAreStates}
 use Rattle.tt_game.specs.Line.{LineWithUndo}
 use Rattle.tt_game.specs.Nodes.{AB, AE, AW, B, GM, PL, SZ, TR, W, apart, mover_of_values, has, is_go, is_setup, move_count, set_named, size_or_default, values_of}
-use Rattle.tt_game.specs.Problems.{common_colour, posed_problem, problem_of_sets, problem_of, problem_on, problem_with, region_of, problem_at_targets}
-use Rattle.tt_game.specs.Records.{all_have_liberties, as_turn, begin_at, begin_record, begin_node, game_after_setup, turn_or_fault, play_node_move, set_up_by, step_node, play_turn_by, play_named_turn, play_next_turn}
+use Rattle.tt_game.specs.Problems.{common_colour, posed_problem, problem_of_sets, problem_of, problem_if_targets_valid, problem_if_one_colour, region_of, problem_at_targets}
+use Rattle.tt_game.specs.Records.{all_have_liberties, as_turn, begin_with_size, empty_game_for_nodes, empty_game_for_root, game_after_setup, turn_or_fault, play_node_move, set_up_by, step_node, play_turn_by, play_named_turn, play_next_turn}
 use Rattle.tt_game.proofs.OpenProblems.{either, step_made}
 
 -- each colouring of the game has an entry for each point
@@ -87,7 +87,7 @@ sized_begun r c k q e fits = elim (either (all_have_liberties r.game.size c) _ _
 ]
 
 -- so do sets put over the board
-sized_set_up : (r : GameSoFar) (black white bare : Option Points) (k : Option Colour) (q : GameSoFar) → set_up_by r black white bare k ≡ Ok q → IsSized q.game
+sized_set_up : (r : GameSoFar) (black white bare : Option PointNumberSet) (k : Option Colour) (q : GameSoFar) → set_up_by r black white bare k ≡ Ok q → IsSized q.game
 sized_set_up r None white bare k q e = let bad : Err _ ≡ Ok q = e in cc
 sized_set_up r (Some black) None bare k q e = let bad : Err _ ≡ Ok q = e in cc
 sized_set_up r (Some black) (Some white) None k q e = let bad : Err _ ≡ Ok q = e in cc
@@ -114,15 +114,15 @@ sized_step r n q e h = elim (either (is_setup n) _ _ _ e) [
 ]
 
 -- the empty board has an entry for each point
-sized_empty : (o : Option Size) (q : GameSoFar) → begin_at o ≡ Ok q → IsSized q.game
+sized_empty : (o : Option Size) (q : GameSoFar) → begin_with_size o ≡ Ok q → IsSized q.game
 sized_empty None q e = let bad : Err _ ≡ Ok q = e in cc
 sized_empty (Some size) q e =
     let same : record { game = empty_game size; turns = 0 } ≡ q = cc in
     subst (λ (x : GameSoFar). IsSized x.game) same (alone size (replicate (point_count size) None) (length-replicate (point_count size) None))
 
 -- and so has the board with which a line begins
-sized_begin : (ns : List Node) (q : GameSoFar) → begin_record ns ≡ Ok q → IsSized q.game
-unfolding begin_node
+sized_begin : (ns : List Node) (q : GameSoFar) → empty_game_for_nodes ns ≡ Ok q → IsSized q.game
+unfolding empty_game_for_root
 sized_begin [] q e = sized_empty (sized 19 19) q e
 sized_begin (n ∷ ns) q e = elim (either (is_go (values_of GM n.properties)) _ _ _ e) [
   | inl go ↦ sized_empty (size_or_default (values_of SZ n.properties)) q go
@@ -133,16 +133,16 @@ sized_begin (n ∷ ns) q e = elim (either (is_go (values_of GM n.properties)) _ 
 
 -- the problem's state is one as the game has them
 abbrev HasState : LineWithUndo → Type 0
-HasState p = IsState p.frame p.state
+HasState p = IsWellFormedState p.frame p.state
 
 -- a problem posed in a game that fits its board has such a state
-state_with : (s : GameState) (region targets : Points) (o : Option Colour) (q : LineWithUndo) → problem_with s region targets o ≡ Ok q → IsSized s → HasState q
+state_with : (s : GameState) (region targets : PointNumberSet) (o : Option Colour) (q : LineWithUndo) → problem_if_one_colour s region targets o ≡ Ok q → IsSized s → HasState q
 state_with s region targets None q e h = let bad : Err _ ≡ Ok q = e in cc
 state_with s region targets (Some k) q e h =
     let same : posed_problem s region targets k ≡ q = cc in
     subst HasState same (record { sized = h; passes = omega arith })
 
-state_on : (s : GameState) (region targets : Points) (q : LineWithUndo) → problem_on s region targets ≡ Ok q → IsSized s → HasState q
+state_on : (s : GameState) (region targets : PointNumberSet) (q : LineWithUndo) → problem_if_targets_valid s region targets ≡ Ok q → IsSized s → HasState q
 state_on s region targets q e h = elim (either (nat_eq (set.len targets) 0) _ _ _ e) [
   | inl none ↦ let bad : Err _ ≡ Ok q = none in cc
   | inr some ↦ elim (either (any_empty targets s.present) _ _ _ some) [
@@ -151,7 +151,7 @@ state_on s region targets q e h = elim (either (nat_eq (set.len targets) 0) _ _ 
   ]
 ]
 
-state_at : (s : GameState) (targets region : Option Points) (q : LineWithUndo) → problem_of_sets s targets region ≡ Ok q → IsSized s → HasState q
+state_at : (s : GameState) (targets region : Option PointNumberSet) (q : LineWithUndo) → problem_of_sets s targets region ≡ Ok q → IsSized s → HasState q
 state_at s None region q e h = let bad : Err _ ≡ Ok q = e in cc
 state_at s (Some targets) None q e h = let bad : Err _ ≡ Ok q = e in cc
 state_at s (Some targets) (Some region) q e h = state_on s region targets q e h
@@ -172,5 +172,5 @@ state_nodes r (n ∷ ns) q e h =
 pub problem_state : ProblemsAreStates
 unfolding problem_of
 problem_state ns q e =
-    let made = step_made (begin_record ns) _ q e in
+    let made = step_made (empty_game_for_nodes ns) _ q e in
     state_nodes made.0 ns q made.2 (sized_begin ns made.0 made.1)

@@ -14,10 +14,10 @@ use Rattle.tt_game.specs.declared.frame.Side.TheVariants.{Attacker, Defender}
 use Rattle.tt_game.specs.declared.turns.Turn.{Turn}
 use Rattle.tt_game.specs.declared.turns.Turn.TheVariants.{Play, Pass}
 use Rattle.tt_game.specs.declared.frame.Frame.{Frame}
-use Rattle.tt_game.specs.Game.{State, history, winner_of, made, after, opponent, IsLegal, Forces, side_colour, longest_game}
+use Rattle.tt_game.specs.Game.{State, history, winner_of, colouring_after_play, after, opponent, IsLegal, Forces, side_colour, game_length_bound}
 use Rattle.tt_game.proofs.GameHistoryLemmas.{twice}
 use Rattle.tt_game.specs.Legality.{decide_legal}
-use Rattle.tt_game.specs.GameLaws.{IsState, SomeSideForces, TurnsKeepStates, ValuesAreForced}
+use Rattle.tt_game.specs.GameLaws.{IsWellFormedState, SomeSideForces, TurnsKeepStates, ValuesAreForced}
 use Rattle.tt_game.proofs.OneSide.{not_both}
 use Rattle.tt_game.proofs.ValueLemmas.{colourings_of, count_less, complete, length-colourings_of, new_count, is_new, is_new_says}
 
@@ -103,22 +103,22 @@ best f s n on behind =
     every (Play p) l plays its = plays p l.1 l
 
 -- a legal turn leaves a state, with less room
-smaller : (f : Frame) (s : State) (t : Turn) → IsState f s → s.passes ≢ 2 → IsLegal f s t → IsState f (after f s t) × (room f (after f s t) < room f s)
+smaller : (f : Frame) (s : State) (t : Turn) → IsWellFormedState f s → s.passes ≢ 2 → IsLegal f s t → IsWellFormedState f (after f s t) × (room f (after f s t) < room f s)
 unfolding room
 smaller f s Pass is less l =
     (record { sized = is.sized; passes = omega (arith, is.passes) }, omega (arith, is.passes))
 smaller f s (Play p) is less l =
     let fits = length-play_of f.size s.present (side_colour f s.to_move) p in
-    let fewer = fewer_new (history s) (made f s p) (point_count f.size) fits l.4 in (
+    let fewer = fewer_new (history s) (colouring_after_play f s p) (point_count f.size) fits l.4 in (
       record {
-        sized = All-push (λ c. length c ≡ point_count f.size) (history s) (made f s p) is.sized fits;
+        sized = All-push (λ c. length c ≡ point_count f.size) (history s) (colouring_after_play f s p) is.sized fits;
         passes = omega arith;
       },
       omega (arith, fewer, is.passes),
     )
 
 -- one side forces a win within the room that is left
-valued : (n : ℕ) (f : Frame) (s : State) → IsState f s → room f s ≤ n → Forces f Attacker n s ⊎ Forces f Defender n s
+valued : (n : ℕ) (f : Frame) (s : State) → IsWellFormedState f s → room f s ≤ n → Forces f Attacker n s ⊎ Forces f Defender n s
 unfolding room
 valued zero f s is enough = elim (won f s) [
   | inl w ↦ already f w.0 zero s w.1
@@ -132,7 +132,7 @@ valued (suc n) f s is enough = elim (won f s) [
 ]
 
 -- the room is at most the bound
-fits : (f : Frame) (s : State) → IsState f s → room f s ≤ longest_game f
+fits : (f : Frame) (s : State) → IsWellFormedState f s → room f s ≤ game_length_bound f
 unfolding room
 fits f s is =
     let some : 0 < length (history s) = omega (arith, length_push s.earlier s.present) in
@@ -142,7 +142,7 @@ fits f s is =
 
 -- at every state one side forces a win, within the bound
 pub some_side : SomeSideForces
-some_side f s is = valued (longest_game f) f s is (fits f s is)
+some_side f s is = valued (game_length_bound f) f s is (fits f s is)
 
 -- a legal turn leaves a state
 pub state_after : TurnsKeepStates
@@ -161,7 +161,7 @@ values_forced f s Attacker is = (
   λ v. v,
   λ n mine. elim (some_side f s is) [
     | inl a ↦ a
-    | inr d ↦ absurd (not_both n (longest_game f) f s mine d)
+    | inr d ↦ absurd (not_both n (game_length_bound f) f s mine d)
   ],
 )
 values_forced f s Defender is = (
@@ -169,5 +169,5 @@ values_forced f s Defender is = (
     | inl a ↦ absurd (v a)
     | inr d ↦ d
   ],
-  λ n mine a. not_both (longest_game f) n f s a mine,
+  λ n mine a. not_both (game_length_bound f) n f s a mine,
 )

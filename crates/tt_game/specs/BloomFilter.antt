@@ -7,7 +7,7 @@ use Rattle.tt_sgf.specs.MachineWords.{bit_in}
 use Rattle.tt_board.specs.Position.{Colouring}
 use Rattle.tt_game.specs.declared.history.bloom_filter.BloomFilter.{BloomFilter}
 use Rattle.tt_game.specs.declared.history.bloom_filter.TheConstants.{FILTER_HASH_DIVISOR, MIXER, FILTER_BITS}
-use Rattle.tt_game.specs.GameHistory.{HasBeen}
+use Rattle.tt_game.specs.GameHistory.{IsInHistory}
 use Rattle.tt_game.specs.Mixing.{mix_board}
 
 -- the hash of a colouring: what the words of both colours make, multiplied once more, since the last word was only added
@@ -20,4 +20,4 @@ MayHold s n = (d : Bits) → n / BITS < length s.rows.items → bit_in (get_or s
 
 -- the hashes of all colourings of a history were noted
 abbrev pub MayHoldAll : BloomFilter → Size → List Colouring → Type 0
-MayHoldAll s size h = (c : Colouring) → HasBeen h c → MayHold s (filter_index size c)
+MayHoldAll s size h = (c : Colouring) → IsInHistory h c → MayHold s (filter_index size c)

@@ -3,7 +3,7 @@
 use Rattle.std.specs.Prelude.{◌≡◌, ℕ, zero, suc, ◌+◌, ◌*◌, ◌^◌, ◌<◌, ◌⊎◌, List, [], ◌∷◌, ◌++◌, Option, Some, None, IsTrue, if◌then◌else◌, ◌==◌}
 use Rattle.std.specs.FinSet as set
 use Rattle.tt_board.specs.declared.Colour.{Colour}
-use Rattle.tt_board.specs.Position.{Colouring, HasBeen}
+use Rattle.tt_board.specs.Position.{Colouring, IsInHistory}
 use Rattle.tt_board.specs.Reach.{entry_at}
 use Rattle.tt_board.specs.Play.{play_of, other}
 use Rattle.tt_board.specs.Stones.{any_empty}
@@ -44,20 +44,20 @@ abbrev pub winner_of : Frame → State → Option Side
 winner_of f s = winner_on f s.present s.passes
 
 -- the colouring that a play of the side to move on p makes
-abbrev pub made : Frame → State → ℕ → Colouring
-made f s p = play_of f.size s.present (side_colour f s.to_move) p
+abbrev pub colouring_after_play : Frame → State → ℕ → Colouring
+colouring_after_play f s p = play_of f.size s.present (side_colour f s.to_move) p
 
 -- nobody has won, and the turn is a pass, or a play on an empty point of the region that repeats no colouring, the
 -- present one among them
 abbrev pub IsLegal : Frame → State → Turn → Type 0
 IsLegal f s Pass = winner_of f s ≡ None
 IsLegal f s (Play p) =
-    (winner_of f s ≡ None) × (p < point_count f.size) × (entry_at s.present p ≡ None) × IsTrue (set.contains f.region p) × (HasBeen (history s) (made f s p) → ⊥)
+    (winner_of f s ≡ None) × (p < point_count f.size) × (entry_at s.present p ≡ None) × IsTrue (set.contains f.region p) × (IsInHistory (history s) (colouring_after_play f s p) → ⊥)
 
 -- a pass appends nothing and is counted; a play appends its colouring and ends the count
 abbrev pub after : Frame → State → Turn → State
 after f s Pass = record { earlier = s.earlier; present = s.present; to_move = opponent s.to_move; passes = s.passes + 1 }
-after f s (Play p) = record { earlier = history s; present = made f s p; to_move = opponent s.to_move; passes = 0 }
+after f s (Play p) = record { earlier = history s; present = colouring_after_play f s p; to_move = opponent s.to_move; passes = 0 }
 
 -- the side can force its win within n turns
 abbrev pub Forces : Frame → Side → ℕ → State → Type 0
@@ -72,16 +72,16 @@ pub data Value : Type 0 where
   lives : Value
 
 -- twice as many turns as there are colourings of the board
-abbrev pub longest_game : Frame → ℕ
-longest_game f = 2 * 3 ^ point_count f.size
+abbrev pub game_length_bound : Frame → ℕ
+game_length_bound f = 2 * 3 ^ point_count f.size
 
 -- killed where the attacker forces a win within that many turns, else it lives. No win needs more: each play makes a new
 -- colouring, and two passes in a row end the game. Where it lives the defender forces a win: `ValuesAreForced` of GameLaws
 abbrev pub HasValue : Frame → State → Value → Type 0
-HasValue f s killed = Forces f Attacker (longest_game f) s
-HasValue f s lives = Forces f Attacker (longest_game f) s → ⊥
+HasValue f s killed = Forces f Attacker (game_length_bound f) s
+HasValue f s lives = Forces f Attacker (game_length_bound f) s → ⊥
 
 -- what a state comes to where the side wins
-abbrev pub value_for : Side → Value
-value_for Attacker = killed
-value_for Defender = lives
+abbrev pub value_won_by : Side → Value
+value_won_by Attacker = killed
+value_won_by Defender = lives

@@ -1,8 +1,8 @@
--- The history of a game, of a record or of a problem: its colourings so far, and the passes in a row. Positional superko.
+-- The history of a game, of a record or of a problem: its colourings so far, and the passes in a row.
 use Rattle.std.specs.Prelude.{ℕ, ◌+◌, List, [], ◌∷◌, ◌++◌}
 use Rattle.tt_sgf.specs.declared.size.Size.{Size}
 use Rattle.tt_board.specs.Position.{Colouring}
-pub use Rattle.tt_board.specs.Position.{colourings, HasBeen}
+pub use Rattle.tt_board.specs.Position.{colourings, IsInHistory}
 
 -- the size of the board; the colourings before the present one, oldest first; the present one; the passes in a row
 pub record GameHistory : Type 0 where
@@ -16,8 +16,8 @@ abbrev pub so_far : GameHistory → List Colouring
 so_far c = c.earlier ++ c.present ∷ []
 
 -- a play appends the colouring that it makes, and ends the count of passes
-abbrev pub with_colouring : GameHistory → Colouring → GameHistory
-with_colouring c next = record { size = c.size; earlier = so_far c; present = next; passes = 0 }
+abbrev pub with_next_colouring : GameHistory → Colouring → GameHistory
+with_next_colouring c next = record { size = c.size; earlier = so_far c; present = next; passes = 0 }
 
 -- a pass appends nothing and is counted
 abbrev pub with_pass : GameHistory → GameHistory

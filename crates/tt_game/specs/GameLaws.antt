@@ -4,7 +4,7 @@ use Rattle.tt_sgf.specs.Sizes.{point_count}
 use Rattle.tt_game.specs.declared.frame.Side.{Side}
 use Rattle.tt_game.specs.declared.frame.Side.TheVariants.{Attacker, Defender}
 use Rattle.tt_game.specs.declared.frame.Frame.{Frame}
-use Rattle.tt_game.specs.Game.{State, history, winner_of, after, IsLegal, Forces, HasValue, longest_game, value_for}
+use Rattle.tt_game.specs.Game.{State, history, winner_of, after, IsLegal, Forces, HasValue, game_length_bound, value_won_by}
 use Rattle.tt_game.specs.Line.{LineWithUndo}
 use Rattle.tt_game.specs.Problems.{problem_of}
 use Rattle.tt_sgf.specs.declared.nodes.Node.{Node}
@@ -17,26 +17,26 @@ abbrev pub AtMostOneSideForces : Type 0
 AtMostOneSideForces = (f : Frame) (s : State) (m n : ℕ) → Forces f Attacker m s → Forces f Defender n s → ⊥
 
 -- a state as the game has them: each colouring has an entry for each point, and the passes are at most two
-pub record IsState (f : Frame) (s : State) : Type 0 where
+pub record IsWellFormedState (f : Frame) (s : State) : Type 0 where
   pub sized : All (λ c. length c ≡ point_count f.size) (history s)
   pub passes : s.passes ≤ 2
 
 -- at every such state one side forces a win, within twice as many turns as there are colourings
 abbrev pub SomeSideForces : Type 0
-SomeSideForces = (f : Frame) (s : State) → IsState f s → Forces f Attacker (longest_game f) s ⊎ Forces f Defender (longest_game f) s
+SomeSideForces = (f : Frame) (s : State) → IsWellFormedState f s → Forces f Attacker (game_length_bound f) s ⊎ Forces f Defender (game_length_bound f) s
 
 -- such a state has a side's value exactly where that side forces a win, within some number of turns or within the bound
 abbrev pub ValuesAreForced : Type 0
-ValuesAreForced = (f : Frame) (s : State) (side : Side) → IsState f s
-    → (HasValue f s (value_for side) → Forces f side (longest_game f) s) × ((n : ℕ) → Forces f side n s → HasValue f s (value_for side))
+ValuesAreForced = (f : Frame) (s : State) (side : Side) → IsWellFormedState f s
+    → (HasValue f s (value_won_by side) → Forces f side (game_length_bound f) s) × ((n : ℕ) → Forces f side n s → HasValue f s (value_won_by side))
 
 -- a legal turn leads from such a state to another
 abbrev pub TurnsKeepStates : Type 0
-TurnsKeepStates = (f : Frame) (s : State) (t : Turn) → IsState f s → IsLegal f s t → IsState f (after f s t)
+TurnsKeepStates = (f : Frame) (s : State) (t : Turn) → IsWellFormedState f s → IsLegal f s t → IsWellFormedState f (after f s t)
 
 -- the list of legal turns holds the legal turns and no others, in rising order, and at most as many as a board has
-abbrev pub LegalTurnsListed : Type 0
-LegalTurnsListed = (f : Frame) (s : State) → ((t : Turn) → Contains (legal_turns f s) t ↔ IsLegal f s t) × IsRising f (legal_turns f s) × (length (legal_turns f s) ≤ MOST_LEGAL)
+abbrev pub LegalTurnsAreListed : Type 0
+LegalTurnsAreListed = (f : Frame) (s : State) → ((t : Turn) → Contains (legal_turns f s) t ↔ IsLegal f s t) × IsRising f (legal_turns f s) × (length (legal_turns f s) ≤ MOST_LEGAL)
 
 -- nobody has won at a problem
 abbrev pub ProblemsHaveNoWinner : Type 0
@@ -44,4 +44,4 @@ ProblemsHaveNoWinner = (nodes : List Node) (p : LineWithUndo) → problem_of nod
 
 -- the state of a problem is such a state
 abbrev pub ProblemsAreStates : Type 0
-ProblemsAreStates = (nodes : List Node) (p : LineWithUndo) → problem_of nodes ≡ Ok p → IsState p.frame p.state
+ProblemsAreStates = (nodes : List Node) (p : LineWithUndo) → problem_of nodes ≡ Ok p → IsWellFormedState p.frame p.state

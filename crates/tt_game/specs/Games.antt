@@ -13,7 +13,7 @@ use Rattle.tt_game.specs.declared.faults.Refused.{Refused}
 use Rattle.tt_game.specs.declared.faults.Refused.TheVariants.{Illegal, NoMemory}
 use Rattle.tt_game.specs.declared.turns.Turn.{Turn}
 use Rattle.tt_game.specs.declared.turns.Turn.TheVariants.{Play, Pass}
-use Rattle.tt_game.specs.GameHistory.{GameHistory, so_far, with_colouring, with_pass, new_game_history}
+use Rattle.tt_game.specs.GameHistory.{GameHistory, so_far, with_next_colouring, with_pass, new_game_history}
 use Rattle.tt_game.specs.Superko.{repeats}
 
 -- a game: its board's size, the colourings before the present one (oldest first), the present one, who moves, and the
@@ -30,8 +30,8 @@ abbrev pub game_history : GameState → GameHistory
 game_history s = record { size = s.size; earlier = s.earlier; present = s.present; passes = s.passes }
 
 -- the game of a history at which a colour moves
-abbrev pub game_at : GameHistory → Colour → GameState
-game_at c k = record { size = c.size; earlier = c.earlier; present = c.present; to_move = k; passes = c.passes }
+abbrev pub game_from_history : GameHistory → Colour → GameState
+game_from_history c k = record { size = c.size; earlier = c.earlier; present = c.present; to_move = k; passes = c.passes }
 
 -- every colouring so far, oldest first, the present one last
 abbrev pub game_colourings : GameState → List Colouring
@@ -52,8 +52,8 @@ refusal_of s (Play p) = cond (s.passes == 2) (Some Over) (move_refusal s p)
 
 -- the game after a turn
 abbrev pub game_after_turn : GameState → Turn → GameState
-game_after_turn s Pass = game_at (with_pass (game_history s)) (other s.to_move)
-game_after_turn s (Play p) = game_at (with_colouring (game_history s) (colouring_after_move s p)) (other s.to_move)
+game_after_turn s Pass = game_from_history (with_pass (game_history s)) (other s.to_move)
+game_after_turn s (Play p) = game_from_history (with_next_colouring (game_history s) (colouring_after_move s p)) (other s.to_move)
 
 -- an error of a push
 abbrev pub IsGamePushFailure : GameState → Turn → Refused → Type 0
@@ -62,7 +62,7 @@ IsGamePushFailure s t NoMemory = refusal_of s t ≡ None
 
 -- a game that begins with this colouring alone
 abbrev pub begun_with : Size → Colouring → Colour → GameState
-begun_with size c k = game_at (new_game_history size c) k
+begun_with size c k = game_from_history (new_game_history size c) k
 
 -- before the first turn: the empty board, and Black moves
 abbrev pub empty_game : Size → GameState

@@ -21,11 +21,11 @@ position_writes k = flat_map fed.u64 (take (words_in_use k.size) k.black) ++ fla
     ++ (side_hash.ghosts).hash_input k.to_move ++ fed.u8 k.passes
 
 -- the number of a side to move and so many passes
-abbrev pub mover_word : Side → ℕ → ℕ
-mover_word Attacker passes = passes
-mover_word Defender passes = 256 + passes
+abbrev pub mover_and_passes_word : Side → ℕ → ℕ
+mover_and_passes_word Attacker passes = passes
+mover_and_passes_word Defender passes = 256 + passes
 
 -- a number of 32 bits that other keys mostly haven't: what the words, the side to move and the passes make, multiplied once more, since
 -- the last was only added; the lowest bits of the product say little, so it is the highest
 unfoldable pub hash_of_key : Key → ℕ
-hash_of_key k = mix (mix (mix 0 k.black) k.white) (mover_word k.to_move k.passes ∷ []) * MIXER % 2 ^ 64 / 2 ^ 32
+hash_of_key k = mix (mix (mix 0 k.black) k.white) (mover_and_passes_word k.to_move k.passes ∷ []) * MIXER % 2 ^ 64 / 2 ^ 32

@@ -54,5 +54,5 @@ pub record LookAlike (f g : Frame) (s t : State) : Type 0 where
   pub passes : s.passes ≡ t.passes
 
 -- positions have one key exactly where they look alike
-abbrev pub SameKeyMeansAlike : Type 0
-SameKeyMeansAlike = (f g : Frame) (s t : State) → (key_of f s ≡ key_of g t) ↔ LookAlike f g s t
+abbrev pub SameKeyIffAlike : Type 0
+SameKeyIffAlike = (f g : Frame) (s t : State) → (key_of f s ≡ key_of g t) ↔ LookAlike f g s t

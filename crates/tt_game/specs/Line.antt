@@ -4,7 +4,7 @@ use Rattle.std.specs.FinSet as set
 use Rattle.tt_sgf.specs.Sizes.{point_count}
 use Rattle.tt_board.specs.Position.{Position}
 use Rattle.tt_board.specs.Reach.{entry_at}
-use Rattle.tt_board.specs.Stones.{LiesOn}
+use Rattle.tt_board.specs.Stones.{IsSetOnBoard}
 use Rattle.tt_game.specs.declared.faults.Why.{Why}
 use Rattle.tt_game.specs.declared.faults.Why.TheVariants.{Over, Occupied, Outside, Repeats}
 use Rattle.tt_game.specs.declared.faults.Refused.{Refused}
@@ -12,16 +12,16 @@ use Rattle.tt_game.specs.declared.faults.Refused.TheVariants.{Illegal, NoMemory}
 use Rattle.tt_game.specs.declared.frame.Frame.{Frame}
 use Rattle.tt_game.specs.declared.turns.Turn.{Turn}
 use Rattle.tt_game.specs.declared.turns.Turn.TheVariants.{Play, Pass}
-use Rattle.tt_game.specs.GameHistory.{HasBeen}
-use Rattle.tt_game.specs.Game.{State, history, winner_of, made, IsLegal, after}
+use Rattle.tt_game.specs.GameHistory.{IsInHistory}
+use Rattle.tt_game.specs.Game.{State, history, winner_of, colouring_after_play, IsLegal, after}
 
 -- a problem has some target, and all are on its board
 abbrev pub HasTargetsOnBoard : Frame → Type 0
-HasTargetsOnBoard f = (0 < set.len f.targets) × LiesOn f.size f.targets
+HasTargetsOnBoard f = (0 < set.len f.targets) × IsSetOnBoard f.size f.targets
 
 -- the play of the side to move on p, an empty point of the region, repeats a colouring of the history
 abbrev pub IsBarredBySuperko : Frame → State → ℕ → Type 0
-IsBarredBySuperko f s p = (p < point_count f.size) × (entry_at s.present p ≡ None) × IsTrue (set.contains f.region p) × HasBeen (history s) (made f s p)
+IsBarredBySuperko f s p = (p < point_count f.size) × (entry_at s.present p ≡ None) × IsTrue (set.contains f.region p) × IsInHistory (history s) (colouring_after_play f s p)
 
 -- a frame, a state, and the states before the pushes that may be undone, the last one first
 pub record LineWithUndo : Type 0 where
@@ -39,8 +39,8 @@ abbrev pub IsPositionOf : SnapshotState → Frame → State → Type 0
 IsPositionOf p f s = (p.frame ≡ f) × (s.present ≡ p.state.present) × (s.to_move ≡ p.state.to_move) × (s.passes ≡ p.state.passes)
 
 -- the history of the state has the board: it is the frame's, with a colouring that has been
-abbrev pub HasBoard : Frame → State → Position → Type 0
-HasBoard f s b = (b.size ≡ f.size) × HasBeen (history s) b.points
+abbrev pub HasBoardInHistory : Frame → State → Position → Type 0
+HasBoardInHistory f s b = (b.size ≡ f.size) × IsInHistory (history s) b.points
 
 -- why a turn is refused: the first cause that holds
 abbrev pub IsRefusal : Frame → State → Turn → Why → Type 0
@@ -51,7 +51,7 @@ IsRefusal f s Pass Outside = ⊥
 IsRefusal f s (Play p) Outside = (winner_of f s ≡ None) × (entry_at s.present p ≡ None) × (IsTrue (set.contains f.region p) → ⊥)
 IsRefusal f s Pass Repeats = ⊥
 IsRefusal f s (Play p) Repeats =
-    (winner_of f s ≡ None) × (entry_at s.present p ≡ None) × IsTrue (set.contains f.region p) × HasBeen (history s) (made f s p)
+    (winner_of f s ≡ None) × (entry_at s.present p ≡ None) × IsTrue (set.contains f.region p) × IsInHistory (history s) (colouring_after_play f s p)
 
 -- an error of a push
 abbrev pub IsPushFailure : Frame → State → Turn → Refused → Type 0

@@ -11,7 +11,7 @@ use Rattle.tt_sgf.specs.Values.{after_blanks, number_of, size_of}
 use Rattle.tt_sgf.specs.PointLists.{set_of}
 use Rattle.tt_board.specs.declared.Colour.{Colour}
 use Rattle.tt_board.specs.declared.Colour.TheVariants.{Black, White}
-use Rattle.tt_board.specs.Stones.{Points}
+use Rattle.tt_board.specs.Stones.{PointNumberSet}
 
 -- the values of all properties of this name, in order
 unfoldable pub values_of : List ℕ → List Property → List (List ℕ)
@@ -62,11 +62,11 @@ abbrev pub has : List ℕ → Node → Bool
 has name n = has_some_value (values_of name n.properties)
 
 -- the points that the property names, or none where an entry is bad
-abbrev pub set_named : Size → List ℕ → Node → Option Points
+abbrev pub set_named : Size → List ℕ → Node → Option PointNumberSet
 set_named size name n = set_of size (values_of name n.properties)
 
 -- a function returned the set that is named, or an error where an entry is bad
-abbrev pub ReadsSet : {E : Type 0} → Result Points E → Option Points → Type 0
+abbrev pub ReadsSet : {E : Type 0} → Result PointNumberSet E → Option PointNumberSet → Type 0
 ReadsSet result named = MatchResult result (λ s. named ≡ Some s) (λ _. named ≡ None)
 
 -- a colour by its first letter
@@ -80,7 +80,7 @@ mover_of_values [] = Some Black
 mover_of_values (v ∷ vs) = colour_of_letter (after_blanks v)
 
 -- no point is in both sets
-abbrev pub apart : Points → Points → Bool
+abbrev pub apart : PointNumberSet → PointNumberSet → Bool
 apart a b = set.len (set.intersection a b) == 0
 
 -- how many moves the node has, of either colour

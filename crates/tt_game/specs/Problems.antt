@@ -10,7 +10,7 @@ use Rattle.tt_board.specs.declared.Colour.{Colour}
 use Rattle.tt_board.specs.declared.Colour.TheVariants.{Black, White}
 use Rattle.tt_board.specs.Position.{Colouring}
 use Rattle.tt_board.specs.Play.{same_colour}
-use Rattle.tt_board.specs.Stones.{Points, any_empty, all_stones_of}
+use Rattle.tt_board.specs.Stones.{PointNumberSet, any_empty, all_stones_of}
 use Rattle.tt_game.specs.declared.faults.GameFault.{GameFault}
 use Rattle.tt_game.specs.declared.faults.GameFault.TheVariants.{BadValue, NoTarget, EmptyTarget, MixedTargets}
 use Rattle.tt_game.specs.declared.frame.Side.{Side}
@@ -19,14 +19,14 @@ use Rattle.tt_game.specs.Line.{LineWithUndo}
 use Rattle.tt_game.specs.declared.records.GameSoFar.{GameSoFar}
 use Rattle.tt_game.specs.Games.{GameState}
 use Rattle.tt_game.specs.Nodes.{AB, AW, TR, SQ, has, move_count, set_named}
-use Rattle.tt_game.specs.Records.{and_then, step_node, begin_record, run_nodes}
+use Rattle.tt_game.specs.Records.{and_then, step_node, empty_game_for_nodes, apply_nodes}
 
 -- all points of a board
-abbrev pub whole : Size → Points
+abbrev pub whole : Size → PointNumberSet
 whole size = passing (λ q. true) (point_count size)
 
 -- the region: the points of SQ, or all points where the node has no SQ
-abbrev pub region_of : Size → Node → Option Points
+abbrev pub region_of : Size → Node → Option PointNumberSet
 region_of size n = cond (has SQ n) (set_named size SQ n) (Some (whole size))
 
 -- the side that moves with a colour
@@ -34,7 +34,7 @@ abbrev pub side_of : Colour → Colour → Side
 side_of defender k = cond (same_colour defender k) Defender Attacker
 
 -- the game goes on as a problem: the history and the side to move stay, and the passes are counted anew
-abbrev pub posed_problem : GameState → Points → Points → Colour → LineWithUndo
+abbrev pub posed_problem : GameState → PointNumberSet → PointNumberSet → Colour → LineWithUndo
 posed_problem s region targets k = record {
   frame = record { size = s.size; region = region; targets = targets; defender = k };
   state = record { earlier = s.earlier; present = s.present; to_move = side_of k s.to_move; passes = 0 };
@@ -42,24 +42,24 @@ posed_problem s region targets k = record {
 }
 
 -- the colour that has a stone on each of the points, Black's before White's; none where neither has
-abbrev pub common_colour : Points → Colouring → Option Colour
+abbrev pub common_colour : PointNumberSet → Colouring → Option Colour
 common_colour s c = if all_stones_of s c Black then Some Black else (if all_stones_of s c White then Some White else None)
 
 -- the defender is the colour of the targets' stones
-abbrev pub problem_with : GameState → Points → Points → Option Colour → Result LineWithUndo GameFault
-problem_with s region targets None = Err MixedTargets
-problem_with s region targets (Some k) = Ok (posed_problem s region targets k)
+abbrev pub problem_if_one_colour : GameState → PointNumberSet → PointNumberSet → Option Colour → Result LineWithUndo GameFault
+problem_if_one_colour s region targets None = Err MixedTargets
+problem_if_one_colour s region targets (Some k) = Ok (posed_problem s region targets k)
 
 -- a problem wants some target, a stone on each, and all of one colour
-abbrev pub problem_on : GameState → Points → Points → Result LineWithUndo GameFault
-problem_on s region targets =
-    if nat_eq (set.len targets) 0 then Err NoTarget else (if any_empty targets s.present then Err EmptyTarget else problem_with s region targets (common_colour targets s.present))
+abbrev pub problem_if_targets_valid : GameState → PointNumberSet → PointNumberSet → Result LineWithUndo GameFault
+problem_if_targets_valid s region targets =
+    if nat_eq (set.len targets) 0 then Err NoTarget else (if any_empty targets s.present then Err EmptyTarget else problem_if_one_colour s region targets (common_colour targets s.present))
 
 -- the sets of TR and SQ: bad ones first, then an empty target, then stones of both colours
-abbrev pub problem_of_sets : GameState → Option Points → Option Points → Result LineWithUndo GameFault
+abbrev pub problem_of_sets : GameState → Option PointNumberSet → Option PointNumberSet → Result LineWithUndo GameFault
 problem_of_sets s None region = Err BadValue
 problem_of_sets s (Some targets) None = Err BadValue
-problem_of_sets s (Some targets) (Some region) = problem_on s region targets
+problem_of_sets s (Some targets) (Some region) = problem_if_targets_valid s region targets
 
 -- nodes up to and with the first that has TR
 unfoldable pub problem_at_targets : GameSoFar → List Node → Result LineWithUndo GameFault
@@ -69,18 +69,18 @@ problem_at_targets r (n ∷ ns) = and_then (step_node r n)
 
 -- what problem a main line is
 unfoldable pub problem_of : List Node → Result LineWithUndo GameFault
-problem_of ns = and_then (begin_record ns) (λ r. problem_at_targets r ns)
+problem_of ns = and_then (empty_game_for_nodes ns) (λ r. problem_at_targets r ns)
 
 -- ---- main lines without targets
 
-abbrev pub puts_stones : Node → Bool
-puts_stones n = has AB n || has AW n
+abbrev pub adds_stones : Node → Bool
+adds_stones n = has AB n || has AW n
 
 -- how many nodes stand in front of the first move behind stones that are set up, given whether some are already
-unfoldable pub nodes_before_solution : Bool → List Node → ℕ
-nodes_before_solution up [] = 0
-nodes_before_solution up (n ∷ ns) = if up && nat_le 1 (move_count n) then 0 else suc (nodes_before_solution (up || puts_stones n) ns)
+unfoldable pub node_count_before_solution : Bool → List Node → ℕ
+node_count_before_solution up [] = 0
+node_count_before_solution up (n ∷ ns) = if up && nat_le 1 (move_count n) then 0 else suc (node_count_before_solution (up || adds_stones n) ns)
 
 -- the game that those nodes come to: what stands behind them is a solution
 unfoldable pub game_of : List Node → Result GameState GameFault
-game_of ns = and_then (begin_record ns) (λ r. and_then (run_nodes r (take (nodes_before_solution false ns) ns)) (λ q. Ok q.game))
+game_of ns = and_then (empty_game_for_nodes ns) (λ r. and_then (apply_nodes r (take (node_count_before_solution false ns) ns)) (λ q. Ok q.game))

@@ -18,26 +18,26 @@ use Rattle.tt_game.specs.Superko.{repeats}
 use Rattle.tt_game.specs.Line.{LineWithUndo}
 use Rattle.tt_game.specs.Nodes.{TR, has, is_setup}
 use Rattle.tt_game.specs.Problems.{problem_of}
-use Rattle.tt_game.specs.Records.{and_then, begin_record, record_of, run_nodes, step_node}
+use Rattle.tt_game.specs.Records.{and_then, empty_game_for_nodes, record_of, apply_nodes, step_node}
 
 -- d is what a play on an empty point of c makes
-abbrev pub IsPlay : Size → Colouring → Colouring → Type 0
-IsPlay size c d = (k : Colour) × (p : ℕ) × (p < point_count size) × (entry_at c p ≡ None) × (d ≡ play_of size c k p)
+abbrev pub IsMadeByPlay : Size → Colouring → Colouring → Type 0
+IsMadeByPlay size c d = (k : Colour) × (p : ℕ) × (p < point_count size) × (entry_at c p ≡ None) × (d ≡ play_of size c k p)
 
 -- each colouring but the first is what a play makes of the one before it
-abbrev pub ArePlays : Size → List Colouring → Type 0
-ArePlays size [] = Unit {0}
-ArePlays size (c ∷ []) = Unit {0}
-ArePlays size (c ∷ d ∷ h) = IsPlay size c d × ArePlays size (d ∷ h)
+abbrev pub AreMadeByPlays : Size → List Colouring → Type 0
+AreMadeByPlays size [] = Unit {0}
+AreMadeByPlays size (c ∷ []) = Unit {0}
+AreMadeByPlays size (c ∷ d ∷ h) = IsMadeByPlay size c d × AreMadeByPlays size (d ∷ h)
 
 -- a history by the rules: plays lead from each colouring to the next, and none stands in it twice
 pub record IsByTheRules (size : Size) (h : List Colouring) : Type 0 where
-  pub plays : ArePlays size h
+  pub plays : AreMadeByPlays size h
   pub once : AllPairs ◌≢◌ h
 
 -- the game and the count of turns that a record's nodes come to
 abbrev pub ComesTo : List Node → GameSoFar → Type 0
-ComesTo nodes r = and_then (begin_record nodes) (λ q. run_nodes q nodes) ≡ Ok r
+ComesTo nodes r = and_then (empty_game_for_nodes nodes) (λ q. apply_nodes q nodes) ≡ Ok r
 
 -- the history of a record's game is by the rules, and its turns, implied passes among them, are no more than a record has
 abbrev pub RecordsAreGames : Type 0
@@ -55,7 +55,7 @@ SetupsBeginHistories = (r q : GameSoFar) (n : Node) → step_node r n ≡ Ok q
 
 -- a record's refusal is that of its least node that has one: the nodes before it are a record, with it they are refused,
 -- and what stands behind it changes nothing
-pub record IsRefusalOfFirstNode (nodes : List Node) (e : GameFault) : Type 0 where
+pub record IsFirstRefusal (nodes : List Node) (e : GameFault) : Type 0 where
   pub front : List Node
   pub node : Node
   pub behind : List Node
@@ -66,7 +66,7 @@ pub record IsRefusalOfFirstNode (nodes : List Node) (e : GameFault) : Type 0 whe
 
 -- each refusal of a record is that of its least node that has one
 abbrev pub FirstRefusalDecides : Type 0
-FirstRefusalDecides = (nodes : List Node) (e : GameFault) → record_of nodes ≡ Err e → IsRefusalOfFirstNode nodes e
+FirstRefusalDecides = (nodes : List Node) (e : GameFault) → record_of nodes ≡ Err e → IsFirstRefusal nodes e
 
 -- where a record is refused, and no node of it marks a target, the problem of a main line that begins so is refused alike
 abbrev pub RefusalsCarryToProblems : Type 0
@@ -78,5 +78,5 @@ abbrev pub UnmarkedAreNoProblems : Type 0
 UnmarkedAreNoProblems = (nodes : List Node) (r : GameSoFar) → All (λ n. has TR n ≡ false) nodes → ComesTo nodes r → problem_of nodes ≡ Err NoTarget
 
 -- the test of superko is true exactly where the colouring is in the history
-abbrev pub SuperkoDecides : Type 0
-SuperkoDecides = (h : List Colouring) (c : Colouring) → (repeats h c ≡ true) ↔ Contains h c
+abbrev pub RepeatsTestIsExact : Type 0
+RepeatsTestIsExact = (h : List Colouring) (c : Colouring) → (repeats h c ≡ true) ↔ Contains h c

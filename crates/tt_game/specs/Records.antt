@@ -3,7 +3,7 @@ use Rattle.std.specs.Prelude.{◌≡◌, ℕ, zero, suc, ◌+◌, ◌&&◌, ◌|
 use Rattle.std.specs.declared.result.Result.{Result}
 use Rattle.tt_sgf.specs.declared.size.Size.{Size}
 use Rattle.tt_sgf.specs.declared.size.PointOrPass.{PointOrPass}
-use Rattle.tt_sgf.specs.declared.size.PointOrPass.TheVariants.{On, Pass as NoPoint}
+use Rattle.tt_sgf.specs.declared.size.PointOrPass.TheVariants.{On, Pass as PassValue}
 use Rattle.tt_sgf.specs.declared.nodes.Node.{Node}
 use Rattle.tt_sgf.specs.Sizes.{point_count, sized}
 use Rattle.tt_sgf.specs.Values.{point_of, trimmed}
@@ -13,7 +13,7 @@ use Rattle.tt_board.specs.Position.{Colouring}
 use Rattle.tt_board.specs.Reach.{entry_at}
 use Rattle.tt_board.specs.Decided.{reaches}
 use Rattle.tt_board.specs.Play.{same_colour, is_empty}
-use Rattle.tt_board.specs.Stones.{Points}
+use Rattle.tt_board.specs.Stones.{PointNumberSet}
 use Rattle.tt_board.specs.Setup.{placed}
 use Rattle.tt_board.specs.Score.{score_of}
 use Rattle.tt_game.specs.declared.faults.Why.{Why}
@@ -60,7 +60,7 @@ play_turn_by r k t = cond (same_colour r.game.to_move k) (play_next_turn r t) (a
 -- a point as a play on it, a pass as a pass
 abbrev pub as_turn : PointOrPass → Turn
 as_turn (On p) = Play p
-as_turn NoPoint = Pass
+as_turn PassValue = Pass
 
 -- a turn of a colour, by the point or pass that its value is; a value that is neither is refused
 abbrev pub play_named_turn : GameSoFar → Colour → Option PointOrPass → Result GameSoFar GameFault
@@ -89,7 +89,7 @@ abbrev pub game_after_setup : GameSoFar → Colouring → Colour → Result Game
 game_after_setup r c k = cond (all_have_liberties r.game.size c) (Ok (record { game = begun_with r.game.size c k; turns = r.turns })) (Err StoneWithoutLiberty)
 
 -- the sets of AB, AW and AE, put over the present colouring, and the colour of PL
-abbrev pub set_up_by : GameSoFar → Option Points → Option Points → Option Points → Option Colour → Result GameSoFar GameFault
+abbrev pub set_up_by : GameSoFar → Option PointNumberSet → Option PointNumberSet → Option PointNumberSet → Option Colour → Result GameSoFar GameFault
 set_up_by r (Some black) (Some white) (Some clear) (Some k) =
     cond (apart black white && apart black clear && apart white clear) (game_after_setup r (placed r.game.size r.game.present black white clear) k) (Err PointTwice)
 set_up_by r None white clear k = Err BadValue
@@ -98,45 +98,45 @@ set_up_by r (Some black) (Some white) None k = Err BadValue
 set_up_by r (Some black) (Some white) (Some clear) None = Err BadValue
 
 -- a node's setup: the sets of AB, AW and AE, and the colour of PL
-abbrev pub play_setup_node : GameSoFar → Node → Result GameSoFar GameFault
-play_setup_node r n = set_up_by r (set_named r.game.size AB n) (set_named r.game.size AW n) (set_named r.game.size AE n) (mover_of_values (values_of PL n.properties))
+abbrev pub set_up_node : GameSoFar → Node → Result GameSoFar GameFault
+set_up_node r n = set_up_by r (set_named r.game.size AB n) (set_named r.game.size AW n) (set_named r.game.size AE n) (mover_of_values (values_of PL n.properties))
 
 -- ---- nodes
 
 -- a setup node has no move, and a move node one at the most
 unfoldable pub step_node : GameSoFar → Node → Result GameSoFar GameFault
 step_node r n =
-    cond (is_setup n) (cond (nat_le 1 (move_count n)) (Err MixedNode) (play_setup_node r n))
+    cond (is_setup n) (cond (nat_le 1 (move_count n)) (Err MixedNode) (set_up_node r n))
     (cond (nat_le 2 (move_count n)) (Err MixedNode) (play_node_move r (values_of B n.properties) (values_of W n.properties)))
 
 -- the empty board of this size, and no turn played; without a size a fault
-abbrev pub begin_at : Option Size → Result GameSoFar GameFault
-begin_at None = Err BadSize
-begin_at (Some size) = Ok (record { game = empty_game size; turns = 0 })
+abbrev pub begin_with_size : Option Size → Result GameSoFar GameFault
+begin_with_size None = Err BadSize
+begin_with_size (Some size) = Ok (record { game = empty_game size; turns = 0 })
 
 -- before the first node: its game and its size
-unfoldable pub begin_node : Node → Result GameSoFar GameFault
-begin_node n = cond (is_go (values_of GM n.properties)) (begin_at (size_or_default (values_of SZ n.properties))) (Err NotGo)
+unfoldable pub empty_game_for_root : Node → Result GameSoFar GameFault
+empty_game_for_root n = cond (is_go (values_of GM n.properties)) (begin_with_size (size_or_default (values_of SZ n.properties))) (Err NotGo)
 
 -- before the first node; where there is none, on a board of 19 by 19
-abbrev pub begin_record : List Node → Result GameSoFar GameFault
-begin_record [] = begin_at (sized 19 19)
-begin_record (n ∷ ns) = begin_node n
+abbrev pub empty_game_for_nodes : List Node → Result GameSoFar GameFault
+empty_game_for_nodes [] = begin_with_size (sized 19 19)
+empty_game_for_nodes (n ∷ ns) = empty_game_for_root n
 
 -- after all nodes
-unfoldable pub run_nodes : GameSoFar → List Node → Result GameSoFar GameFault
-run_nodes r [] = Ok r
-run_nodes r (n ∷ ns) = and_then (step_node r n) (λ q. run_nodes q ns)
+unfoldable pub apply_nodes : GameSoFar → List Node → Result GameSoFar GameFault
+apply_nodes r [] = Ok r
+apply_nodes r (n ∷ ns) = and_then (step_node r n) (λ q. apply_nodes q ns)
 
 -- ---- records
 
 -- a game's record: the areas of both colours, and whether two passes in a row ended it
-abbrev pub record_at : GameState → Record
-record_at s = record { black = score_of s.size s.present Black; white = score_of s.size s.present White; finished = s.passes == 2 }
+abbrev pub record_of_game : GameState → Record
+record_of_game s = record { black = score_of s.size s.present Black; white = score_of s.size s.present White; finished = s.passes == 2 }
 
 -- what a main line's record is
 unfoldable pub record_of : List Node → Result Record GameFault
-record_of ns = and_then (begin_record ns) (λ r. and_then (run_nodes r ns) (λ q. Ok (record_at q.game)))
+record_of ns = and_then (empty_game_for_nodes ns) (λ r. and_then (apply_nodes r ns) (λ q. Ok (record_of_game q.game)))
 
 -- an error: but for want of memory it is the definition's
 abbrev pub IsErrorUnlessNoMemory : {A : Type 0} → GameFault → Result A GameFault → Type 0

@@ -12,33 +12,33 @@ use Rattle.tt_board.specs.Decided.{decision_test, decision_test_is_exact, decisi
 use Rattle.tt_game.specs.Legality.{decide_legal}
 
 -- the turn is a pass or names a point of a board of this size
-abbrev pub IsOnBoard : Size → Turn → Type 0
-IsOnBoard size Pass = Unit {0}
-IsOnBoard size (Play p) = p < point_count size
+abbrev pub IsTurnOnBoardOfSize : Size → Turn → Type 0
+IsTurnOnBoardOfSize size Pass = Unit {0}
+IsTurnOnBoardOfSize size (Play p) = p < point_count size
 
 -- the turn is a pass or names a point of the board
 abbrev pub IsTurnOnBoard : Frame → Turn → Type 0
-IsTurnOnBoard f t = IsOnBoard f.size t
+IsTurnOnBoard f t = IsTurnOnBoardOfSize f.size t
 
 -- a turn's number on a board of this size: that of its point; the pass comes last
-abbrev pub number_on : Size → Turn → ℕ
-number_on size (Play p) = p
-number_on size Pass = point_count size
+abbrev pub turn_number_on_size : Size → Turn → ℕ
+turn_number_on_size size (Play p) = p
+turn_number_on_size size Pass = point_count size
 
 abbrev pub turn_number : Frame → Turn → ℕ
-turn_number f t = number_on f.size t
+turn_number f t = turn_number_on_size f.size t
 
 -- the turns rise by their numbers
 abbrev pub IsRising : Frame → List Turn → Type 0
 IsRising f ts = (i j : ℕ) (d : Turn) → i < j → j < length ts → turn_number f (slice_index_or ts i d) < turn_number f (slice_index_or ts j d)
 
 -- the plays on the first n points
-abbrev pub plays : ℕ → List Turn
-plays n = map (λ p. Play p) (range_with_len 0 n)
+abbrev pub plays_on_first : ℕ → List Turn
+plays_on_first n = map (λ p. Play p) (range_with_len 0 n)
 
 -- every turn that a board has: the play on each point in the order of the points' numbers, then the pass
 unfoldable pub all_turns : Frame → List Turn
-all_turns f = plays (point_count f.size) ++ Pass ∷ []
+all_turns f = plays_on_first (point_count f.size) ++ Pass ∷ []
 
 -- whether a turn is legal, as a test
 pub is_legal : Frame → State → Turn → Bool

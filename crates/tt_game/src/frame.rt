@@ -1,7 +1,7 @@
 //! A problem's frame, and its two sides.
 
 ghost use Rattle.std.specs.Prelude.{◌≡◌, ◌↔◌, IsTrue};
-ghost use Rattle.tt_board.specs.Stones.{LiesOn};
+ghost use Rattle.tt_board.specs.Stones.{IsSetOnBoard};
 ghost use Rattle.tt_game.specs.Game.{winner_on};
 
 use tt_board::{Board, Colour};
@@ -61,7 +61,7 @@ impl Frame {
     /// defender after two passes.
     pub(crate) fn winner_on(&self, board: &Board, passes: u8) -> Option<Side>
         requires size { board.now.size ≡ self.now.size }
-        requires on_board { LiesOn self.now.size self.now.targets }
+        requires on_board { IsSetOnBoard self.now.size self.now.targets }
         ensures { result ≡ winner_on self.now board.now.points passes }
     {
         if board.has_some_empty(&self.targets) {

@@ -34,7 +34,7 @@ pub struct Game {
 }
 
 /// Counts the chains of the present board, where they aren't counted yet.
-fn count_chains(board: &mut CountedBoard, counted: bool, present: &Board)
+fn ensure_chains_counted(board: &mut CountedBoard, counted: bool, present: &Board)
     requires { IsTrue counted → board.old ≡ present.now }
     ensures { board.new ≡ present.now }
 {
@@ -44,7 +44,7 @@ fn count_chains(board: &mut CountedBoard, counted: bool, present: &Board)
 }
 
 /// Notes the present board, which has this hash. From so many boards on all are noted.
-fn note_hash(filter: &mut BloomFilter, history: &History, hash: usize)
+fn note_present_board(filter: &mut BloomFilter, history: &History, hash: usize)
     requires hash { hash ≡ filter_index history.now.size history.now.present }
     requires before { MayHoldAll filter.old history.now.size history.now.earlier }
     ensures { MayHoldAll filter.new history.now.size (so_far history.now) }
@@ -60,13 +60,13 @@ fn note_hash(filter: &mut BloomFilter, history: &History, hash: usize)
 impl Model for Game {
     ghost use Rattle.std.specs.Prelude.{◌≡◌, IsTrue};
     ghost use Rattle.tt_game.specs.GameHistory.{so_far};
-    ghost use Rattle.tt_game.specs.Games.{GameState, game_at};
+    ghost use Rattle.tt_game.specs.Games.{GameState, game_from_history};
     ghost use Rattle.tt_game.specs.BloomFilter.{MayHoldAll};
     ghost use Rattle.tt_game.specs.inside.Undoing.{board_on};
 
     ghost Value = { GameState };
 
-    ghost view = { λ g. game_at g.history g.to_move };
+    ghost view = { λ g. game_from_history g.history g.to_move };
 
     ghost invariant = { λ g. record {
       board : IsTrue g.counted → g.board ≡ board_on g.history.size g.history.present;
@@ -78,9 +78,9 @@ impl Game {
     ghost use Rattle.std.specs.FinSet as set;
     ghost use Rattle.tt_board.specs.Reach.{entry_at};
     ghost use Rattle.tt_game.specs.Games.{GameState, IsGamePushFailure, colouring_after_move, game_colourings, move_refusal, refusal_of, game_after_turn, empty_game, begun_with};
-    ghost use Rattle.tt_game.specs.Turns.{IsOnBoard};
+    ghost use Rattle.tt_game.specs.Turns.{IsTurnOnBoardOfSize};
     ghost use Rattle.tt_game.specs.Superko.{repeats};
-    ghost use Rattle.tt_board.specs.Stones.{LiesOn};
+    ghost use Rattle.tt_board.specs.Stones.{IsSetOnBoard};
     ghost use Rattle.tt_game.specs.Problems.{posed_problem};
     ghost use Rattle.tt_game.specs.declared.turns.Turn.{Turn};
 
@@ -160,7 +160,7 @@ impl Game {
     /// Why a turn is refused, or none where it is legal: `Over` exactly where two passes ended the game. A
     /// play is on a point of the board.
     pub fn refusal(&self, t: Turn) -> Option<Why>
-        requires { IsOnBoard self.now.size t }
+        requires { IsTurnOnBoardOfSize self.now.size t }
         ensures { result ≡ refusal_of self.now t }
     {
         if self.history.passes() == 2 {
@@ -192,7 +192,7 @@ impl Game {
         if self.present().at(p).is_some() {
             return Err(Refused::Illegal(Why::Occupied));
         }
-        count_chains(&mut self.board, self.counted, self.history.present());
+        ensure_chains_counted(&mut self.board, self.counted, self.history.present());
         self.board.play(self.to_move, p);
         self.counted = false;
         let next = self.board.board();
@@ -203,7 +203,7 @@ impl Game {
         if self.history.push(next).is_err() {
             return Err(Refused::NoMemory);
         }
-        note_hash(&mut self.filter, &self.history, hash);
+        note_present_board(&mut self.filter, &self.history, hash);
         self.counted = true;
         self.to_move = self.to_move.other();
         Ok(())
@@ -212,7 +212,7 @@ impl Game {
     /// Makes a turn: a pass, or a play on a point of the board. `Illegal` where it is refused, `NoMemory` where memory
     /// was; the game is then as it was.
     pub fn push(&mut self, t: Turn) -> Result<(), Refused>
-        requires { IsOnBoard self.old.size t }
+        requires { IsTurnOnBoardOfSize self.old.size t }
         ensures ok { OnOk result ((refusal_of self.old t ≡ None) × (self.new ≡ game_after_turn self.old t)) }
         ensures err { OnErr result (self.new ≡ self.old) }
         ensures why { IfErr result (λ e. IsGamePushFailure self.old t e) }
@@ -253,7 +253,7 @@ impl Game {
         defender: Colour,
     ) -> Result<Line, NoMemory>
         requires some { 0 < set.len targets }
-        requires on_board { LiesOn self.size targets }
+        requires on_board { IsSetOnBoard self.size targets }
         ensures { IfOk result (λ l. l ≡ posed_problem self region targets defender) }
     {
         let to_move = if self.to_move == defender {
@@ -268,7 +268,7 @@ impl Game {
             defender,
         };
         let mut board = self.board;
-        count_chains(&mut board, self.counted, self.history.present());
+        ensure_chains_counted(&mut board, self.counted, self.history.present());
         Line::begin(frame, self.history.without_passes(), to_move, board)
     }
 }

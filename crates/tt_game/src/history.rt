@@ -8,7 +8,7 @@ pub(crate) mod snapshot;
 ghost use Rattle.std.specs.Prelude.{◌≡◌, ◌≢◌, ◌+◌, ◌<◌, ◌≤◌, ◌↔◌, ◌∷◌, ◌++◌, [], length, take, drop, All, IsTrue, OnOk, OnErr, IfOk, Some};
 ghost use Rattle.tt_sgf.specs.Sizes.{point_count};
 ghost use Rattle.tt_board.specs.Position.{Colouring};
-ghost use Rattle.tt_game.specs.GameHistory.{HasBeen, colourings};
+ghost use Rattle.tt_game.specs.GameHistory.{IsInHistory, colourings};
 ghost use Rattle.tt_board.specs.Reach.{entry_at};
 
 use std::alloc::Global;
@@ -53,7 +53,7 @@ impl Model for History {
 /// Whether the colouring of `next` is one of the boards'. The last one is looked at first: a stone that dies at once makes it again.
 fn repeats(boards: &[Board], next: &Board) -> bool
     requires { All (λ b. b.size ≡ next.now.size) boards.now }
-    ensures { IsTrue result ↔ HasBeen (colourings boards.now) next.now.points }
+    ensures { IsTrue result ↔ IsInHistory (colourings boards.now) next.now.points }
 {
     for k in 0..boards.len() {
         if boards[boards.len() - 1 - k].same(next) {
@@ -66,10 +66,10 @@ fn repeats(boards: &[Board], next: &Board) -> bool
 /// Whether a stone of this colour stands on `p` on one of the boards.
 fn stone_stood(boards: &[Board], colour: Colour, p: Point) -> bool
     requires { All (λ b. p < point_count b.size) boards.now }
-    ensures { (c : Colouring) → HasBeen (colourings boards.now) c → entry_at c p ≡ Some colour → IsTrue result }
+    ensures { (c : Colouring) → IsInHistory (colourings boards.now) c → entry_at c p ≡ Some colour → IsTrue result }
 {
     for board in boards {
-        if board.has_stone(colour, p) {
+        if board.has_stone_of(colour, p) {
             return true;
         }
     }
@@ -77,7 +77,11 @@ fn stone_stood(boards: &[Board], colour: Colour, p: Point) -> bool
 }
 
 /// Writes a board over the one in the place `count`, or adds it there; without memory there are none more.
-fn write_board(boards: &mut Vec<Board>, count: usize, next: &CountedBoard) -> Result<(), NoMemory>
+fn write_or_push_board(
+    boards: &mut Vec<Board>,
+    count: usize,
+    next: &CountedBoard,
+) -> Result<(), NoMemory>
     requires { count ≤ length boards.old.items }
     ensures ok { OnOk result (take (count + 1) boards.new.items ≡ take count boards.old.items ++ next.now ∷ []) }
     ensures wide { OnOk result (count < length boards.new.items) }
@@ -92,7 +96,7 @@ fn write_board(boards: &mut Vec<Board>, count: usize, next: &CountedBoard) -> Re
 }
 
 impl History {
-    ghost use Rattle.tt_game.specs.GameHistory.{GameHistory, so_far, with_colouring, with_pass, new_game_history};
+    ghost use Rattle.tt_game.specs.GameHistory.{GameHistory, so_far, with_next_colouring, with_pass, new_game_history};
     ghost use Rattle.tt_game.specs.inside.Undoing.{without_play, without_pass};
 
     /// The history of this board alone.
@@ -161,7 +165,7 @@ impl History {
     pub(crate) fn stone_has_stood(&self, from: usize, colour: Colour, p: Point) -> bool
         requires on_board { p < point_count self.now.size }
         requires within { from ≤ length (so_far self.now) }
-        ensures { (c : Colouring) → HasBeen (drop from (so_far self.now)) c → entry_at c p ≡ Some colour → IsTrue result }
+        ensures { (c : Colouring) → IsInHistory (drop from (so_far self.now)) c → entry_at c p ≡ Some colour → IsTrue result }
     {
         stone_stood(&self.boards()[from..], colour, p)
     }
@@ -170,7 +174,7 @@ impl History {
     pub(crate) fn has_been_since(&self, from: usize, next: &Board) -> bool
         requires size { next.now.size ≡ self.now.size }
         requires within { from ≤ length (so_far self.now) }
-        ensures { IsTrue result ↔ HasBeen (drop from (so_far self.now)) next.now.points }
+        ensures { IsTrue result ↔ IsInHistory (drop from (so_far self.now)) next.now.points }
     {
         repeats(&self.boards()[from..], next)
     }
@@ -178,7 +182,7 @@ impl History {
     /// Whether the board at a place has the colouring of a board of this size.
     pub(crate) fn has_colouring_at(&self, place: usize, next: &Board) -> bool
         requires { next.now.size ≡ self.now.size }
-        ensures { IsTrue result → HasBeen (so_far self.now) next.now.points }
+        ensures { IsTrue result → IsInHistory (so_far self.now) next.now.points }
     {
         let boards = self.boards();
         place < boards.len() && boards[place].same(next)
@@ -187,7 +191,7 @@ impl History {
     /// Adds the board that a play made; without memory it is as it was.
     pub(crate) fn push(&mut self, next: Board) -> Result<(), NoMemory>
         requires { next.size ≡ self.old.size }
-        ensures ok { OnOk result (self.new ≡ with_colouring self.old next.points) }
+        ensures ok { OnOk result (self.new ≡ with_next_colouring self.old next.points) }
         ensures err { OnErr result (self.new ≡ self.old) }
     {
         self.boards.truncate(self.count);
@@ -201,10 +205,10 @@ impl History {
     /// the history is as it was.
     pub(crate) fn push_counted(&mut self, next: &CountedBoard) -> Result<(), NoMemory>
         requires { next.now.size ≡ self.old.size }
-        ensures ok { OnOk result (self.new ≡ with_colouring self.old next.now.points) }
+        ensures ok { OnOk result (self.new ≡ with_next_colouring self.old next.now.points) }
         ensures err { OnErr result (self.new ≡ self.old) }
     {
-        write_board(&mut self.boards, self.count, next)?;
+        write_or_push_board(&mut self.boards, self.count, next)?;
         self.count += 1;
         self.passes = 0;
         Ok(())

@@ -2,7 +2,7 @@
 
 ghost use Rattle.std.specs.Prelude.{◌≡◌, ◌≤◌, ◌*◌, ◌/◌, ◌%◌, ◌^◌, ◌↔◌, IsTrue, [], ◌∷◌};
 ghost use Rattle.tt_game.specs.Keys.{key_of};
-ghost use Rattle.tt_game.specs.KeyHash.{words_in_use, mover_word, hash_of_key};
+ghost use Rattle.tt_game.specs.KeyHash.{words_in_use, mover_and_passes_word, hash_of_key};
 ghost use Rattle.tt_game.specs.Mixing.{mix};
 ghost use Rattle.tt_game.specs.declared.history.bloom_filter.TheConstants.{MIXER};
 
@@ -33,11 +33,11 @@ pub struct Key {
 
 impl Hash for Key {
     ghost use Rattle.tt_game.specs.KeyHash.{position_writes};
-    ghost use Rattle.tt_game.specs.laws.KeyLaws.{same_key_writes_are_equal};
+    ghost use Rattle.tt_game.specs.laws.KeyLaws.{same_keys_are_hashed_alike};
 
     ghost hash_input = { position_writes };
 
-    ghost respects_eq = { same_key_writes_are_equal };
+    ghost respects_eq = { same_keys_are_hashed_alike };
 
     fn hash<H: Hasher>(&self, state: &mut H) {
         let used = words_in_use(self.size);
@@ -57,8 +57,8 @@ fn words_in_use(size: Size) -> usize
 }
 
 /// The number of a side to move and so many passes, for a hash.
-fn mover_word(to_move: Side, passes: u8) -> u64
-    ensures { result ≡ mover_word to_move passes }
+fn mover_and_passes_word(to_move: Side, passes: u8) -> u64
+    ensures { result ≡ mover_and_passes_word to_move passes }
 {
     match to_move {
         Side::Attacker => u64::from(passes),
@@ -67,21 +67,21 @@ fn mover_word(to_move: Side, passes: u8) -> u64
 }
 
 /// The hash of the position of a board, a side to move and so many passes, by what the board's words make.
-fn hash_of_sums(board: u64, turn: u64) -> u32
+fn hash_of_board_and_mover(board: u64, turn: u64) -> u32
     ensures { result ≡ mix board (turn ∷ []) * MIXER % 2 ^ 64 / 2 ^ 32 }
 {
     (mix(board, &[turn]).wrapping_mul(MIXER) >> 32) as u32
 }
 
 /// The key of a position.
-pub(crate) fn key_at(frame: &Frame, board: &Board, to_move: Side, passes: u8) -> Key
+pub(crate) fn key_from_parts(frame: &Frame, board: &Board, to_move: Side, passes: u8) -> Key
     requires { board.now.size ≡ frame.now.size }
     ensures { result ≡ key_of frame.now (record { earlier = []; present = board.now.points; to_move = to_move; passes = passes }) }
 {
     Key {
         size: frame.size,
-        region: frame.region.words_on(frame.size),
-        targets: frame.targets.words_on(frame.size),
+        region: frame.region.words_on_board(frame.size),
+        targets: frame.targets.words_on_board(frame.size),
         defender: frame.defender,
         black: board.words(Colour::Black),
         white: board.words(Colour::White),
@@ -95,15 +95,15 @@ impl Line {
     pub fn key(&self) -> Key
         ensures { result ≡ key_of self.now.frame self.now.state }
     {
-        key_at(self.frame(), self.present(), self.to_move(), self.passes())
+        key_from_parts(self.frame(), self.present(), self.to_move(), self.passes())
     }
 
     /// The hash of the line's key. It takes the line's board as it stands, so no key is made.
     pub fn key_hash(&self) -> u32
         ensures { result ≡ hash_of_key (key_of self.now.frame self.now.state) }
     {
-        let turn = mover_word(self.to_move(), self.passes());
-        hash_of_sums(mix_board(self.present()), turn)
+        let turn = mover_and_passes_word(self.to_move(), self.passes());
+        hash_of_board_and_mover(mix_board(self.present()), turn)
     }
 }
 

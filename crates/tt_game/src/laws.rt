@@ -1,8 +1,8 @@
 //! Laws of the definitions: each stands as the contract of a function without parameters.
 
-ghost use Rattle.tt_game.specs.GameLaws.{AtMostOneSideForces, SomeSideForces, ValuesAreForced, TurnsKeepStates, LegalTurnsListed, ProblemsHaveNoWinner, ProblemsAreStates};
-ghost use Rattle.tt_game.specs.Keys.{SameKeyMeansAlike};
-ghost use Rattle.tt_game.specs.RecordLaws.{RecordsAreGames, ProblemsAreGames, SetupsBeginHistories, FirstRefusalDecides, RefusalsCarryToProblems, UnmarkedAreNoProblems, SuperkoDecides};
+ghost use Rattle.tt_game.specs.GameLaws.{AtMostOneSideForces, SomeSideForces, ValuesAreForced, TurnsKeepStates, LegalTurnsAreListed, ProblemsHaveNoWinner, ProblemsAreStates};
+ghost use Rattle.tt_game.specs.Keys.{SameKeyIffAlike};
+ghost use Rattle.tt_game.specs.RecordLaws.{RecordsAreGames, ProblemsAreGames, SetupsBeginHistories, FirstRefusalDecides, RefusalsCarryToProblems, UnmarkedAreNoProblems, RepeatsTestIsExact};
 
 /// Not both sides force a win at one state.
 pub fn at_most_one_side_forces()
@@ -28,12 +28,12 @@ pub fn turns_keep_states()
 
 /// The list of the legal turns holds them all and no others, in rising order.
 pub fn legal_turns_are_listed()
-    ensures { LegalTurnsListed }
+    ensures { LegalTurnsAreListed }
 {}
 
 /// Positions have one key exactly where they look alike.
-pub fn keys_tell_positions()
-    ensures { SameKeyMeansAlike }
+pub fn same_key_iff_alike()
+    ensures { SameKeyIffAlike }
 {}
 
 /// Nobody has won at a problem.
@@ -65,7 +65,7 @@ pub fn setups_begin_histories()
 
 /// A record's refusal is that of its least node that has one: the nodes before it are a record, and what stands behind it
 /// changes nothing.
-pub fn least_nodes_refuse()
+pub fn first_refusal_decides()
     ensures { FirstRefusalDecides }
 {}
 
@@ -81,6 +81,6 @@ pub fn unmarked_are_no_problems()
 {}
 
 /// The test of superko is true exactly where the colouring is in the history.
-pub fn superko_decides()
-    ensures { SuperkoDecides }
+pub fn repeats_test_is_exact()
+    ensures { RepeatsTestIsExact }
 {}

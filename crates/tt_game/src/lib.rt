@@ -26,6 +26,6 @@ pub use keys::Key;
 pub use line::Line;
 pub use nodes::{has_move, named_set};
 pub use plays::LegalPlays;
-pub use problems::{game_before_solution, nodes_before_solution, problem};
+pub use problems::{game_before_solution, node_count_before_solution, problem};
 pub use records::{Record, play_record};
 pub use turns::{MOST_LEGAL, Turn, Turns};

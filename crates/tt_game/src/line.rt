@@ -1,7 +1,7 @@
 //! A problem and a game of it (Tromp-Taylor rules with a region and targets): turns are made and undone.
 
 ghost use Rattle.std.specs.Prelude.{◌≡◌, ◌≢◌, ℕ, ◌+◌, ◌-◌, ◌<◌, ◌≤◌, ◌↔◌, ◌∷◌, length, slice_set, IsTrue, IsSome, IfSome, MatchOption, Contains, All};
-ghost use Rattle.tt_game.specs.GameHistory.{HasBeen, colourings};
+ghost use Rattle.tt_game.specs.GameHistory.{IsInHistory, colourings};
 ghost use Rattle.tt_game.specs.Mixing.{mix_board};
 ghost use Rattle.tt_board.specs.Position.{Colouring};
 ghost use Rattle.tt_sgf.specs.Sizes.{point_count};
@@ -11,7 +11,7 @@ use crate::frame::{Frame, Side};
 use crate::history::History;
 use crate::history::bloom_filter::{filter_index_with_stone, mix_board};
 use crate::history::board_stack::BoardStack;
-use crate::history::root::{Root, stones_of};
+use crate::history::root::{Root, union_of_stones};
 use crate::history::snapshot::Snapshot;
 use crate::turns::Turn;
 use std::marker::Model;
@@ -66,15 +66,15 @@ impl Model for Line {
 
 impl Line {
     ghost use Rattle.std.specs.Prelude.{Some, None, Err, Ok, [], MatchResult, EachIndex};
-    ghost use Rattle.tt_game.specs.Game.{history, winner_of, side_colour, made, IsLegal, after};
+    ghost use Rattle.tt_game.specs.Game.{history, winner_of, side_colour, colouring_after_play, IsLegal, after};
     ghost use Rattle.tt_game.specs.Line.{IsBarredBySuperko};
     ghost use Rattle.tt_board.specs.Reach.{entry_at};
     ghost use Rattle.std.specs.Prelude.{OnOk, OnErr, IfErr, IfOk};
-    ghost use Rattle.tt_game.specs.Line.{HasTargetsOnBoard, HasBoard, IsRefusal, IsPushFailure, IsLineAfterTurn};
+    ghost use Rattle.tt_game.specs.Line.{HasTargetsOnBoard, HasBoardInHistory, IsRefusal, IsPushFailure, IsLineAfterTurn};
     ghost use Rattle.tt_game.specs.inside.Roots.{BoardsBegin};
     ghost use Rattle.tt_game.specs.inside.Undoing.{IsMoved, state_at, board_on};
     ghost use Rattle.tt_game.specs.Turns.{IsTurnOnBoard};
-    ghost use Rattle.tt_game.specs.MoveGenerators.{HaveStood};
+    ghost use Rattle.tt_game.specs.MoveGenerators.{IncludesStoodPoints};
     ghost use Rattle.tt_game.specs.declared.turns.Turn.{Turn};
 
     /// The line that begins with this history, whose present board is given with its chains counted, with nothing to undo.
@@ -161,7 +161,7 @@ impl Line {
     pub(crate) fn board_after_play(&self, p: Point) -> Board
         requires on_board { p < point_count self.now.frame.size }
         requires free { entry_at self.now.state.present p ≡ None }
-        ensures { result ≡ record { size = self.now.frame.size; points = made self.now.frame self.now.state p } }
+        ensures { result ≡ record { size = self.now.frame.size; points = colouring_after_play self.now.frame self.now.state p } }
     {
         self.stack.present().after(self.colour_to_move(), p)
     }
@@ -180,7 +180,7 @@ impl Line {
     /// Whether a stone of this colour stood on `p` on some board so far.
     fn stone_has_stood(&self, colour: Colour, p: Point) -> bool
         requires { p < point_count self.now.frame.size }
-        ensures { (c : Colouring) → HasBeen (history self.now.state) c → entry_at c p ≡ Some colour → IsTrue result }
+        ensures { (c : Colouring) → IsInHistory (history self.now.state) c → entry_at c p ≡ Some colour → IsTrue result }
     {
         if self.root.stone_has_stood(colour, p) {
             return true;
@@ -196,9 +196,9 @@ impl Line {
 
     /// The stones of a colour on all boards so far.
     pub(crate) fn stones_so_far(&self, colour: Colour) -> Bits
-        ensures { HaveStood colour self.now.frame.size (history self.now.state) result.words }
+        ensures { IncludesStoodPoints colour self.now.frame.size (history self.now.state) result.words }
     {
-        let later = stones_of(self.history.boards_since(self.root.board_count()), colour);
+        let later = union_of_stones(self.history.boards_since(self.root.board_count()), colour);
         self.root.stones_on_any_board(colour).or(&later)
     }
 
@@ -206,7 +206,7 @@ impl Line {
     fn repeats(&self, p: Point) -> bool
         requires on_board { p < point_count self.now.frame.size }
         requires free { entry_at self.now.state.present p ≡ None }
-        ensures { IsTrue result ↔ HasBeen (history self.now.state) (made self.now.frame self.now.state p) }
+        ensures { IsTrue result ↔ IsInHistory (history self.now.state) (colouring_after_play self.now.frame self.now.state p) }
     {
         self.has_been(p, &self.board_after_play(p))
     }
@@ -216,22 +216,22 @@ impl Line {
     pub(crate) fn has_been(&self, p: Point, next: &Board) -> bool
         requires on_board { p < point_count self.now.frame.size }
         requires size { next.now.size ≡ self.now.frame.size }
-        ensures { IsTrue result ↔ HasBeen (history self.now.state) next.now.points }
+        ensures { IsTrue result ↔ IsInHistory (history self.now.state) next.now.points }
     {
         let colour = self.colour_to_move();
-        if next.has_stone(colour, p) && !self.stone_has_stood(colour, p) {
+        if next.has_stone_of(colour, p) && !self.stone_has_stood(colour, p) {
             return false;
         }
-        self.has_colouring_of(next)
+        self.has_colouring_in_history(next)
     }
 
     /// Whether a board of the line's size has a colouring that has been: none of the beginning is compared where its hash tells it from
     /// them, and where it doesn't, the one that its hash names is compared first.
-    pub(crate) fn has_colouring_of(&self, next: &Board) -> bool
+    pub(crate) fn has_colouring_in_history(&self, next: &Board) -> bool
         requires { next.now.size ≡ self.now.frame.size }
-        ensures { IsTrue result ↔ HasBeen (history self.now.state) next.now.points }
+        ensures { IsTrue result ↔ IsInHistory (history self.now.state) next.now.points }
     {
-        match self.root.likely_place(next) {
+        match self.root.likely_board_index(next) {
             None => self.history.has_been_since(self.root.board_count(), next),
             Some(place) => self.history.has_colouring_at(place, next)
                 || self.history.has_been_since(0, next),
@@ -239,17 +239,17 @@ impl Line {
     }
 
     /// Whether the line's history has the board. It takes no memory.
-    pub fn has_board(&self, board: &Board) -> bool
-        ensures { IsTrue result ↔ HasBoard self.now.frame self.now.state board.now }
+    pub fn has_board_in_history(&self, board: &Board) -> bool
+        ensures { IsTrue result ↔ HasBoardInHistory self.now.frame self.now.state board.now }
     {
         if board.size() != self.frame.size {
             return false;
         }
-        self.has_colouring_of(board)
+        self.has_colouring_in_history(board)
     }
 
     /// What the words of the present board make, where hashes were noted of the boards of the beginning.
-    pub(crate) fn present_board_sum(&self) -> Option<u64>
+    pub(crate) fn unfinished_board_hash(&self) -> Option<u64>
         ensures { IfSome result (λ n. n ≡ mix_board self.now.frame.size self.now.state.present) }
     {
         if !self.root.keeps_hashes() {
@@ -265,7 +265,7 @@ impl Line {
         requires fits { length self.now.state.present ≡ point_count self.now.frame.size }
         requires on_board { p < point_count self.now.frame.size }
         requires free { entry_at self.now.state.present p ≡ None }
-        ensures { IsTrue result → HasBeen (history self.now.state) (slice_set self.now.state.present p (Some colour)) → ⊥ }
+        ensures { IsTrue result → IsInHistory (history self.now.state) (slice_set self.now.state.present p (Some colour)) → ⊥ }
     {
         if self
             .root
@@ -300,7 +300,7 @@ impl Line {
     /// colouring; none where the history hasn't, and for any other point. It takes no memory.
     pub fn repeated_board(&self, p: Point) -> Option<Board>
         ensures { MatchOption result (IsBarredBySuperko self.now.frame self.now.state p → ⊥)
-            (λ b. IsBarredBySuperko self.now.frame self.now.state p × (b ≡ record { size = self.now.frame.size; points = made self.now.frame self.now.state p })) }
+            (λ b. IsBarredBySuperko self.now.frame self.now.state p × (b ≡ record { size = self.now.frame.size; points = colouring_after_play self.now.frame self.now.state p })) }
     {
         if !self.frame.size.holds(p)
             || !self.frame.region.has(p)
@@ -347,7 +347,7 @@ impl Line {
     fn push_play_on_empty(&mut self, p: Point) -> Result<(), NoMemory>
         requires on_board { p < point_count self.old.frame.size }
         requires free { entry_at self.old.state.present p ≡ None }
-        ensures ok { OnOk result (IsMoved self.old self.new (made self.old.frame self.old.state p)) }
+        ensures ok { OnOk result (IsMoved self.old self.new (colouring_after_play self.old.frame self.old.state p)) }
         ensures err { OnErr result (self.new ≡ self.old) }
     {
         let colour = self.colour_to_move();

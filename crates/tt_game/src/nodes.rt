@@ -51,7 +51,7 @@ pub(crate) fn first_value<'a>(properties: &'a [Property], name: &[u8]) -> Option
 }
 
 /// How many values the properties of this name have, or 2 where they have more.
-pub(crate) fn count_to_two(properties: &[Property], name: &[u8]) -> usize
+pub(crate) fn count_values_to_two(properties: &[Property], name: &[u8]) -> usize
     ensures { result ≡ min 2 (length (values_of name.now properties.now)) }
 {
     let mut count: usize = 0;
@@ -124,7 +124,7 @@ pub fn has_move(node: &Node) -> bool
     ensures { result ≡ nat_le 1 (move_count node.now) }
 {
     let properties = node.properties.as_slice();
-    1 <= count_to_two(properties, b"B") + count_to_two(properties, b"W")
+    1 <= count_values_to_two(properties, b"B") + count_values_to_two(properties, b"W")
 }
 
 /// Whether a node has two moves or more.
@@ -133,7 +133,7 @@ pub(crate) fn has_several_moves(node: &Node) -> bool
     ensures { result ≡ nat_le 2 (move_count node.now) }
 {
     let properties = node.properties.as_slice();
-    2 <= count_to_two(properties, b"B") + count_to_two(properties, b"W")
+    2 <= count_values_to_two(properties, b"B") + count_values_to_two(properties, b"W")
 }
 
 /// Whether the game is Go: GM isn't there, or is 1.

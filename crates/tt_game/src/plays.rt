@@ -1,4 +1,4 @@
-//! The door to legal plays: one after the other, with what is the same for all of them worked out once.
+//! The legal plays, one after the other, with what is the same for all of them worked out once.
 
 pub(crate) mod move_generator;
 
@@ -73,7 +73,7 @@ impl<'a> LegalPlays<'a> {
     {
         while let Some(p) = self.line.next_empty(&self.moves, self.from) {
             self.from = p.number() + 1;
-            if let Some(winner) = self.line.winner_by_play(&self.moves, p) {
+            if let Some(winner) = self.line.winner_if_legal(&self.moves, p) {
                 return Some((p, winner));
             }
         }

@@ -1,16 +1,16 @@
 //! Problems: a main line up to the node that marks targets.
 
 ghost use Rattle.std.specs.Prelude.{◌≡◌, ◌≤◌, IfOk, false, length};
-ghost use Rattle.tt_board.specs.Stones.{LiesOn};
+ghost use Rattle.tt_board.specs.Stones.{IsSetOnBoard};
 ghost use Rattle.tt_game.specs.Nodes.{set_named, ReadsSet, TR};
 ghost use Rattle.tt_game.specs.Records.{ReturnsUnlessNoMemory};
-ghost use Rattle.tt_game.specs.Problems.{nodes_before_solution, game_of, puts_stones, region_of, common_colour, problem_of_sets, problem_at_targets, problem_of};
+ghost use Rattle.tt_game.specs.Problems.{node_count_before_solution, game_of, adds_stones, region_of, common_colour, problem_of_sets, problem_at_targets, problem_of};
 
 use crate::faults::GameFault;
 use crate::game::Game;
 use crate::line::Line;
 use crate::nodes::{has_move, has_value, named_set};
-use crate::records::{GameSoFar, begin_record, play_all_nodes};
+use crate::records::{GameSoFar, apply_nodes, empty_game_for_nodes};
 use std::alloc::Global;
 use tt_board::{Board, Colour};
 use tt_sgf::{BadPoint, MainLine, Node, PointSet, Size};
@@ -30,14 +30,14 @@ fn said_region(node: &Node, size: Size) -> Result<PointSet, BadPoint>
 #[tactic(auto, using(crate::proofs::ProblemLemmas::set_on_board))]
 fn said_targets(node: &Node, size: Size) -> Result<PointSet, BadPoint>
     ensures value { ReadsSet result (set_named size TR node.now) }
-    ensures on_board { IfOk result (λ s. LiesOn size s) }
+    ensures on_board { IfOk result (λ s. IsSetOnBoard size s) }
 {
     named_set(node.properties.as_slice(), b"TR", size)
 }
 
 /// The colour of all stones on these points of the board: none where there are both.
 fn common_colour(board: &Board, points: &PointSet) -> Option<Colour>
-    requires { LiesOn board.now.size points.now }
+    requires { IsSetOnBoard board.now.size points.now }
     ensures { result ≡ common_colour points.now board.now.points }
 {
     if board.has_stones_on_all(points, Colour::Black) {
@@ -104,12 +104,12 @@ pub fn problem(alloc: Global, line: &MainLine) -> Result<Line, GameFault>
     ensures { ReturnsUnlessNoMemory result (problem_of line.now.nodes) }
 {
     let nodes = line.nodes.as_slice();
-    problem_at_targets(begin_record(alloc, nodes)?, nodes)
+    problem_at_targets(empty_game_for_nodes(alloc, nodes)?, nodes)
 }
 
 /// Whether a node puts stones on the board.
-fn puts_stones(node: &Node) -> bool
-    ensures { result ≡ puts_stones node.now }
+fn adds_stones(node: &Node) -> bool
+    ensures { result ≡ adds_stones node.now }
 {
     let properties = node.properties.as_slice();
     has_value(properties, b"AB") || has_value(properties, b"AW")
@@ -117,8 +117,8 @@ fn puts_stones(node: &Node) -> bool
 
 /// How many of these nodes stand in front of the first move behind stones that are set up: all of them without such a move.
 #[tactic(auto, using(crate::proofs::ProblemLemmas::asked_nil, crate::proofs::ProblemLemmas::asked_stop, crate::proofs::ProblemLemmas::asked_step))]
-pub fn nodes_before_solution(nodes: &[Node]) -> usize
-    ensures value { result ≡ nodes_before_solution false nodes.now }
+pub fn node_count_before_solution(nodes: &[Node]) -> usize
+    ensures value { result ≡ node_count_before_solution false nodes.now }
     ensures most { result ≤ length nodes.now }
 {
     let mut count: usize = 0;
@@ -128,7 +128,7 @@ pub fn nodes_before_solution(nodes: &[Node]) -> usize
         if up && has_move(node) {
             return count;
         }
-        up = up || puts_stones(node);
+        up = up || adds_stones(node);
         count += 1;
         rest = behind;
     }
@@ -146,9 +146,9 @@ pub fn game_before_solution(alloc: Global, line: &MainLine) -> Result<Game, Game
     ensures { ReturnsUnlessNoMemory result (game_of line.now.nodes) }
 {
     let nodes = line.nodes.as_slice();
-    let last = play_all_nodes(
-        begin_record(alloc, nodes)?,
-        &nodes[..nodes_before_solution(nodes)],
+    let last = apply_nodes(
+        empty_game_for_nodes(alloc, nodes)?,
+        &nodes[..node_count_before_solution(nodes)],
     )?;
     Ok(last.game)
 }

@@ -4,10 +4,10 @@ ghost use Rattle.std.specs.Prelude.{◌≡◌, Some};
 ghost use Rattle.tt_sgf.specs.Values.{point_of, trimmed};
 ghost use Rattle.tt_sgf.specs.PointLists.{set_of};
 ghost use Rattle.tt_board.specs.Setup.{placed};
-ghost use Rattle.tt_game.specs.Turns.{IsOnBoard};
+ghost use Rattle.tt_game.specs.Turns.{IsTurnOnBoardOfSize};
 ghost use Rattle.tt_game.specs.Nodes.{values_of, mover_of_values, AB, AW, AE, PL, B, W};
 ghost use Rattle.tt_game.specs.Records.{ReturnsUnlessNoMemory, UpdatesUnlessNoMemory, fault_of, as_turn, play_next_turn, play_turn_by, play_named_turn, play_node_move, game_after_setup};
-ghost use Rattle.tt_game.specs.Records.{set_up_by, step_node, begin_at, begin_node, begin_record, run_nodes, record_at, record_of};
+ghost use Rattle.tt_game.specs.Records.{set_up_by, step_node, begin_with_size, empty_game_for_root, empty_game_for_nodes, apply_nodes, record_of_game, record_of};
 
 use crate::faults::{GameFault, Refused, Why};
 use crate::game::Game;
@@ -65,7 +65,7 @@ fn as_turn(value: PointOrPass) -> Turn
 impl GameSoFar {
     /// A turn of the side to move.
     fn play_turn(&mut self, t: Turn) -> Result<(), GameFault>
-        requires { IsOnBoard self.old.game.size t }
+        requires { IsTurnOnBoardOfSize self.old.game.size t }
         ensures { UpdatesUnlessNoMemory result self.new (play_next_turn self.old t) }
     {
         if self.game.passes() == 2 {
@@ -86,7 +86,7 @@ impl GameSoFar {
 
     /// A turn of a colour; where the other is to move it passes first.
     fn play_turn_by(&mut self, colour: Colour, t: Turn) -> Result<(), GameFault>
-        requires { IsOnBoard self.old.game.size t }
+        requires { IsTurnOnBoardOfSize self.old.game.size t }
         ensures { UpdatesUnlessNoMemory result self.new (play_turn_by self.old colour t) }
     {
         if self.game.to_move() != colour {
@@ -139,7 +139,7 @@ impl GameSoFar {
     }
 
     /// What a setup node does.
-    fn play_setup_node(&mut self, properties: &[Property]) -> Result<(), GameFault>
+    fn set_up_node(&mut self, properties: &[Property]) -> Result<(), GameFault>
         ensures { UpdatesUnlessNoMemory result self.new (set_up_by self.old (set_of self.old.game.size (values_of AB properties.now)) (set_of self.old.game.size (values_of AW properties.now))
             (set_of self.old.game.size (values_of AE properties.now)) (mover_of_values (values_of PL properties.now))) }
     {
@@ -174,7 +174,7 @@ impl GameSoFar {
             if has_move(node) {
                 return Err(GameFault::MixedNode);
             }
-            return self.play_setup_node(node.properties.as_slice());
+            return self.set_up_node(node.properties.as_slice());
         }
         if has_several_moves(node) {
             return Err(GameFault::MixedNode);
@@ -184,7 +184,7 @@ impl GameSoFar {
 
     /// Before the first turn on a board of this size.
     fn begin(alloc: Global, size: Size) -> Result<GameSoFar, GameFault>
-        ensures { ReturnsUnlessNoMemory result (begin_at (Some size)) }
+        ensures { ReturnsUnlessNoMemory result (begin_with_size (Some size)) }
     {
         match Game::empty(alloc, size) {
             Ok(game) => Ok(GameSoFar { game, turns: 0 }),
@@ -193,9 +193,9 @@ impl GameSoFar {
     }
 
     /// Before the first node: its game and its size.
-    #[tactic(auto, unfolding(crate::specs::Records::begin_node))]
+    #[tactic(auto, unfolding(crate::specs::Records::empty_game_for_root))]
     fn begin_at_node(alloc: Global, node: &Node) -> Result<GameSoFar, GameFault>
-        ensures { ReturnsUnlessNoMemory result (begin_node node.now) }
+        ensures { ReturnsUnlessNoMemory result (empty_game_for_root node.now) }
     {
         if !is_go(node.properties.as_slice()) {
             return Err(GameFault::NotGo);
@@ -208,8 +208,8 @@ impl GameSoFar {
 }
 
 /// Before the first of these nodes; without a node the board is 19 by 19.
-pub(crate) fn begin_record(alloc: Global, nodes: &[Node]) -> Result<GameSoFar, GameFault>
-    ensures { ReturnsUnlessNoMemory result (begin_record nodes.now) }
+pub(crate) fn empty_game_for_nodes(alloc: Global, nodes: &[Node]) -> Result<GameSoFar, GameFault>
+    ensures { ReturnsUnlessNoMemory result (empty_game_for_nodes nodes.now) }
 {
     if let Some((first, _)) = nodes.split_first() {
         return GameSoFar::begin_at_node(alloc, first);
@@ -221,8 +221,8 @@ pub(crate) fn begin_record(alloc: Global, nodes: &[Node]) -> Result<GameSoFar, G
 }
 
 /// After all nodes.
-pub(crate) fn play_all_nodes(replay: GameSoFar, nodes: &[Node]) -> Result<GameSoFar, GameFault>
-    ensures { ReturnsUnlessNoMemory result (run_nodes replay nodes.now) }
+pub(crate) fn apply_nodes(replay: GameSoFar, nodes: &[Node]) -> Result<GameSoFar, GameFault>
+    ensures { ReturnsUnlessNoMemory result (apply_nodes replay nodes.now) }
 {
     let mut last = replay;
     let mut rest = nodes;
@@ -234,8 +234,8 @@ pub(crate) fn play_all_nodes(replay: GameSoFar, nodes: &[Node]) -> Result<GameSo
 }
 
 /// The score of a game's present board, and whether the game is over.
-fn record_at(game: &Game) -> Record
-    ensures { result ≡ record_at game.now }
+fn record_of_game(game: &Game) -> Record
+    ensures { result ≡ record_of_game game.now }
 {
     let (black, white) = game.present().score();
     Record {
@@ -257,6 +257,6 @@ pub fn play_record(alloc: Global, line: &MainLine) -> Result<Record, GameFault>
     ensures { ReturnsUnlessNoMemory result (record_of line.now.nodes) }
 {
     let nodes = line.nodes.as_slice();
-    let last = play_all_nodes(begin_record(alloc, nodes)?, nodes)?;
-    Ok(record_at(&last.game))
+    let last = apply_nodes(empty_game_for_nodes(alloc, nodes)?, nodes)?;
+    Ok(record_of_game(&last.game))
 }

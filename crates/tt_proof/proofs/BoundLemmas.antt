@@ -9,7 +9,7 @@ use Rattle.tt_board.specs.declared.Colour.{Colour}
 use Rattle.tt_board.specs.Position.{Position}
 use Rattle.tt_board.specs.Play.{is_stone_of}
 use Rattle.tt_board.specs.Reach.{entry_at}
-use Rattle.tt_proof.specs.BoardBounds.{HasStones, hash_bit}
+use Rattle.tt_proof.specs.BoardSetBounds.{HasAllStones, hash_bit}
 
 -- of two truths both hold, and of one that holds one of two does
 and_left : (x y : Bool) → (x && y) ≡ true → x ≡ true
@@ -41,18 +41,18 @@ module _ (words : List ℕ) (k : Colour) (b : Position) (are : AreBitsOf words (
   ]
 
   -- stones that they cover are the board's
-  pub covered_has : (x : Bits) → IsWithinUnion x.words words words → HasStones x k b
+  pub covered_has : (x : Bits) → IsWithinUnion x.words words words → HasAllStones x k b
   covered_has x low p small e = bit_stands p small (or_same (bit_in words p) (low p small e))
 
-  pub has_covered : (x : Bits) → HasStones x k b → IsWithinUnion x.words words words
+  pub has_covered : (x : Bits) → HasAllStones x k b → IsWithinUnion x.words words words
   has_covered x h p small e = or_left (bit_in words p) (bit_in words p) (are.below p (h p small e).0 small ∙ (h p small e).1)
 
 -- a board that has the stones of one of two has those of both together
 module _ (x y r : Bits) (both : (p : ℕ) → p < BITS → bit_in r.words p ≡ (bit_in x.words p && bit_in y.words p)) where
-  pub has_left : (k : Colour) (b : Position) → HasStones x k b → HasStones r k b
+  pub has_left : (k : Colour) (b : Position) → HasAllStones x k b → HasAllStones r k b
   has_left k b h p small e = h p small (and_left (bit_in x.words p) (bit_in y.words p) (sym (both p small) ∙ e))
 
-  pub has_right : (k : Colour) (b : Position) → HasStones y k b → HasStones r k b
+  pub has_right : (k : Colour) (b : Position) → HasAllStones y k b → HasAllStones r k b
   has_right k b h p small e = h p small (and_right (bit_in x.words p) (bit_in y.words p) (sym (both p small) ∙ e))
 
 -- the number of a board's bit is that of a bit

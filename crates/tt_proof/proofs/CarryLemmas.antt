@@ -4,7 +4,7 @@ use Rattle.std.proofs.lemmas.List.Elements.{Contains-append_left}
 use Rattle.tt_board.specs.Position.{Colouring}
 use Rattle.tt_board.specs.Decided.{Decision}
 use Rattle.tt_board.specs.Reach.{entry_at}
-use Rattle.tt_game.specs.Game.{State, IsLegal, after, winner_of, history, made}
+use Rattle.tt_game.specs.Game.{State, IsLegal, after, winner_of, history, colouring_after_play}
 use Rattle.tt_game.specs.Superko.{decide_same_colouring}
 use Rattle.tt_game.specs.declared.frame.Side.{Side}
 use Rattle.tt_game.specs.declared.frame.Frame.{Frame}
@@ -13,7 +13,7 @@ use Rattle.tt_game.specs.declared.turns.Turn.TheVariants.{Play, Pass}
 use Rattle.tt_proof.specs.Strategy.{Strategy, Entries, done, pick, reply, none, entry, IsInOrder, AreInOrder}
 use Rattle.tt_proof.specs.Wins.{Wins}
 use Rattle.tt_proof.specs.inside.Replaying.{LegalWin, HasEntry}
-use Rattle.tt_proof.specs.Footprints.{IsNeeded, IsNeededBehind, IsAvoided, IsAvoidedBehind, IsMet, IsMetBehind, IsRepeated, Fits, path_after_turn, MakesColouring}
+use Rattle.tt_proof.specs.Footprints.{IsNeeded, IsNeededBehind, IsAvoided, IsAvoidedBehind, IsMet, IsMetBehind, IsRepeatedByPlay, Fits, path_after_turn, MakesColouring}
 use Rattle.tt_game.specs.laws.Members.{IsIn, in_of_contains, contains_of_in}
 use Rattle.tt_proof.proofs.FitsLemmas.{splits_none, Carried, same_made, carried_after, legal_now, legal_before}
 use Rattle.tt_proof.proofs.WinsLemmas.{reply_answers, reply_wins}
@@ -49,7 +49,7 @@ module _ (side : Side) (f : Frame) (h k : List Colouring) where
   makes_before path a b (Play p) c r m = sym (same_made side f h k path a b p r) ∙ m
 
   -- a colouring of the new history that was repeated is repeated there, too
-  repeated_now : (path : List Colouring) (a b : State) (c : Colouring) → Carried h k path a b → IsRepeated f h path a c → Contains k c → IsRepeated f k path b c
+  repeated_now : (path : List Colouring) (a b : State) (c : Colouring) → Carried h k path a b → IsRepeatedByPlay f h path a c → Contains k c → IsRepeatedByPlay f k path b c
   repeated_now path a b c r w m = (
     (w.0.0, w.0.1, ap (λ x. entry_at x w.0.0) r.present ∙ w.0.2, w.0.3, same_made side f h k path a b w.0.0 r ∙ w.0.4),
     m,
@@ -58,7 +58,7 @@ module _ (side : Side) (f : Frame) (h k : List Colouring) where
 
   -- one that is repeated there was repeated before, where no legal play made it
   repeated_before : (path : List Colouring) (a b : State) (c : Colouring) → Carried h k path a b → winner_of f a ≡ None →
-      ((t : Turn) → IsLegal f a t → MakesColouring f a t c → ⊥) → IsRepeated f k path b c → IsRepeated f h path a c
+      ((t : Turn) → IsLegal f a t → MakesColouring f a t c → ⊥) → IsRepeatedByPlay f k path b c → IsRepeatedByPlay f h path a c
   repeated_before path a b c r unwon unmet w = elim (is_in (history a) c) [
     | inl m ↦ held (r.before.cases c (contains_of_in (history a) c m))
     | inr n ↦ absurd (unmet (Play w.0.0) (unwon, w.0.1, free, w.0.3, λ m. n (in_of_contains (history a) c (subst (λ x. Contains (history a) x) makes m))) makes)
@@ -67,10 +67,10 @@ module _ (side : Side) (f : Frame) (h k : List Colouring) where
       free : entry_at a.present w.0.0 ≡ None
       free = sym (ap (λ x. entry_at x w.0.0) r.present) ∙ w.0.2
 
-      makes : made f a w.0.0 ≡ c
+      makes : colouring_after_play f a w.0.0 ≡ c
       makes = sym (same_made side f h k path a b w.0.0 r) ∙ w.0.4
 
-      held : Contains h c ⊎ Contains path c → IsRepeated f h path a c
+      held : Contains h c ⊎ Contains path c → IsRepeatedByPlay f h path a c
       held (inl m) = ((w.0.0, w.0.1, free, w.0.3, makes), m, w.2)
       held (inr m) = absurd (w.2 m)
 
@@ -196,7 +196,7 @@ module _ (side : Side) (f : Frame) (h k : List Colouring) where
 -- a history stays in the history after a turn
 later : (f : Frame) (a : State) (t : Turn) (c : Colouring) → Contains (history a) c → Contains (history (after f a t)) c
 later f a Pass c m = m
-later f a (Play p) c m = Contains-append_left (history a) (made f a p ∷ []) c m
+later f a (Play p) c m = Contains-append_left (history a) (colouring_after_play f a p ∷ []) c m
 
 -- a legal turn makes no colouring of the history
 new_made : (f : Frame) (a : State) (t : Turn) (c : Colouring) → IsLegal f a t → MakesColouring f a t c → Contains (history a) c → ⊥

@@ -8,7 +8,7 @@ use Rattle.tt_game.specs.declared.frame.Side.TheVariants.{Attacker, Defender}
 use Rattle.tt_proof.specs.declared.certificate_read.CertFault.{CertFault}
 use Rattle.tt_proof.specs.declared.certificate_read.CertFault.TheVariants.{Syntax, TooDeep, NoMemory}
 use Rattle.tt_proof.specs.declared.tree.TheConstants.{MOST_DEPTH}
-use Rattle.tt_game.specs.laws.SideLaws.{verdict_words_are_apart}
+use Rattle.tt_game.specs.laws.SideLaws.{verdict_word_is_prefix_free}
 use Rattle.tt_game.specs.Sides.{verdict_word}
 use Rattle.tt_proof.specs.Strategy.{Strategy}
 use Rattle.tt_proof.specs.CertificateText.{tree_text, side_prefix, IsCertificate, IsTooDeep}
@@ -20,7 +20,7 @@ module _ (size : Size) (some : 1 ≤ size.columns) where
   -- a text that begins with the words of a side tells the side and what follows
   pub side_apart : (a b : Side) (r q : List ℕ) → side_prefix a ++ r ≡ side_prefix b ++ q → (a ≡ b) × (r ≡ q)
   side_apart a b r q e =
-      let both = verdict_words_are_apart a b (space ∷ r) (space ∷ q) (sym (append_assoc (verdict_word a) (space ∷ []) r) ∙ e ∙ append_assoc (verdict_word b) (space ∷ []) q) in
+      let both = verdict_word_is_prefix_free a b (space ∷ r) (space ∷ q) (sym (append_assoc (verdict_word a) (space ∷ []) r) ∙ e ∙ append_assoc (verdict_word b) (space ∷ []) q) in
       (both.0, tails both.1)
 
   -- what is said of the rest is said of the whole

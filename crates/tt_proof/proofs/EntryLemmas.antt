@@ -6,7 +6,7 @@ use Rattle.tt_game.specs.declared.turns.Turn.{Turn}
 use Rattle.tt_proof.specs.declared.tree.Tree.{Tree}
 use Rattle.tt_proof.specs.declared.certificate_read.CertFault.{CertFault}
 use Rattle.tt_proof.specs.declared.certificate_read.CertFault.TheVariants.{Syntax, TooDeep, NoMemory}
-use Rattle.tt_proof.specs.Strategy.{Strategy, Entries, done, none, entry, depth, depth_of_entries, IsOnBoard, IsInOrder, AreInOrder, number_on, strategy_of, entries_of_reply}
+use Rattle.tt_proof.specs.Strategy.{Strategy, Entries, done, none, entry, depth, depth_of_entries, IsTurnOnBoardOfSize, IsInOrder, AreInOrder, turn_number_on_size, strategy_of, entries_of_reply}
 use Rattle.tt_proof.specs.CertificateText.{turn_text, tree_text, entries_text, IsEntriesTextDownTo}
 use Rattle.tt_proof.specs.inside.CertificateReading.{TreeAt, EntriesAt, EntriesDeepAt, FaultAt, EntriesFaultAt}
 use Rattle.tt_proof.proofs.TextLemmas.{heads, tails, same_turn, turn_not_end, same_tree, not_deep}
@@ -37,10 +37,10 @@ walked_end size d least start now rest list w e =
 
 module _ (size : Size) (some : 1 ≤ size.columns) where
   -- ---- one entry: its turn is t, its tree u, and `after` follows
-  module _ (e least : ℕ) (now mid after : List ℕ) (t : Turn) (u : Strategy) (on : IsOnBoard size t)
-      (rises : least ≤ number_on size t) (at : now ≡ turn_text size t ++ mid) (tree : TreeAt size e u mid after) where
+  module _ (e least : ℕ) (now mid after : List ℕ) (t : Turn) (u : Strategy) (on : IsTurnOnBoardOfSize size t)
+      (rises : least ≤ turn_number_on_size size t) (at : now ≡ turn_text size t ++ mid) (tree : TreeAt size e u mid after) where
     -- entries behind this one are entries with this one in front
-    step_read : (es : Entries) (y : List ℕ) → EntriesAt size (suc e) (number_on size t + 1) es after y →
+    step_read : (es : Entries) (y : List ℕ) → EntriesAt size (suc e) (turn_number_on_size size t + 1) es after y →
         EntriesAt size (suc e) least (entry t u es) now y
     step_read es y h = record {
       in_order = (rises, on, tree.in_order, h.in_order);
@@ -52,7 +52,7 @@ module _ (size : Size) (some : 1 ≤ size.columns) where
 
     -- and where entries are read here, some are read behind this one
     step_only : (es : Entries) (y : List ℕ) → EntriesAt size (suc e) least es now y →
-        (es' : Entries) × EntriesAt size (suc e) (number_on size t + 1) es' after y
+        (es' : Entries) × EntriesAt size (suc e) (turn_number_on_size size t + 1) es' after y
     step_only none y h = absurd (turn_not_end size some t (heads (sym at ∙ h.text)))
     step_only (entry v w es) y h =
         let g = sym at ∙ h.text in
@@ -62,14 +62,14 @@ module _ (size : Size) (some : 1 ≤ size.columns) where
         let low = h.shallow in (
           es,
           record {
-            in_order = subst (λ x. AreInOrder size (number_on size x + 1) es) (sym t_is) h.in_order.3;
+            in_order = subst (λ x. AreInOrder size (turn_number_on_size size x + 1) es) (sym t_is) h.in_order.3;
             shallow = omega (arith, low);
             text = r.1;
           },
         )
 
     -- a turn that is too deep behind this entry is too deep here
-    step_deep : EntriesDeepAt size (suc e) (number_on size t + 1) after → EntriesDeepAt size (suc e) least now
+    step_deep : EntriesDeepAt size (suc e) (turn_number_on_size size t + 1) after → EntriesDeepAt size (suc e) least now
     step_deep h = record {
       entries = entry t u h.entries;
       beginning = turn_text size t ++ (tree_text size u ++ h.beginning);
@@ -82,12 +82,12 @@ module _ (size : Size) (some : 1 ≤ size.columns) where
     }
 
     -- and a turn that is too deep here is so behind this entry
-    step_deep_only : EntriesDeepAt size (suc e) least now → EntriesDeepAt size (suc e) (number_on size t + 1) after
+    step_deep_only : EntriesDeepAt size (suc e) least now → EntriesDeepAt size (suc e) (turn_number_on_size size t + 1) after
     step_deep_only h = go h.entries h.beginning h.follows h.in_order h.ends h.text
       where
         -- so with each list of entries
         go : (es : Entries) (x y : List ℕ) → AreInOrder size least es → IsEntriesTextDownTo size es (suc e) x → now ≡ x ++ y →
-            EntriesDeepAt size (suc e) (number_on size t + 1) after
+            EntriesDeepAt size (suc e) (turn_number_on_size size t + 1) after
         go none x y i h g = absurd h
         go (entry v w es) x y i (inl h) g =
             let g' = tails (tails (sym at ∙ g ∙ ap (λ z. z ++ y) h.1.0)) in
@@ -100,16 +100,16 @@ module _ (size : Size) (some : 1 ≤ size.columns) where
               entries = es;
               beginning = h.0;
               follows = y;
-              in_order = subst (λ x. AreInOrder size (number_on size x + 1) es) (sym t_is) i.3;
+              in_order = subst (λ x. AreInOrder size (turn_number_on_size size x + 1) es) (sym t_is) i.3;
               ends = h.1.1;
               text = r.1;
             }
 
   -- where one more entry was read, the reading behind it decides that of the start
   pub walked_more : (e least : ℕ) (start now mid after : List ℕ) (list : List (Turn × Tree)) (t : Turn) (tree : Tree) →
-      Walked size (suc e) start least now list → IsOnBoard size t → least ≤ number_on size t →
+      Walked size (suc e) start least now list → IsTurnOnBoardOfSize size t → least ≤ turn_number_on_size size t →
       now ≡ turn_text size t ++ mid → TreeAt size e (strategy_of tree) mid after →
-      Walked size (suc e) start (number_on size t + 1) after (list ++ (t, tree) ∷ [])
+      Walked size (suc e) start (turn_number_on_size size t + 1) after (list ++ (t, tree) ∷ [])
   walked_more e least start now mid after list t tree w on rises at h =
       let u = strategy_of tree in
       record {
@@ -141,16 +141,16 @@ module _ (size : Size) (some : 1 ≤ size.columns) where
       deep (entry t u es) (suc k) x y i (inr h) g = turn t ((tree_text size u ++ h.0) ++ y) i.1 (g ∙ ap (λ z. z ++ y) h.1.0)
 
   -- where a turn stands whose number is below the least, there are no entries
-  pub not_rising : (d least : ℕ) (now mid : List ℕ) (t : Turn) → now ≡ turn_text size t ++ mid → number_on size t < least →
+  pub not_rising : (d least : ℕ) (now mid : List ℕ) (t : Turn) → now ≡ turn_text size t ++ mid → turn_number_on_size size t < least →
       EntriesFaultAt size d least now Syntax
   not_rising d least now mid t at falls =
       (λ es y h. no es y h.in_order h.text, λ h. deep h.entries d h.beginning h.follows h.in_order h.ends h.text)
     where
       -- no turn whose number is not below the least stands there
-      clash : (v : Turn) (y : List ℕ) → least ≤ number_on size v → now ≡ turn_text size v ++ y → ⊥
+      clash : (v : Turn) (y : List ℕ) → least ≤ turn_number_on_size size v → now ≡ turn_text size v ++ y → ⊥
       clash v y low g =
           let g' = sym at ∙ g in
-          let same = ap (number_on size) (same_turn size some t v (heads g') (heads (tails g'))) in
+          let same = ap (turn_number_on_size size) (same_turn size some t v (heads g') (heads (tails g'))) in
           omega (arith, low, same, falls)
 
       -- no entries are read
@@ -167,7 +167,7 @@ module _ (size : Size) (some : 1 ≤ size.columns) where
       deep (entry v u es) (suc k) x y i (inr h) g = clash v ((tree_text size u ++ h.0) ++ y) i.0 (g ∙ ap (λ z. z ++ y) h.1.0)
 
   -- where no turn has room, a turn in order is too deep
-  pub entry_deep : (least : ℕ) (now mid : List ℕ) (t : Turn) → IsOnBoard size t → least ≤ number_on size t →
+  pub entry_deep : (least : ℕ) (now mid : List ℕ) (t : Turn) → IsTurnOnBoardOfSize size t → least ≤ turn_number_on_size size t →
       now ≡ turn_text size t ++ mid → EntriesDeepAt size 0 least now
   entry_deep least now mid t on rises at = record {
     entries = entry t done none;
@@ -179,7 +179,7 @@ module _ (size : Size) (some : 1 ≤ size.columns) where
   }
 
   -- a fault of the tree behind a turn in order is one of the entries
-  pub entry_fault : (e least : ℕ) (now mid : List ℕ) (t : Turn) (f : CertFault) → IsOnBoard size t → least ≤ number_on size t →
+  pub entry_fault : (e least : ℕ) (now mid : List ℕ) (t : Turn) (f : CertFault) → IsTurnOnBoardOfSize size t → least ≤ turn_number_on_size size t →
       now ≡ turn_text size t ++ mid → FaultAt size e mid f → EntriesFaultAt size (suc e) least now f
   entry_fault e least now mid t NoMemory on rises at h = tt
   entry_fault e least now mid t TooDeep on rises at h = record {

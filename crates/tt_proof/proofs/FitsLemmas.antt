@@ -4,14 +4,14 @@ use Rattle.std.proofs.lemmas.List.Elements.{Contains-append_left, Contains-appen
 use Rattle.tt_board.specs.Position.{Colouring}
 use Rattle.tt_board.specs.Play.{play_of}
 use Rattle.tt_board.specs.Reach.{entry_at}
-use Rattle.tt_game.specs.Game.{State, IsLegal, after, winner_of, winner_on, opponent, side_colour, history, made}
+use Rattle.tt_game.specs.Game.{State, IsLegal, after, winner_of, winner_on, opponent, side_colour, history, colouring_after_play}
 use Rattle.tt_game.specs.declared.frame.Side.{Side}
 use Rattle.tt_game.specs.declared.frame.Frame.{Frame}
 use Rattle.tt_game.specs.declared.turns.Turn.{Turn}
 use Rattle.tt_game.specs.declared.turns.Turn.TheVariants.{Play, Pass}
 use Rattle.tt_proof.specs.Strategy.{Strategy, Entries, done, pick, reply, none, entry}
 use Rattle.tt_proof.specs.Wins.{Wins, WinsBehind}
-use Rattle.tt_proof.specs.Footprints.{IsNeeded, IsNeededBehind, IsAvoided, IsAvoidedBehind, IsRepeated, Fits, path_after_turn, MakesColouring}
+use Rattle.tt_proof.specs.Footprints.{IsNeeded, IsNeededBehind, IsAvoided, IsAvoidedBehind, IsRepeatedByPlay, Fits, path_after_turn, MakesColouring}
 use Rattle.tt_game.specs.laws.Members.{in_of_contains}
 
 -- the history is h and the path, as sets
@@ -51,7 +51,7 @@ pub record Carried (h k path : List Colouring) (a b : State) : Type 0 where
   pub now : Splits k path (history b)
 
 module _ (side : Side) (f : Frame) (h k : List Colouring) where
-  pub same_made : (path : List Colouring) (a b : State) (p : ℕ) → Carried h k path a b → made f b p ≡ made f a p
+  pub same_made : (path : List Colouring) (a b : State) (p : ℕ) → Carried h k path a b → colouring_after_play f b p ≡ colouring_after_play f a p
   same_made path a b p r =
       ap (λ x. play_of f.size x (side_colour f b.to_move) p) r.present ∙ ap (λ x. play_of f.size a.present (side_colour f x) p) r.to_move
 
@@ -67,8 +67,8 @@ module _ (side : Side) (f : Frame) (h k : List Colouring) where
         present = same_made path a b p r;
         to_move = ap opponent r.to_move;
         passes = refl;
-        before = splits_push h path (history a) (made f a p) r.before;
-        now = rw (same_made path a b p r) (splits_push k path (history b) (made f a p) r.now);
+        before = splits_push h path (history a) (colouring_after_play f a p) r.before;
+        now = rw (same_made path a b p r) (splits_push k path (history b) (colouring_after_play f a p) r.now);
       }
 
   -- a turn of the side stays legal where the other history has not the colouring that it makes
@@ -83,13 +83,13 @@ module _ (side : Side) (f : Frame) (h k : List Colouring) where
     λ m. pass (r.now.cases _ (subst (λ x. Contains (history b) x) (same_made path a b p r) m)),
   )
     where
-      pass : Contains k (made f a p) ⊎ Contains path (made f a p) → ⊥
+      pass : Contains k (colouring_after_play f a p) ⊎ Contains path (colouring_after_play f a p) → ⊥
       pass (inl m) = n _ refl m
       pass (inr m) = l.4 (r.before.new _ m)
 
   -- a turn of the other side that is legal now was legal before, or repeats a colouring of h that k has not
   pub legal_before : (path : List Colouring) (a b : State) (t : Turn) → Carried h k path a b → IsLegal f b t →
-      ((c : Colouring) → IsRepeated f h path a c → Contains k c) → IsLegal f a t
+      ((c : Colouring) → IsRepeatedByPlay f h path a c → Contains k c) → IsLegal f a t
   legal_before path a b Pass r l n = sym (same_winner path a b r) ∙ l
   legal_before path a b (Play p) r l n =
       (sym (same_winner path a b r) ∙ l.0, l.1, free, l.3, λ m. pass (r.before.cases _ m))
@@ -97,10 +97,10 @@ module _ (side : Side) (f : Frame) (h k : List Colouring) where
       free : entry_at a.present p ≡ None
       free = sym (ap (λ x. entry_at x p) r.present) ∙ l.2
 
-      now_not : Contains (history b) (made f a p) → ⊥
+      now_not : Contains (history b) (colouring_after_play f a p) → ⊥
       now_not m = l.4 (subst (λ x. Contains (history b) x) (sym (same_made path a b p r)) m)
 
-      pass : Contains h (made f a p) ⊎ Contains path (made f a p) → ⊥
+      pass : Contains h (colouring_after_play f a p) ⊎ Contains path (colouring_after_play f a p) → ⊥
       pass (inr m) = now_not (r.now.new _ m)
       pass (inl m) = now_not (r.now.old _ (n _ ((p, l.1, free, l.3, refl), m, λ w. now_not (r.now.new _ w))))
 

@@ -3,7 +3,7 @@ use Rattle.std.proofs.Common.{◌≡◌, ◌∙◌, inl, inr, List, [], ◌∷�
 use Rattle.std.proofs.lemmas.List.Elements.{All-head, All-tail}
 use Rattle.tt_board.specs.Position.{Position, Colouring, colourings}
 use Rattle.tt_game.specs.Game.{State}
-use Rattle.tt_game.specs.Line.{IsPositionOf, HasBoard}
+use Rattle.tt_game.specs.Line.{IsPositionOf, HasBoardInHistory}
 use Rattle.tt_game.specs.laws.Members.{IsIn}
 use Rattle.tt_game.specs.declared.frame.Frame.{Frame}
 use Rattle.tt_proof.specs.declared.footprints.Footprint.{Footprint}
@@ -32,8 +32,8 @@ board_in f (x ∷ bs) c all (inr m) = inr (board_in f bs c (All-tail (λ (b : Po
 
 module _ (p : ProofClaim) (f : Frame) (s : State) (x : Footprint) (foot : IsFootprint p.frame p.state p.tree x) where
   -- a proof fits where the position is its own, and the lists stand right to the history's boards
-  pub fits_yes : IsPositionOf (record { frame = p.frame; state = p.state }) f s → ((b : Position) → Contains x.needs b → HasBoard f s b) →
-      ((b : Position) → Contains x.avoids b → HasBoard f s b → ⊥) → FitsAt p f s
+  pub fits_yes : IsPositionOf (record { frame = p.frame; state = p.state }) f s → ((b : Position) → Contains x.needs b → HasBoardInHistory f s b) →
+      ((b : Position) → Contains x.avoids b → HasBoardInHistory f s b → ⊥) → FitsAt p f s
   fits_yes at n a = (
     at.0,
     record {
@@ -49,11 +49,11 @@ module _ (p : ProofClaim) (f : Frame) (s : State) (x : Footprint) (foot : IsFoot
   held : (bs' : List Position) (b : Position) → HaveFrameSize p.frame bs' → Contains bs' b → Contains bs' (board_of_colouring p.frame b.points)
   held bs' b sized m = subst (λ w. Contains bs' w) (board_is b p.frame.size b.points (sized b m) refl) m
 
-  pub fits_needs : FitsAt p f s → (b : Position) → Contains x.needs b → HasBoard f s b
+  pub fits_needs : FitsAt p f s → (b : Position) → Contains x.needs b → HasBoardInHistory f s b
   fits_needs h b m =
       (foot.needs_sized b m ∙ ap (λ (g : Frame). g.size) h.0, h.1.needs b.points ((foot.needed b.points).0 (held x.needs b foot.needs_sized m)))
 
-  pub fits_avoids : FitsAt p f s → (b : Position) → Contains x.avoids b → HasBoard f s b → ⊥
+  pub fits_avoids : FitsAt p f s → (b : Position) → Contains x.avoids b → HasBoardInHistory f s b → ⊥
   fits_avoids h b m k = h.1.avoids b.points ((foot.avoided b.points).0 (held x.avoids b foot.avoids_sized m)) k.1
 
 -- a proof wins where it fits

@@ -2,7 +2,7 @@
 use Rattle.std.proofs.Common.{◌≡◌, ◌↔◌, ◌⊎◌, inl, inr, List, [], ◌∷◌, ◌++◌, sym, ap, subst, ◌∙◌, Contains, Option}
 use Rattle.tt_sgf.specs.declared.size.Size.{Size}
 use Rattle.tt_board.specs.Position.{Position, Colouring}
-use Rattle.tt_game.specs.Game.{State, IsLegal, after, history, made}
+use Rattle.tt_game.specs.Game.{State, IsLegal, after, history, colouring_after_play}
 use Rattle.tt_game.specs.Line.{IsRefusal}
 use Rattle.tt_game.specs.declared.faults.Why.{Why}
 use Rattle.tt_game.specs.declared.faults.Why.TheVariants.{Over, Occupied, Outside, Repeats}
@@ -11,11 +11,11 @@ use Rattle.tt_game.specs.declared.turns.Turn.{Turn}
 use Rattle.tt_game.specs.declared.turns.Turn.TheVariants.{Play, Pass}
 use Rattle.tt_proof.specs.declared.footprints.Footprint.{Footprint}
 use Rattle.tt_proof.specs.Strategy.{Strategy, done, pick, reply, none, entries_of}
-use Rattle.tt_proof.specs.Footprints.{IsNeeded, IsNeededBehind, IsAvoided, IsAvoidedBehind, IsMet, IsMetBehind, MakesColouring, IsRepeated, path_after_turn}
+use Rattle.tt_proof.specs.Footprints.{IsNeeded, IsNeededBehind, IsAvoided, IsAvoidedBehind, IsMet, IsMetBehind, MakesColouring, IsRepeatedByPlay, path_after_turn}
 use Rattle.tt_proof.specs.KeptFootprints.{IsFootprint, IsEntryJoined, HaveFrameSize, board_of_colouring}
 use Rattle.tt_proof.specs.inside.Collecting.{IsPassedUp, IsPlayed, IsPicked, IsMadeWithin}
-use Rattle.tt_proof.specs.declared.board_bounds.BoardBound.{BoardBound}
-use Rattle.tt_proof.specs.BoardBounds.{IsWithin, IsWider}
+use Rattle.tt_proof.specs.declared.board_set_bounds.BoardSetBound.{BoardSetBound}
+use Rattle.tt_proof.specs.BoardSetBounds.{MayContainBoard, IsWiderOrSame}
 use Rattle.tt_proof.proofs.NeedLemmas.{needed_less, needed_more}
 use Rattle.tt_game.specs.laws.Members.{in_of_contains}
 
@@ -36,8 +36,8 @@ pub given : (f : Frame) (s : State) (t : Turn) (u : Strategy) (x : Footprint) �
     IsPassedUp t (board_of_colouring f (after f s t).present) x.needs (board_of_colouring f c) ↔ IsNeeded f (history s) u (path_after_turn f s t []) (after f s t) c
 given f s Pass u x foot c = foot.needed c
 given f s (Play p) u x foot c = (
-  λ g. needed_more f (history s) (made f s p) u [] (after f s (Play p)) c ((foot.needed c).0 g.0) (λ e. g.1 (ap (board_of_colouring f) e)),
-  λ w. let r = needed_less f (history s) (made f s p) u [] (after f s (Play p)) c w in
+  λ g. needed_more f (history s) (colouring_after_play f s p) u [] (after f s (Play p)) c ((foot.needed c).0 g.0) (λ e. g.1 (ap (board_of_colouring f) e)),
+  λ w. let r = needed_less f (history s) (colouring_after_play f s p) u [] (after f s (Play p)) c w in
       ((foot.needed c).1 r.0, λ e. r.1 (ap (λ (b : Position). b.points) e)),
 )
 
@@ -69,7 +69,7 @@ foot_pick f s t u x y l foot h = record {
     λ w. (h.needed (board_of_colouring f c)).1 ((given f s t u x foot c).1 w.1),
   );
   avoided = λ c. (λ m. (l, up c ((h.avoided (board_of_colouring f c)).0 m)), λ w. (h.avoided (board_of_colouring f c)).1 (down c w.1));
-  met = λ c m. subst (λ x'. IsWithin x' (board_of_colouring f c)) (sym h.met) (foot.met c m.1);
+  met = λ c m. subst (λ x'. MayContainBoard x' (board_of_colouring f c)) (sym h.met) (foot.met c m.1);
 }
   where
     sized : (b : Position) → IsPlayed t (board_of_colouring f (after f s t).present) b ⊎ Contains x.avoids b → b.size ≡ f.size
@@ -184,15 +184,15 @@ otherwise A B X Y h e = (λ b. to (h.0 b), λ w. h.1 (from w))
     from (inr y) = inr (e.1 y)
 
 -- what the turn makes lies within a bound of it
-made_within : (f : Frame) (s : State) (t : Turn) (x : Option BoardBound) (c : Colouring) → IsMadeWithin t (board_of_colouring f (after f s t).present) x → MakesColouring f s t c →
-    IsWithin x (board_of_colouring f c)
+made_within : (f : Frame) (s : State) (t : Turn) (x : Option BoardSetBound) (c : Colouring) → IsMadeWithin t (board_of_colouring f (after f s t).present) x → MakesColouring f s t c →
+    MayContainBoard x (board_of_colouring f c)
 made_within f s Pass x c r m = absurd m
-made_within f s (Play p) x c r m = subst (λ d. IsWithin x (board_of_colouring f d)) m r
+made_within f s (Play p) x c r m = subst (λ d. MayContainBoard x (board_of_colouring f d)) m r
 
 -- a bound of a reply with one more entry
-pub record IsWidened (f : Frame) (s : State) (t : Turn) (behind old new : Option BoardBound) : Type 0 where
-  pub before : IsWider new old
-  pub below : IsWider new behind
+pub record IsWidened (f : Frame) (s : State) (t : Turn) (behind old new : Option BoardSetBound) : Type 0 where
+  pub before : IsWiderOrSame new old
+  pub below : IsWiderOrSame new behind
   pub made : IsMadeWithin t (board_of_colouring f (after f s t).present) new
 
 -- the footprint of a reply with one more entry, whose turn is legal
@@ -221,10 +221,10 @@ foot_entry f s t u x old new l foot n a wide es before = record {
         (IsLegal f s t × IsNeeded f (history s) u (path_after_turn f s t []) (after f s t) c)
         (IsNeeded f (history s) (reply (entries_of es)) [] s c) (IsNeeded f (history s) (reply (entries_of (es ++ (t, u) ∷ []))) [] s c)
         (otherwise _ _ _ _ (n (board_of_colouring f c)) (λ g. (l, (given f s t u x foot c).0 g), λ w. (given f s t u x foot c).1 w.1))
-        (before.needed c) (regroup (IsRepeated f (history s) [] s c) _ _ _ push)
+        (before.needed c) (regroup (IsRepeatedByPlay f (history s) [] s c) _ _ _ push)
 
     met : (c : Colouring) → IsMetBehind f (entries_of es) s c ⊎ (IsLegal f s t × (MakesColouring f s t c ⊎ IsMet f u (after f s t) c)) →
-        IsWithin new.met (board_of_colouring f c)
+        MayContainBoard new.met (board_of_colouring f c)
     met c (inl m) = wide.before (board_of_colouring f c) (before.met c m)
     met c (inr (w, inl m)) = made_within f s t new.met c wide.made m
     met c (inr (w, inr m)) = wide.below (board_of_colouring f c) (foot.met c m)
@@ -237,7 +237,7 @@ foot_no_entry f s t u x bars es before = record {
   needed = λ c.
       joined _ _ (IsLegal f s t × IsNeeded f (history s) u (path_after_turn f s t []) (after f s t) c) _ _
       (same (Contains x.needs (board_of_colouring f c)) _ (λ w. bars w.0)) (before.needed c)
-      (regroup (IsRepeated f (history s) [] s c) _ _ _ (needed_push f s t u c (history s) es));
+      (regroup (IsRepeatedByPlay f (history s) [] s c) _ _ _ (needed_push f s t u c (history s) es));
   avoided = λ c.
       joined _ _ (IsLegal f s t × IsAvoided f u (after f s t) c) _ _
       (same (Contains x.avoids (board_of_colouring f c)) _ (λ w. bars w.0)) (before.avoided c) (avoided_push f s t u c es);
@@ -253,7 +253,7 @@ foot_no_entry f s t u x bars es before = record {
 
 -- the footprint of a reply without entries
 pub foot_plays : (f : Frame) (s : State) (x : Footprint) → HaveFrameSize f x.needs →
-    ((c : Colouring) → Contains x.needs (board_of_colouring f c) ↔ IsRepeated f (history s) [] s c) → x.avoids ≡ [] → IsFootprint f s (reply none) x
+    ((c : Colouring) → Contains x.needs (board_of_colouring f c) ↔ IsRepeatedByPlay f (history s) [] s c) → x.avoids ≡ [] → IsFootprint f s (reply none) x
 foot_plays f s x sized n e = record {
   needs_sized = sized;
   avoids_sized = λ b m. absurd (none_held x.avoids b e m);
@@ -262,7 +262,7 @@ foot_plays f s x sized n e = record {
   met = λ c m. absurd m;
 }
   where
-    first : (c : Colouring) → IsRepeated f (history s) [] s c ⊎ ⊥ → IsRepeated f (history s) [] s c
+    first : (c : Colouring) → IsRepeatedByPlay f (history s) [] s c ⊎ ⊥ → IsRepeatedByPlay f (history s) [] s c
     first c (inl r) = r
     first c (inr w) = absurd w
 

@@ -7,7 +7,7 @@ use Rattle.tt_game.specs.declared.frame.Frame.{Frame}
 use Rattle.tt_game.specs.declared.turns.Turn.{Turn}
 use Rattle.tt_game.specs.declared.turns.Turn.TheVariants.{Play, Pass}
 use Rattle.tt_proof.specs.Strategy.{Strategy, Entries, done, pick, reply, none, entry}
-use Rattle.tt_proof.specs.Footprints.{IsNeeded, IsNeededBehind, IsRepeated, path_after_turn}
+use Rattle.tt_proof.specs.Footprints.{IsNeeded, IsNeededBehind, IsRepeatedByPlay, path_after_turn}
 use Rattle.tt_game.specs.laws.Members.{IsIn, in_of_contains, contains_of_in}
 
 not_last : (xs : List Colouring) (c x : Colouring) → x ≢ c → Contains (xs ++ c ∷ []) x → Contains xs x
@@ -36,15 +36,15 @@ module _ (f : Frame) (h : List Colouring) (c : Colouring) where
   later : (path : List Colouring) (x : Colouring) → Contains path x → Contains (c ∷ path) x
   later path x m = contains_of_in (c ∷ path) x (inr (in_of_contains path x m))
 
-  repeated_less : (path : List Colouring) (a : State) (x : Colouring) → IsRepeated f h (c ∷ path) a x →
-      IsRepeated f (h ++ c ∷ []) path a x × (x ≢ c)
+  repeated_less : (path : List Colouring) (a : State) (x : Colouring) → IsRepeatedByPlay f h (c ∷ path) a x →
+      IsRepeatedByPlay f (h ++ c ∷ []) path a x × (x ≢ c)
   repeated_less path a x r = (
     (r.0, Contains-append_left h (c ∷ []) x r.1, λ m. r.2 (later path x m)),
     λ e. r.2 (contains_of_in (c ∷ path) x (inl (sym e))),
   )
 
-  repeated_more : (path : List Colouring) (a : State) (x : Colouring) → IsRepeated f (h ++ c ∷ []) path a x → x ≢ c →
-      IsRepeated f h (c ∷ path) a x
+  repeated_more : (path : List Colouring) (a : State) (x : Colouring) → IsRepeatedByPlay f (h ++ c ∷ []) path a x → x ≢ c →
+      IsRepeatedByPlay f h (c ∷ path) a x
   repeated_more path a x r n = (r.0, not_last h c x n r.1, λ m. r.2 (not_first path c x n m))
 
   -- what is needed behind a path that begins with the colouring is needed in the history that ends with it, and is another

@@ -2,10 +2,10 @@
 use Rattle.std.proofs.Common.{◌≡◌, ◌≤◌, ◌<◌, ◌+◌, ℕ, zero, suc, Bool, true, false, max, ◌⊎◌, inl, inr, arith, List, [], ◌∷◌, ◌++◌, ◌∙◌, refl, sym, ap, subst, append_assoc, length, get_or, decimal}
 use Rattle.tt_sgf.specs.declared.size.Size.{Size}
 use Rattle.tt_game.specs.declared.turns.Turn.{Turn}
-use Rattle.tt_proof.specs.Strategy.{Strategy, done, depth, depth_of_entries, IsOnBoard, number_on}
+use Rattle.tt_proof.specs.Strategy.{Strategy, done, depth, depth_of_entries, IsTurnOnBoardOfSize, turn_number_on_size}
 use Rattle.tt_proof.specs.CertificateText.{pick_symbol, replies_symbol, turn_text}
 use Rattle.tt_proof.specs.Outlines.{Outline, Branches, ended, picked, replied, part, no_branch, branch, unfolded, unfolded_entries, named_trees_after}
-use Rattle.tt_proof.specs.Outlines.{name_text, part_symbol, outline_text, branches_text, RefersBack, BranchesReferBack, IsOrderly, AreOrderly, OutlineGoesDeep, BranchesGoDeep}
+use Rattle.tt_proof.specs.Outlines.{naming_text, part_symbol, outline_text, branches_text, RefersBack, BranchesReferBack, IsOutlineInOrder, AreBranchesInOrder, OutlineGoesDeep, BranchesGoDeep}
 use Rattle.tt_proof.specs.inside.OutlineReading.{HasNoDigitInFront, EndsBefore, OutlineAt, BranchesAt, OutlineDeepAt, BranchesDeepAt}
 use Rattle.tt_proof.proofs.TextLemmas.{heads, tails, same_turn, turn_not_end}
 use Rattle.tt_proof.proofs.NameLemmas.{same_number}
@@ -33,14 +33,14 @@ module _ (size : Size) where
   pub record PickAt (us : List Strategy) (d : ℕ) (r y : List ℕ) : Type 0 where
     pub turn : Turn
     pub outline : Outline
-    pub on : IsOnBoard size turn
+    pub on : IsTurnOnBoardOfSize size turn
     pub text : r ≡ turn_text size turn ++ (outline_text size outline ++ y)
     pub deep : depth (unfolded us outline) + 1 ≡ d
     pub closed : RefersBack us outline
-    pub orderly : IsOrderly size outline
+    pub orderly : IsOutlineInOrder size outline
     pub ends : EndsBefore outline y
 
-  pub pick_at : (n : Bool) (us : List Strategy) (o : Outline) (d : ℕ) (r y : List ℕ) → OutlineAt size us o d (name_text n ++ (pick_symbol ∷ r)) y → PickAt us d r y
+  pub pick_at : (n : Bool) (us : List Strategy) (o : Outline) (d : ℕ) (r y : List ℕ) → OutlineAt size us o d (naming_text n ++ (pick_symbol ∷ r)) y → PickAt us d r y
   pick_at true us ended d r y at = absurd (omega (arith, heads at.text))
   pick_at true us (picked true t o) d r y at = record {
     turn = t;
@@ -72,7 +72,7 @@ module _ (size : Size) where
   pick_at false us (replied false bs) d r y at = absurd (omega (arith, heads at.text))
   pick_at false us (part k) d r y at = absurd (omega (arith, heads at.text))
 
-  pub reply_at : (n : Bool) (us : List Strategy) (o : Outline) (d : ℕ) (r y : List ℕ) → OutlineAt size us o d (name_text n ++ (replies_symbol ∷ r)) y
+  pub reply_at : (n : Bool) (us : List Strategy) (o : Outline) (d : ℕ) (r y : List ℕ) → OutlineAt size us o d (naming_text n ++ (replies_symbol ∷ r)) y
       → (bs : Branches) × BranchesAt size us 0 bs d r y
   reply_at true us ended d r y at = absurd (omega (arith, heads at.text))
   reply_at true us (picked true t o) d r y at = absurd (omega (arith, heads (tails at.text)))
@@ -91,10 +91,10 @@ module _ (size : Size) where
   pub record BranchBehind (us : List Strategy) (least d : ℕ) (t : Turn) (mid y : List ℕ) : Type 0 where
     pub outline : Outline
     pub branches : Branches
-    pub rises : least ≤ number_on size t
+    pub rises : least ≤ turn_number_on_size size t
     pub inside : OutlineAt size us outline (depth (unfolded us outline)) mid (branches_text size branches ++ y)
     pub closed : BranchesReferBack (named_trees_after us outline) branches
-    pub orderly : AreOrderly size (number_on size t + 1) branches
+    pub orderly : AreBranchesInOrder size (turn_number_on_size size t + 1) branches
     pub deep : d ≡ max (depth (unfolded us outline) + 1) (depth_of_entries (unfolded_entries (named_trees_after us outline) branches))
 
   pub branch_behind : (us : List Strategy) (least d : ℕ) (t : Turn) (now mid y : List ℕ) (bs : Branches) → now ≡ turn_text size t ++ mid
@@ -106,7 +106,7 @@ module _ (size : Size) where
       record {
         outline = o;
         branches = bs;
-        rises = subst (λ x. least ≤ number_on size x) (sym t_is) at.orderly.0;
+        rises = subst (λ x. least ≤ turn_number_on_size size x) (sym t_is) at.orderly.0;
         inside = record {
           closed = at.closed.0;
           orderly = at.orderly.2;
@@ -115,7 +115,7 @@ module _ (size : Size) where
           ends = ends_before o (branches_text size bs ++ y) (no_digit_behind size size.columns_in.0 bs y);
         };
         closed = at.closed.1;
-        orderly = subst (λ x. AreOrderly size (number_on size x + 1) bs) (sym t_is) at.orderly.3;
+        orderly = subst (λ x. AreBranchesInOrder size (turn_number_on_size size x + 1) bs) (sym t_is) at.orderly.3;
         deep = sym at.deep;
       }
 
@@ -170,7 +170,7 @@ module _ (size : Size) where
         let same = same_outline size size.columns_in.0 p w.outline us us g.0 (branches_text size w.branches ++ z) c.0 w.inside.closed
         (ends_before p g.0 (deep_no_digit (named_trees_after us p) (suc left) cs g.0 g.1.1)) w.inside.ends w.inside.text in
         let deep = w.deep in
-        apart_all cs w.branches (named_trees_after us p) (suc left) (number_on size t + 1)
+        apart_all cs w.branches (named_trees_after us p) (suc left) (turn_number_on_size size t + 1)
         (depth_of_entries (unfolded_entries (named_trees_after us w.outline) w.branches)) g.0 z c.1 (record {
           closed = subst (λ q. BranchesReferBack (named_trees_after us q) w.branches) (sym same.0) w.closed;
           orderly = w.orderly;
@@ -201,7 +201,7 @@ module _ (size : Size) where
   pub record DeepPick (us : List Strategy) (left : ℕ) (r : List ℕ) : Type 0 where
     pub turn : Turn
     pub behind : List ℕ
-    pub on : IsOnBoard size turn
+    pub on : IsTurnOnBoardOfSize size turn
     pub text : r ≡ turn_text size turn ++ behind
     pub inside : (m : ℕ) → left ≡ suc m → OutlineDeepAt size us m behind
 
@@ -211,7 +211,7 @@ module _ (size : Size) where
   no_more : (m : ℕ) → zero ≡ suc m → ⊥
   no_more m e = omega (arith, e)
 
-  deep_inside : (us : List Strategy) (left : ℕ) (t : Turn) (p : Outline) (r y : List ℕ) → IsOnBoard size t × IsOrderly size p → RefersBack us p
+  deep_inside : (us : List Strategy) (left : ℕ) (t : Turn) (p : Outline) (r y : List ℕ) → IsTurnOnBoardOfSize size t × IsOutlineInOrder size p → RefersBack us p
       → r ≡ turn_text size t ++ y → OutlineGoesDeep size us left p y → DeepPick us (suc left) r
   deep_inside us left t p r y q c e g = record {
     turn = t;
@@ -221,11 +221,11 @@ module _ (size : Size) where
     inside = λ m h. subst (λ k. OutlineDeepAt size us k y) (less left m h) (record { outline = p; closed = c; orderly = q.1; deep = g });
   }
 
-  deep_there : (us : List Strategy) (t : Turn) (r y : List ℕ) → IsOnBoard size t → r ≡ turn_text size t ++ y → DeepPick us zero r
+  deep_there : (us : List Strategy) (t : Turn) (r y : List ℕ) → IsTurnOnBoardOfSize size t → r ≡ turn_text size t ++ y → DeepPick us zero r
   deep_there us t r y on e = record { turn = t; behind = y; on = on; text = e; inside = λ m h. absurd (no_more m h) }
 
-  pub deep_pick : (n : Bool) (us : List Strategy) (left : ℕ) (p : Outline) (r : List ℕ) → IsOrderly size p → RefersBack us p
-      → OutlineGoesDeep size us left p (name_text n ++ (pick_symbol ∷ r)) → DeepPick us left r
+  pub deep_pick : (n : Bool) (us : List Strategy) (left : ℕ) (p : Outline) (r : List ℕ) → IsOutlineInOrder size p → RefersBack us p
+      → OutlineGoesDeep size us left p (naming_text n ++ (pick_symbol ∷ r)) → DeepPick us left r
   deep_pick n us left ended r q c g = absurd g
   deep_pick true us zero (picked true t p) r q c g = deep_there us t r g.0 q.0 (tails (tails g.1))
   deep_pick true us zero (picked false t p) r q c g = absurd (omega (arith, heads g.1))
@@ -243,8 +243,8 @@ module _ (size : Size) where
   deep_pick false us left (part k) r q c g = absurd (omega (arith, heads g.1.0))
 
   -- a reply that goes deeper
-  pub deep_reply : (n : Bool) (us : List Strategy) (left : ℕ) (p : Outline) (r : List ℕ) → IsOrderly size p → RefersBack us p
-      → OutlineGoesDeep size us left p (name_text n ++ (replies_symbol ∷ r)) → BranchesDeepAt size us left 0 r
+  pub deep_reply : (n : Bool) (us : List Strategy) (left : ℕ) (p : Outline) (r : List ℕ) → IsOutlineInOrder size p → RefersBack us p
+      → OutlineGoesDeep size us left p (naming_text n ++ (replies_symbol ∷ r)) → BranchesDeepAt size us left 0 r
   deep_reply n us left ended r q c g = absurd g
   deep_reply true us zero (picked true t p) r q c g = absurd (omega (arith, heads (tails g.1)))
   deep_reply true us zero (picked false t p) r q c g = absurd (omega (arith, heads g.1))
@@ -265,9 +265,9 @@ module _ (size : Size) where
 
   -- branches that go deeper where a turn stands: inside the first, or behind it
   pub record DeepBehind (us : List Strategy) (left least : ℕ) (t : Turn) (mid : List ℕ) : Type 0 where
-    pub rises : least ≤ number_on size t
+    pub rises : least ≤ turn_number_on_size size t
     pub more : (m : ℕ) → left ≡ suc m → OutlineDeepAt size us m mid
-        ⊎ ((p : Outline) × ((y : List ℕ) × (OutlineAt size us p (depth (unfolded us p)) mid y × BranchesDeepAt size (named_trees_after us p) left (number_on size t + 1) y)))
+        ⊎ ((p : Outline) × ((y : List ℕ) × (OutlineAt size us p (depth (unfolded us p)) mid y × BranchesDeepAt size (named_trees_after us p) left (turn_number_on_size size t + 1) y)))
 
   pub deep_behind : (us : List Strategy) (left least : ℕ) (t : Turn) (now mid : List ℕ) → now ≡ turn_text size t ++ mid → BranchesDeepAt size us left least now
       → DeepBehind us left least t mid
@@ -276,19 +276,19 @@ module _ (size : Size) where
       turn_is : (v : Turn) (y : List ℕ) → now ≡ turn_text size v ++ y → (t ≡ v) × (mid ≡ y)
       turn_is v y g = let h = sym e ∙ g in (same_turn size size.columns_in.0 t v (heads h) (heads (tails h)), tails (tails h))
 
-      pass : (l : ℕ) (cs : Branches) → BranchesReferBack us cs → AreOrderly size least cs → BranchesGoDeep size us l cs now → DeepBehind us l least t mid
+      pass : (l : ℕ) (cs : Branches) → BranchesReferBack us cs → AreBranchesInOrder size least cs → BranchesGoDeep size us l cs now → DeepBehind us l least t mid
       pass l no_branch c q g = absurd g
       pass zero (branch v p cs) c q g =
-          record { rises = subst (λ x. least ≤ number_on size x) (sym (turn_is v g.0 g.1).0) q.0; more = λ m h. absurd (no_more m h) }
+          record { rises = subst (λ x. least ≤ turn_number_on_size size x) (sym (turn_is v g.0 g.1).0) q.0; more = λ m h. absurd (no_more m h) }
       pass (suc l) (branch v p cs) c q (inl g) =
           let same = turn_is v g.0 g.1.0 in record {
-            rises = subst (λ x. least ≤ number_on size x) (sym same.0) q.0;
+            rises = subst (λ x. least ≤ turn_number_on_size size x) (sym same.0) q.0;
             more = λ m h. inl (subst (λ j. OutlineDeepAt size us j mid) (less l m h)
                 (record { outline = p; closed = c.0; orderly = q.2; deep = subst (OutlineGoesDeep size us l p) (sym same.1) g.1.1 }));
           }
       pass (suc l) (branch v p cs) c q (inr g) =
           let same = turn_is v (outline_text size p ++ g.0) g.1.0 in record {
-            rises = subst (λ x. least ≤ number_on size x) (sym same.0) q.0;
+            rises = subst (λ x. least ≤ turn_number_on_size size x) (sym same.0) q.0;
             more = λ m h. inr (
               p,
               (
@@ -304,7 +304,7 @@ module _ (size : Size) where
                   record {
                     branches = cs;
                     closed = c.1;
-                    orderly = subst (λ x. AreOrderly size (number_on size x + 1) cs) (sym same.0) q.3;
+                    orderly = subst (λ x. AreBranchesInOrder size (turn_number_on_size size x + 1) cs) (sym same.0) q.3;
                     deep = g.1.1;
                   },
                 ),

@@ -9,11 +9,11 @@ use Rattle.tt_game.specs.declared.turns.Turn.{Turn}
 use Rattle.tt_proof.specs.declared.outlines.Outline as form
 use Rattle.tt_proof.specs.declared.certificate_read.CertFault.{CertFault}
 use Rattle.tt_proof.specs.declared.certificate_read.CertFault.TheVariants.{Syntax, TooDeep, NoMemory}
-use Rattle.tt_proof.specs.Strategy.{Strategy, done, depth, IsOnBoard, number_on}
+use Rattle.tt_proof.specs.Strategy.{Strategy, done, depth, IsTurnOnBoardOfSize, turn_number_on_size}
 use Rattle.tt_proof.specs.CertificateText.{won_symbol, pick_symbol, replies_symbol, turn_text, side_prefix}
 use Rattle.tt_proof.specs.CertificateFaults.{IsSharedCertFault}
 use Rattle.tt_proof.specs.Outlines.{Outline, Branches, ended, picked, replied, part, no_branch, branch, unfolded}
-use Rattle.tt_proof.specs.Outlines.{name_symbol, name_text, part_symbol, named_trees_after, outline_text, branches_text, RefersBack, IsOrderly, AreOrderly, OutlineGoesDeep, BranchesGoDeep, IsSharedCertTooDeep}
+use Rattle.tt_proof.specs.Outlines.{naming_symbol, naming_text, part_symbol, named_trees_after, outline_text, branches_text, RefersBack, IsOutlineInOrder, AreBranchesInOrder, OutlineGoesDeep, BranchesGoDeep, IsSharedCertTooDeep}
 use Rattle.tt_proof.specs.inside.OutlineReading.{HasNoDigitInFront, OutlineAt, BranchesAt, ReadsOutline, OutlineDeepAt, BranchesDeepAt, OutlineFaultAt, BranchesFaultAt}
 use Rattle.tt_proof.proofs.TextLemmas.{heads, tails}
 use Rattle.tt_proof.proofs.CertificateLemmas.{side_apart}
@@ -28,7 +28,7 @@ module _ (size : Size) where
 
   -- where no symbol stands, there is no outline
   pub no_outline : (left : ℕ) (old r : List ℕ) → ((b : ℕ) (w : List ℕ) → r ≡ b ∷ w →
-      (b ≡ won_symbol → ⊥) × (b ≡ part_symbol → ⊥) × (b ≡ name_symbol → ⊥) × (b ≡ pick_symbol → ⊥) × (b ≡ replies_symbol → ⊥))
+      (b ≡ won_symbol → ⊥) × (b ≡ part_symbol → ⊥) × (b ≡ naming_symbol → ⊥) × (b ≡ pick_symbol → ⊥) × (b ≡ replies_symbol → ⊥))
       → OutlineFaultAt size left old r Syntax
   no_outline left old r h = (λ us g o d y at. no o y at.text, λ us g k. none us left k.outline k.deep)
     where
@@ -52,10 +52,10 @@ module _ (size : Size) where
 
   -- nor behind a `=` where neither `!` nor `?` does
   pub no_named : (left : ℕ) (old r : List ℕ) → ((b : ℕ) (w : List ℕ) → r ≡ b ∷ w → (b ≡ pick_symbol → ⊥) × (b ≡ replies_symbol → ⊥))
-      → OutlineFaultAt size left old (name_symbol ∷ r) Syntax
+      → OutlineFaultAt size left old (naming_symbol ∷ r) Syntax
   no_named left old r h = (λ us g o d y at. no o y at.text, λ us g k. none us left k.outline k.deep)
     where
-      none : (us : List Strategy) (m : ℕ) (p : Outline) → OutlineGoesDeep size us m p (name_symbol ∷ r) → ⊥
+      none : (us : List Strategy) (m : ℕ) (p : Outline) → OutlineGoesDeep size us m p (naming_symbol ∷ r) → ⊥
       none us m ended g = g
       none us zero (picked true t o) g = (h _ _ (tails g.1)).0 refl
       none us zero (picked false t o) g = omega (arith, heads g.1)
@@ -65,7 +65,7 @@ module _ (size : Size) where
       none us m (replied false bs) g = omega (arith, heads g.1.0)
       none us m (part k) g = omega (arith, heads g.1.0)
 
-      no : (o : Outline) (y : List ℕ) → name_symbol ∷ r ≡ outline_text size o ++ y → ⊥
+      no : (o : Outline) (y : List ℕ) → naming_symbol ∷ r ≡ outline_text size o ++ y → ⊥
       no ended y e = omega (arith, heads e)
       no (picked true t o) y e = (h _ _ (tails e)).0 refl
       no (picked false t o) y e = omega (arith, heads e)
@@ -128,28 +128,28 @@ module _ (size : Size) where
 
   -- ---- a pick
 
-  pub no_turn : (n : Bool) (left : ℕ) (old r : List ℕ) → NoTurn size r → OutlineFaultAt size left old (name_text n ++ (pick_symbol ∷ r)) Syntax
+  pub no_turn : (n : Bool) (left : ℕ) (old r : List ℕ) → NoTurn size r → OutlineFaultAt size left old (naming_text n ++ (pick_symbol ∷ r)) Syntax
   no_turn n left old r h = (
     λ us g o d y at. let w = pick_at size n us o d r y at in h w.turn (outline_text size w.outline ++ y) w.on w.text,
     λ us g k. let w = deep_pick size n us left k.outline r k.orderly k.closed k.deep in h w.turn w.behind w.on w.text,
   )
 
-  pub no_room : (n : Bool) (old : List ℕ) (t : Turn) (r after : List ℕ) → IsOnBoard size t → r ≡ turn_text size t ++ after
-      → OutlineFaultAt size 0 old (name_text n ++ (pick_symbol ∷ r)) TooDeep
+  pub no_room : (n : Bool) (old : List ℕ) (t : Turn) (r after : List ℕ) → IsTurnOnBoardOfSize size t → r ≡ turn_text size t ++ after
+      → OutlineFaultAt size 0 old (naming_text n ++ (pick_symbol ∷ r)) TooDeep
   no_room n old t r after on e = (
     λ us g o d y at. let w = pick_at size n us o d r y at in let deep = w.deep in omega (arith, deep),
-    λ us g. record { outline = picked n t ended; closed = tt; orderly = (on, tt); deep = (after, ap (λ w. name_text n ++ (pick_symbol ∷ w)) e) },
+    λ us g. record { outline = picked n t ended; closed = tt; orderly = (on, tt); deep = (after, ap (λ w. naming_text n ++ (pick_symbol ∷ w)) e) },
   )
 
-  pub pick_fault : (n : Bool) (left : ℕ) (old : List ℕ) (t : Turn) (r after : List ℕ) (f : CertFault) → IsOnBoard size t → r ≡ turn_text size t ++ after
-      → OutlineFaultAt size left old after f → OutlineFaultAt size (suc left) old (name_text n ++ (pick_symbol ∷ r)) f
+  pub pick_fault : (n : Bool) (left : ℕ) (old : List ℕ) (t : Turn) (r after : List ℕ) (f : CertFault) → IsTurnOnBoardOfSize size t → r ≡ turn_text size t ++ after
+      → OutlineFaultAt size left old after f → OutlineFaultAt size (suc left) old (naming_text n ++ (pick_symbol ∷ r)) f
   pick_fault n left old t r after f on e h = by f h
     where
       inside : (us : List Strategy) (d : ℕ) (y : List ℕ) (w : PickAt size us d r y) → OutlineAt size us w.outline (depth (unfolded us w.outline)) after y
       inside us d y w =
           record { closed = w.closed; orderly = w.orderly; deep = refl; text = tails (tails (sym e ∙ w.text)); ends = w.ends }
 
-      by : (f : CertFault) → OutlineFaultAt size left old after f → OutlineFaultAt size (suc left) old (name_text n ++ (pick_symbol ∷ r)) f
+      by : (f : CertFault) → OutlineFaultAt size left old after f → OutlineFaultAt size (suc left) old (naming_text n ++ (pick_symbol ∷ r)) f
       by Syntax h = (
         λ us g o d y at. let w = pick_at size n us o d r y at in h.0 us g w.outline (depth (unfolded us w.outline)) y (inside us d y w),
         λ us g k.
@@ -166,7 +166,7 @@ module _ (size : Size) where
           outline = picked n t w.outline;
           closed = w.closed;
           orderly = (on, w.orderly);
-          deep = (after, (ap (λ w. name_text n ++ (pick_symbol ∷ w)) e, w.deep));
+          deep = (after, (ap (λ w. naming_text n ++ (pick_symbol ∷ w)) e, w.deep));
         },
       )
       by NoMemory h = tt
@@ -174,7 +174,7 @@ module _ (size : Size) where
   -- ---- a reply
 
   pub reply_fault : (n : Bool) (left : ℕ) (old r : List ℕ) (f : CertFault) → BranchesFaultAt size left old 0 r f
-      → OutlineFaultAt size left old (name_text n ++ (replies_symbol ∷ r)) f
+      → OutlineFaultAt size left old (naming_text n ++ (replies_symbol ∷ r)) f
   reply_fault n left old r Syntax h = (
     λ us g o d y at. let w = reply_at size n us o d r y at in h.0 us g w.0 d y w.1,
     λ us g k. h.1 us g (deep_reply size n us left k.outline r k.orderly k.closed k.deep),
@@ -192,7 +192,7 @@ module _ (size : Size) where
       → BranchesFaultAt size left old least now Syntax
   no_branches left old least now end turn = (λ us g bs d y at. no us bs d y at, λ us g k. none us left k.branches k.orderly k.deep)
     where
-      none : (us : List Strategy) (m : ℕ) (cs : Branches) → AreOrderly size least cs → BranchesGoDeep size us m cs now → ⊥
+      none : (us : List Strategy) (m : ℕ) (cs : Branches) → AreBranchesInOrder size least cs → BranchesGoDeep size us m cs now → ⊥
       none us m no_branch q g = g
       none us zero (branch t o cs) q g = turn t g.0 q.1 g.1
       none us (suc m) (branch t o cs) q (inl g) = turn t g.0 q.1 g.1.0
@@ -203,19 +203,19 @@ module _ (size : Size) where
       no us (branch t o bs) d y at = turn t ((outline_text size o ++ branches_text size bs) ++ y) at.orderly.1 at.text
 
   module _ (old : List ℕ) (least : ℕ) (now mid : List ℕ) (t : Turn) (e : now ≡ turn_text size t ++ mid) where
-    pub not_rising : (left : ℕ) → number_on size t < least → BranchesFaultAt size left old least now Syntax
+    pub not_rising : (left : ℕ) → turn_number_on_size size t < least → BranchesFaultAt size left old least now Syntax
     not_rising left falls = (
       λ us g bs d y at. let w = branch_behind size us least d t now mid y bs e at in let rises = w.rises in omega (arith, rises, falls),
       λ us g k. let w = deep_behind size us left least t now mid e k in let rises = w.rises in omega (arith, rises, falls),
     )
 
-    pub no_room_below : IsOnBoard size t → least ≤ number_on size t → BranchesFaultAt size 0 old least now TooDeep
+    pub no_room_below : IsTurnOnBoardOfSize size t → least ≤ turn_number_on_size size t → BranchesFaultAt size 0 old least now TooDeep
     no_room_below on rises = (
       λ us g bs d y at. let w = branch_behind size us least d t now mid y bs e at in let deep = w.deep in omega (arith, deep),
       λ us g. record { branches = branch t ended no_branch; closed = (tt, tt); orderly = (rises, on, tt, tt); deep = (mid, e) },
     )
 
-    pub branch_fault : (left : ℕ) (f : CertFault) → IsOnBoard size t → least ≤ number_on size t → OutlineFaultAt size left old mid f
+    pub branch_fault : (left : ℕ) (f : CertFault) → IsTurnOnBoardOfSize size t → least ≤ turn_number_on_size size t → OutlineFaultAt size left old mid f
         → BranchesFaultAt size (suc left) old least now f
     branch_fault left Syntax on rises h = (
       λ us g bs d y at.
@@ -226,7 +226,7 @@ module _ (size : Size) where
       where
         pass : (us : List Strategy) → map depth us ≡ old → OutlineDeepAt size us left mid
             ⊎ ((p : Outline) × ((y : List ℕ) × (OutlineAt size us p (depth (unfolded us p)) mid y
-            × BranchesDeepAt size (named_trees_after us p) (suc left) (number_on size t + 1) y))) → ⊥
+            × BranchesDeepAt size (named_trees_after us p) (suc left) (turn_number_on_size size t + 1) y))) → ⊥
         pass us g (inl w) = h.1 us g w
         pass us g (inr w) = h.0 us g w.0 (depth (unfolded us w.0)) w.1.0 w.1.1.0
     branch_fault left TooDeep on rises h = (
@@ -284,7 +284,7 @@ module _ (size : Size) where
     deep_rest w =
         subst (OutlineGoesDeep size [] most_depth w.outline) (sym (side_apart size size.columns_in.0 s w.side rest w.behind (sym text ∙ w.text)).1) w.deep
 
-    whole_at : (side : Side) (o : Outline) → RefersBack [] o → IsOrderly size o → bytes ≡ side_prefix side ++ outline_text size o
+    whole_at : (side : Side) (o : Outline) → RefersBack [] o → IsOutlineInOrder size o → bytes ≡ side_prefix side ++ outline_text size o
         → OutlineAt size [] o (depth (unfolded [] o)) rest []
     whole_at side o c q e =
         record { closed = c; orderly = q; deep = refl; text = rest_is side o e; ends = ends_before o [] tt }

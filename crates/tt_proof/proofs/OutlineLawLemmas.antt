@@ -4,10 +4,10 @@ use Rattle.std.proofs.lemmas.List.{append-nil}
 use Rattle.tt_sgf.specs.declared.size.Size.{Size}
 use Rattle.tt_game.specs.declared.turns.Turn.TheVariants.{Play, Pass}
 use Rattle.tt_proof.specs.declared.tree.TheConstants.{MOST_DEPTH}
-use Rattle.tt_proof.specs.Strategy.{Strategy, Entries, done, pick, reply, none, entry, depth, number_on, IsInOrder, AreInOrder}
+use Rattle.tt_proof.specs.Strategy.{Strategy, Entries, done, pick, reply, none, entry, depth, turn_number_on_size, IsInOrder, AreInOrder}
 use Rattle.tt_proof.specs.CertificateText.{pick_symbol, replies_symbol, turn_text, tree_text, entries_text, side_prefix}
 use Rattle.tt_proof.specs.Outlines.{Outline, Branches, ended, picked, replied, part, no_branch, branch, unfolded}
-use Rattle.tt_proof.specs.Outlines.{unfolded_entries, named_trees_after, named_trees_after_branches, RefersBack, BranchesReferBack, IsOrderly, AreOrderly, outline_text, branches_text}
+use Rattle.tt_proof.specs.Outlines.{unfolded_entries, named_trees_after, named_trees_after_branches, RefersBack, BranchesReferBack, IsOutlineInOrder, AreBranchesInOrder, outline_text, branches_text}
 use Rattle.tt_proof.specs.inside.OutlineReading.{HasNoDigitInFront, EndsBefore}
 use Rattle.tt_proof.specs.OutlineLaws.{OneOutlinePerCertificate, PlainIsSharedCertificate}
 use Rattle.tt_game.specs.Game.{State, after}
@@ -17,7 +17,7 @@ use Rattle.tt_game.specs.declared.turns.Turn.{Turn}
 use Rattle.tt_proof.specs.declared.position_footprint.PositionFootprint.{PositionFootprint}
 use Rattle.tt_proof.specs.declared.outline_replay.ReplayResult.{ReplayResult}
 use Rattle.tt_proof.specs.declared.outline_replay.ReplayResult.TheVariants.{Won, Lost, Unfit}
-use Rattle.tt_proof.specs.SharedParts.{NamedFootprints, RestsBeforePick, RestsBeforeReply, CombinesTo, IsResultBeforeTurn, IsResultOfDone, IsResultOfReply, FindsOutline, FindsBranches, IsOutlineAnswer, wins_if_fit}
+use Rattle.tt_proof.specs.SharedParts.{NamedFootprints, RestsBeforePick, RestsBeforeOpposingTurn, CombinesTo, IsResultBeforeTurn, IsResultOfDone, IsResultOfReply, IsReplayOfOutline, IsReplayOfBranches, IsOutlineAnswer, wins_if_fit}
 use Rattle.tt_proof.specs.inside.OutlineReplaying.{FindsPick, FindsReply, FindsBranch}
 use Rattle.tt_proof.proofs.TextLemmas.{heads, tails, same_turn, turn_not_end}
 use Rattle.tt_proof.proofs.CertificateLemmas.{side_apart}
@@ -159,14 +159,14 @@ mutual
       }
 
 mutual
-  plain_orderly : (size : Size) (u : Strategy) → IsInOrder size u → IsOrderly size (plain u)
+  plain_orderly : (size : Size) (u : Strategy) → IsInOrder size u → IsOutlineInOrder size (plain u)
   plain_orderly size done h = tt
   plain_orderly size (pick t u) h = (h.0, plain_orderly size u h.1)
   plain_orderly size (reply es) h = plain_all_orderly size 0 es h
 
-  plain_all_orderly : (size : Size) (least : ℕ) (es : Entries) → AreInOrder size least es → AreOrderly size least (plain_all es)
+  plain_all_orderly : (size : Size) (least : ℕ) (es : Entries) → AreInOrder size least es → AreBranchesInOrder size least (plain_all es)
   plain_all_orderly size least none h = tt
-  plain_all_orderly size least (entry t u es) h = (h.0, h.1, plain_orderly size u h.2, plain_all_orderly size (number_on size t + 1) es h.3)
+  plain_all_orderly size least (entry t u es) h = (h.0, h.1, plain_orderly size u h.2, plain_all_orderly size (turn_number_on_size size t + 1) es h.3)
 
 -- ---- and none of its parts doesn't fit
 
@@ -203,34 +203,34 @@ module _ (side : Side) (f : Frame) where
   reply_fit s bs Unfit r h e = absurd h
 
   pick_fit : (ns : NamedFootprints) (t : Turn) (o : Outline) (s : State) (r : ReplayResult) (ms : NamedFootprints)
-      → ((q : ReplayResult) → FindsOutline side f ns o (after f s t) q ms → IsFit q) → FindsPick side f ns t o s r ms → IsFit r
+      → ((q : ReplayResult) → IsReplayOfOutline side f ns o (after f s t) q ms → IsFit q) → FindsPick side f ns t o s r ms → IsFit r
   pick_fit ns t o s r ms h (inl w) = before_fit (RestsBeforePick f s t) w.2.0 r (h w.2.0 w.2.1.0) w.2.1.1
   pick_fit ns t o s r ms h (inr w) = subst IsFit (sym w.1) tt
 
   branch_fit : (ns : NamedFootprints) (t : Turn) (o : Outline) (s : State) (r : ReplayResult) (ms : NamedFootprints)
-      → ((q : ReplayResult) → FindsOutline side f ns o (after f s t) q ms → IsFit q) → FindsBranch side f ns t o s r ms → IsFit r
-  branch_fit ns t o s r ms h (inl w) = before_fit (RestsBeforeReply f s t) w.1.0 r (h w.1.0 w.1.1.0) w.1.1.1
+      → ((q : ReplayResult) → IsReplayOfOutline side f ns o (after f s t) q ms → IsFit q) → FindsBranch side f ns t o s r ms → IsFit r
+  branch_fit ns t o s r ms h (inl w) = before_fit (RestsBeforeOpposingTurn f s t) w.1.0 r (h w.1.0 w.1.1.0) w.1.1.1
   branch_fit ns t o s r ms h (inr w) = subst IsFit (sym w.1.1.0) tt
 
-  all_fit : (ns : NamedFootprints) (bs : Branches) (s : State) (r : ReplayResult) (ms : NamedFootprints) → ((q : ReplayResult) → FindsBranches side f ns bs s q ms → IsFit q)
+  all_fit : (ns : NamedFootprints) (bs : Branches) (s : State) (r : ReplayResult) (ms : NamedFootprints) → ((q : ReplayResult) → IsReplayOfBranches side f ns bs s q ms → IsFit q)
       → FindsReply side f ns bs s r ms → IsFit r
   all_fit ns bs s r ms h (inl w) =
       let e = w.2.1.0 in reply_fit s bs w.2.0 r (both_fit (Won e.0) e.1.1.0 w.2.0 tt (h e.1.1.0 e.1.1.1.0) e.1.1.1.1) w.2.1.1
   all_fit ns bs s r ms h (inr w) = subst IsFit (sym w.1) tt
 
   mutual
-    plain_fit : (u : Strategy) (ns : NamedFootprints) (s : State) (r : ReplayResult) (ms : NamedFootprints) → FindsOutline side f ns (plain u) s r ms → IsFit r
+    plain_fit : (u : Strategy) (ns : NamedFootprints) (s : State) (r : ReplayResult) (ms : NamedFootprints) → IsReplayOfOutline side f ns (plain u) s r ms → IsFit r
     plain_fit done ns s r ms e = end_fit s r e.0
     plain_fit (pick t u) ns s r ms e = pick_fit ns t (plain u) s r e.0 (λ q g. plain_fit u ns (after f s t) q e.0 g) e.1.1
     plain_fit (reply es) ns s r ms e = all_fit ns (plain_all es) s r e.0 (λ q g. plain_all_fit es ns s q e.0 g) e.1.1
 
-    plain_all_fit : (es : Entries) (ns : NamedFootprints) (s : State) (r : ReplayResult) (ms : NamedFootprints) → FindsBranches side f ns (plain_all es) s r ms → IsFit r
+    plain_all_fit : (es : Entries) (ns : NamedFootprints) (s : State) (r : ReplayResult) (ms : NamedFootprints) → IsReplayOfBranches side f ns (plain_all es) s r ms → IsFit r
     plain_all_fit none ns s r ms e = subst IsFit (sym e.0.1.0) tt
     plain_all_fit (entry t u es) ns s r ms e =
         both_fit e.0 e.1.0 r (branch_fit ns t (plain u) s e.0 e.1.1.0 (λ q g. plain_fit u ns (after f s t) q e.1.1.0 g) e.1.1.1.0)
         (plain_all_fit es e.1.1.0 s e.1.0 ms e.1.1.1.1) e.1.1.1.2
 
-  fit_says : (o : Outline) (s : State) → ((r : ReplayResult) (ms : NamedFootprints) → FindsOutline side f [] o s r ms → IsFit r) → IsOutlineAnswer side f o s None → ⊥
+  fit_says : (o : Outline) (s : State) → ((r : ReplayResult) (ms : NamedFootprints) → IsReplayOfOutline side f [] o s r ms → IsFit r) → IsOutlineAnswer side f o s None → ⊥
   fit_says o s h e = pass e.0 (h e.0 e.1.0 e.1.1.0) e.1.1.1
     where
       pass : (r : ReplayResult) → IsFit r → None ≡ wins_if_fit r → ⊥

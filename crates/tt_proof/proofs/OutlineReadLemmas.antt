@@ -7,10 +7,10 @@ use Rattle.tt_game.specs.declared.frame.Side.{Side}
 use Rattle.tt_game.specs.declared.turns.Turn.{Turn}
 use Rattle.tt_proof.specs.declared.outlines.Outline as form
 use Rattle.tt_proof.specs.declared.tree.TheConstants.{MOST_DEPTH}
-use Rattle.tt_proof.specs.Strategy.{Strategy, done, depth, depth_of_entries, IsOnBoard, number_on}
+use Rattle.tt_proof.specs.Strategy.{Strategy, done, depth, depth_of_entries, IsTurnOnBoardOfSize, turn_number_on_size}
 use Rattle.tt_proof.specs.CertificateText.{won_symbol, pick_symbol, replies_symbol, turn_text, side_prefix}
 use Rattle.tt_proof.specs.Outlines.{Outline, Branches, ended, picked, replied, part, no_branch, branch, with_named_tree, unfolded_entries, unfolded}
-use Rattle.tt_proof.specs.Outlines.{named_trees_after, named_trees_after_branches, outline_of, branches_of_reply, name_text, part_symbol, outline_text, branches_text, BranchesGoDeep, IsSharedCertificate, AreOrderly, BranchesReferBack}
+use Rattle.tt_proof.specs.Outlines.{named_trees_after, named_trees_after_branches, outline_of, branches_of_reply, naming_text, part_symbol, outline_text, branches_text, BranchesGoDeep, IsSharedCertificate, AreBranchesInOrder, BranchesReferBack}
 use Rattle.tt_proof.specs.inside.OutlineReading.{HasNoDigitInFront, with_depth, OutlineAt, BranchesAt, OutlineDeepAt, BranchesDeepAt, ReadsOutline, ReadsBranches}
 use Rattle.tt_proof.proofs.OutlineLawLemmas.{same_outline}
 use Rattle.tt_proof.proofs.OutlineDeepLemmas.{BranchBehind, branch_behind, deep_behind, apart}
@@ -41,8 +41,8 @@ module _ (size : Size) where
   }
 
   pub reads_pick : (left e : ℕ) (old mid new : List ℕ) (n : Bool) (t : Turn) (o : Outline) (d : ℕ) (r after y : List ℕ) → left ≡ suc e
-      → IsOnBoard size t → r ≡ turn_text size t ++ after → ReadsOutline size e old mid o d after y → new ≡ with_depth n (d + 1) mid
-      → ReadsOutline size left old new (picked n t o) (d + 1) (name_text n ++ (pick_symbol ∷ r)) y
+      → IsTurnOnBoardOfSize size t → r ≡ turn_text size t ++ after → ReadsOutline size e old mid o d after y → new ≡ with_depth n (d + 1) mid
+      → ReadsOutline size left old new (picked n t o) (d + 1) (naming_text n ++ (pick_symbol ∷ r)) y
   reads_pick left e old mid new n t o d r after y room on at h more = record {
     shallow = let low = h.shallow in omega (arith, low, room);
     at = λ us g. let w = h.at us g in
@@ -51,8 +51,8 @@ module _ (size : Size) where
           orderly = (on, w.orderly);
           deep = ap (λ x. x + 1) w.deep;
           text =
-              ap (λ w. name_text n ++ (pick_symbol ∷ w)) (at ∙ ap (λ w. turn_text size t ++ w) w.text)
-              ∙ sym (append_assoc (name_text n) (pick_symbol ∷ (turn_text size t ++ outline_text size o)) y);
+              ap (λ w. naming_text n ++ (pick_symbol ∷ w)) (at ∙ ap (λ w. turn_text size t ++ w) w.text)
+              ∙ sym (append_assoc (naming_text n) (pick_symbol ∷ (turn_text size t ++ outline_text size o)) y);
           ends = w.ends;
         };
     names = λ us g.
@@ -62,7 +62,7 @@ module _ (size : Size) where
   }
 
   pub reads_reply : (left : ℕ) (old mid new : List ℕ) (n : Bool) (bs : Branches) (d : ℕ) (r y : List ℕ) → ReadsBranches size left old mid 0 bs d r y
-      → new ≡ with_depth n d mid → ReadsOutline size left old new (replied n bs) d (name_text n ++ (replies_symbol ∷ r)) y
+      → new ≡ with_depth n d mid → ReadsOutline size left old new (replied n bs) d (naming_text n ++ (replies_symbol ∷ r)) y
   reads_reply left old mid new n bs d r y h more = record {
     shallow = h.shallow;
     at = λ us g. let w = h.at us g in
@@ -71,8 +71,8 @@ module _ (size : Size) where
           orderly = w.orderly;
           deep = w.deep;
           text =
-              ap (λ w. name_text n ++ (replies_symbol ∷ w)) w.text
-              ∙ sym (append_assoc (name_text n) (replies_symbol ∷ branches_text size bs) y);
+              ap (λ w. naming_text n ++ (replies_symbol ∷ w)) w.text
+              ∙ sym (append_assoc (naming_text n) (replies_symbol ∷ branches_text size bs) y);
           ends = tt;
         };
     names = λ us g.
@@ -107,7 +107,7 @@ module _ (size : Size) where
     pub only : (bs : Branches) (d : ℕ) (y : List ℕ) → BranchesAt size us 0 bs d bytes y
         → (bs' : Branches) × ((d' : ℕ) × ((d' ≤ d) × BranchesAt size names least bs' d' now y))
     pub closes : (bs : Branches) → BranchesReferBack names bs → BranchesReferBack us (before list bs)
-    pub orders : (bs : Branches) → AreOrderly size least bs → AreOrderly size 0 (before list bs)
+    pub orders : (bs : Branches) → AreBranchesInOrder size least bs → AreBranchesInOrder size 0 (before list bs)
     pub stays : (left : ℕ) → most ≤ left → BranchesDeepAt size us left 0 bytes → BranchesDeepAt size names left least now
     pub runs : (left : ℕ) (bs : Branches) → BranchesGoDeep size names left bs now → BranchesGoDeep size us left (before list bs) bytes
 
@@ -126,8 +126,8 @@ module _ (size : Size) where
 
   -- one more branch is read
   pub walked_more : (us : List Strategy) (least number left e : ℕ) (bytes now mid after : List ℕ) (list list' : List (Turn × form.Outline)) (t : Turn)
-      (o : form.Outline) (most most' d : ℕ) (old new : List ℕ) → Walked us least bytes now list most old → least ≤ number → number ≡ number_on size t
-      → IsOnBoard size t → now ≡ turn_text size t ++ mid → ReadsOutline size e old new (outline_of o) d mid after
+      (o : form.Outline) (most most' d : ℕ) (old new : List ℕ) → Walked us least bytes now list most old → least ≤ number → number ≡ turn_number_on_size size t
+      → IsTurnOnBoardOfSize size t → now ≡ turn_text size t ++ mid → ReadsOutline size e old new (outline_of o) d mid after
       → list' ≡ list ++ (t, o) ∷ [] → most' ≡ max most (d + 1) → Walked us (number + 1) bytes after list' most' new
   walked_more us least number left e bytes now mid after list list' t o most most' d old new w rises is on at h listed deeper = record {
     names = named_trees_after w.names (outline_of o);
@@ -142,7 +142,7 @@ module _ (size : Size) where
     closes = λ bs g. rw (listed, before_push list (t, o) bs) (w.closes (branch t (outline_of o) bs) ((h.at w.names w.deep).closed, g));
     orders = λ bs g. rw (listed, before_push list (t, o) bs)
         (w.orders (branch t (outline_of o) bs)
-        (omega (arith, rises, is), on, (h.at w.names w.deep).orderly, subst (λ x. AreOrderly size (x + 1) bs) is g));
+        (omega (arith, rises, is), on, (h.at w.names w.deep).orderly, subst (λ x. AreBranchesInOrder size (x + 1) bs) is g));
     stays = λ left low k. behind_this left low (w.stays left (omega (arith, low, deeper)) k);
     runs = λ left bs g. rw (listed, before_push list (t, o) bs) (w.runs left (branch t (outline_of o) bs) (run left bs g));
   }
@@ -163,7 +163,7 @@ module _ (size : Size) where
                 omega (arith, low, deep, eq),
                 record {
                   closed = subst (λ p. BranchesReferBack (named_trees_after w.names p) g.branches) (sym same.0) g.closed;
-                  orderly = subst (λ x. AreOrderly size (x + 1) g.branches) (sym is) g.orderly;
+                  orderly = subst (λ x. AreBranchesInOrder size (x + 1) g.branches) (sym is) g.orderly;
                   deep = refl;
                   text = same.1;
                 },
@@ -182,15 +182,15 @@ module _ (size : Size) where
 
           pass : OutlineDeepAt size w.names m mid
               ⊎ ((p : Outline) × ((y : List ℕ) × (OutlineAt size w.names p (depth (unfolded w.names p)) mid y
-              × BranchesDeepAt size (named_trees_after w.names p) (suc m) (number_on size t + 1) y)))
+              × BranchesDeepAt size (named_trees_after w.names p) (suc m) (turn_number_on_size size t + 1) y)))
               → BranchesDeepAt size (named_trees_after w.names (outline_of o)) (suc m) (number + 1) after
           pass (inl g) = absurd (apart size g.outline (outline_of o) w.names m d mid after g.closed here (omega (arith, low, deeper)) g.deep)
           pass (inr g) =
               let same = same_outline size size.columns_in.0 (outline_of o) g.0 w.names w.names after g.1.0 here.closed g.1.1.0.closed here.ends g.1.1.0.ends
               (sym here.text ∙ g.1.1.0.text) in
               subst (λ n. BranchesDeepAt size (named_trees_after w.names (outline_of o)) (suc m) n after) (ap (λ x. x + 1) (sym is))
-              (subst (λ y. BranchesDeepAt size (named_trees_after w.names (outline_of o)) (suc m) (number_on size t + 1) y) (sym same.1)
-              (subst (λ p. BranchesDeepAt size (named_trees_after w.names p) (suc m) (number_on size t + 1) g.1.0) (sym same.0) g.1.1.1))
+              (subst (λ y. BranchesDeepAt size (named_trees_after w.names (outline_of o)) (suc m) (turn_number_on_size size t + 1) y) (sym same.1)
+              (subst (λ p. BranchesDeepAt size (named_trees_after w.names p) (suc m) (turn_number_on_size size t + 1) g.1.0) (sym same.0) g.1.1.1))
 
       run : (left : ℕ) (bs : Branches) → BranchesGoDeep size (named_trees_after w.names (outline_of o)) left bs after → BranchesGoDeep size w.names left (branch t (outline_of o) bs) now
       run zero bs g = (mid, at)
@@ -200,7 +200,7 @@ module _ (size : Size) where
           → BranchesAt size w.names least (branch t (outline_of o) bs) (max (d + 1) m) now y
       one bs m y g = let k = h.at w.names w.deep in record {
         closed = (k.closed, g.closed);
-        orderly = (omega (arith, rises, is), on, k.orderly, subst (λ x. AreOrderly size (x + 1) bs) is g.orderly);
+        orderly = (omega (arith, rises, is), on, k.orderly, subst (λ x. AreBranchesInOrder size (x + 1) bs) is g.orderly);
         deep =
             ap (λ x. max (x + 1) (depth_of_entries (unfolded_entries (named_trees_after w.names (outline_of o)) bs))) k.deep
             ∙ ap (λ x. max (d + 1) x) g.deep;

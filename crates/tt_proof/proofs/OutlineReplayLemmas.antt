@@ -2,7 +2,7 @@
 use Rattle.std.proofs.Common.{◌≡◌, ◌≤◌, ◌<◌, ◌↔◌, zero, suc, ◌⊎◌, ℕ, inl, inr, arith, Some, None, List, [], ◌∷◌, ◌++◌, ◌∙◌, refl, sym, ap, subst, Contains, Option, get_or, length, take, drop}
 use Rattle.std.proofs.lemmas.List.Elements.{Contains-append_left, Contains-append_right, Contains-append_cases}
 use Rattle.tt_board.specs.Position.{Position, Colouring}
-use Rattle.tt_game.specs.Game.{State, IsLegal, after, history, made, winner_of}
+use Rattle.tt_game.specs.Game.{State, IsLegal, after, history, colouring_after_play, winner_of}
 use Rattle.tt_game.specs.declared.frame.Frame.{Frame}
 use Rattle.tt_game.specs.declared.frame.Side.{Side}
 use Rattle.tt_game.specs.declared.turns.Turn.{Turn}
@@ -13,13 +13,13 @@ use Rattle.tt_proof.specs.declared.outline_replay.ReplayResult.{ReplayResult}
 use Rattle.tt_proof.specs.declared.outline_replay.ReplayResult.TheVariants.{Won, Lost, Unfit}
 use Rattle.tt_proof.specs.Strategy.{reply, none}
 use Rattle.tt_proof.specs.Outlines.{Outline, Branches, no_branch, branch}
-use Rattle.tt_proof.specs.Footprints.{IsRepeated}
+use Rattle.tt_proof.specs.Footprints.{IsRepeatedByPlay}
 use Rattle.tt_proof.specs.declared.footprints.Footprint.{Footprint}
 use Rattle.tt_proof.specs.KeptFootprints.{IsFootprint, board_of_colouring}
 use Rattle.tt_proof.specs.inside.Collecting.{IsPassedUp, IsPlayed}
-use Rattle.tt_proof.specs.SharedParts.{HasPosition, FootprintFits, RestsOnPosition, RestsOnRepeats, MakesBoard, RestsOnBoth, CombinesTo}
+use Rattle.tt_proof.specs.SharedParts.{HasPosition, FootprintFits, RestsOnPositionAlone, RestsOnRepeats, MakesBoard, RestsOnBoth, CombinesTo}
 use Rattle.tt_proof.specs.SharedParts.{NamedFootprints}
-use Rattle.tt_proof.specs.SharedParts.{FindsBranches}
+use Rattle.tt_proof.specs.SharedParts.{IsReplayOfBranches}
 use Rattle.tt_proof.specs.inside.OutlineReplaying.{FindsTogether, FindsBranch}
 use Rattle.tt_proof.proofs.FitsLemmas.{Carried, splits_none}
 use Rattle.tt_proof.proofs.FootprintLemmas.{board_is, none_held}
@@ -41,8 +41,8 @@ or_second {A = A} {B = B} {C = C} {D = D} h k = (λ a. to (h.0 a), λ w. h.1 (ba
     back (inr d) = inr (k.1 d)
 
 -- states of one position, whose histories begin here
-footprints_carry_over : (s s' : State) → s'.present ≡ s.present → s'.to_move ≡ s.to_move → s'.passes ≡ s.passes → Carried (history s) (history s') [] s s'
-footprints_carry_over s s' p m n = record { present = p; to_move = m; passes = n; before = splits_none (history s); now = splits_none (history s') }
+footprints_carry_over_if_unmet : (s s' : State) → s'.present ≡ s.present → s'.to_move ≡ s.to_move → s'.passes ≡ s.passes → Carried (history s) (history s') [] s s'
+footprints_carry_over_if_unmet s s' p m n = record { present = p; to_move = m; passes = n; before = splits_none (history s); now = splits_none (history s') }
 
 -- the only member of a list of one
 pub only : (c d : Colouring) → Contains (c ∷ []) d → d ≡ c
@@ -64,7 +64,7 @@ module _ (f : Frame) (s : State) (t : Turn) (board : Position) (is : board ≡ b
       pass Pass e = (λ w. absurd w, λ w. w.1)
       pass (Play p) e = (
         λ w. (ap (λ (z : Position). z.size) (w ∙ e), sym (ap (λ (z : Position). z.points) (w ∙ e))),
-        λ w. board_is b f.size (made f s p) w.0 (sym w.1) ∙ sym e,
+        λ w. board_is b f.size (colouring_after_play f s p) w.0 (sym w.1) ∙ sym e,
       )
 
   pub passed_up : (bs : List Position) (b : Position) → IsPassedUp t board bs b ↔ (Contains bs b × (MakesBoard f s t b → ⊥))
@@ -73,7 +73,7 @@ module _ (f : Frame) (s : State) (t : Turn) (board : Position) (is : board ≡ b
       pass : (v : Turn) → board ≡ board_of_colouring f (after f s v).present → IsPassedUp v board bs b ↔ (Contains bs b × (MakesBoard f s v b → ⊥))
       pass Pass e = (λ w. (w, λ h. h.1), λ w. w.0)
       pass (Play p) e = (
-        λ w. (w.0, λ h. w.1 (board_is b f.size (made f s p) h.0 (sym h.1) ∙ sym e)),
+        λ w. (w.0, λ h. w.1 (board_is b f.size (colouring_after_play f s p) h.0 (sym h.1) ∙ sym e)),
         λ w. (w.0, λ h. w.1 (ap (λ (z : Position). z.size) (h ∙ e), sym (ap (λ (z : Position). z.points) (h ∙ e)))),
       )
 
@@ -104,12 +104,12 @@ rests_on_repeats f s foot x h at n a = record {
   avoids = a ∙ all_none foot.avoids (λ b m. (h.avoided b.points).0 (subst (λ w. Contains foot.avoids w) (board_is b f.size b.points (h.avoids_sized b m) refl) m));
 }
   where
-    first : (c : Colouring) → IsRepeated f (history s) [] s c ⊎ ⊥ → IsRepeated f (history s) [] s c
+    first : (c : Colouring) → IsRepeatedByPlay f (history s) [] s c ⊎ ⊥ → IsRepeatedByPlay f (history s) [] s c
     first c (inl r) = r
     first c (inr w) = absurd w
 
 -- a basis that needs and avoids nothing is met where it stands
-pub met_empty : (f : Frame) (s : State) (x : PositionFootprint) → RestsOnPosition f s x → FootprintFits f x s
+pub met_empty : (f : Frame) (s : State) (x : PositionFootprint) → RestsOnPositionAlone f s x → FootprintFits f x s
 met_empty f s x h = record {
   position = h.position;
   needs = λ b m. absurd (none_held x.needs b h.needs m);
@@ -120,7 +120,7 @@ met_empty f s x h = record {
 module _ (f : Frame) (x : PositionFootprint) (s s' : State) (m : FootprintFits f x s) (m' : FootprintFits f x s') where
   pub met_carried : Carried (history s) (history s') [] s s'
   met_carried =
-      footprints_carry_over s s' (ap (λ (b : Position). b.points) (sym m'.position.present ∙ m.position.present)) (sym m'.position.to_move ∙ m.position.to_move)
+      footprints_carry_over_if_unmet s s' (ap (λ (b : Position). b.points) (sym m'.position.present ∙ m.position.present)) (sym m'.position.to_move ∙ m.position.to_move)
       (sym m'.position.passes ∙ m.position.passes)
 
 -- ---- two trees together
@@ -240,7 +240,7 @@ both_regrouped a b c p r h k = pass a b c p h k
 module _ (side : Side) (f : Frame) (s : State) (ns : NamedFootprints) (bs : Branches) where
   -- so far all branches but those that are left were replayed
   abbrev pub Replayed : Branches → NamedFootprints → ReplayResult → Type 0
-  Replayed left ls found = (p r : ReplayResult) (ms : NamedFootprints) → FindsBranches side f ls left s p ms → CombinesTo found p r → FindsTogether side f ns bs s r ms
+  Replayed left ls found = (p r : ReplayResult) (ms : NamedFootprints) → IsReplayOfBranches side f ls left s p ms → CombinesTo found p r → FindsTogether side f ns bs s r ms
 
   pub replayed_start : (x : PositionFootprint) → RestsOnRepeats f s x → Replayed bs ns (Won x)
   replayed_start x h p r ms k e = (x, (h, (p, (k, e))))
@@ -256,7 +256,7 @@ module _ (side : Side) (f : Frame) (s : State) (ns : NamedFootprints) (bs : Bran
       alone : PositionFootprint
       alone = record { board = board_of_colouring f s.present; to_move = s.to_move; passes = s.passes; needs = []; avoids = [] }
 
-      rests : RestsOnPosition f s alone
+      rests : RestsOnPositionAlone f s alone
       rests = record { position = record { present = refl; to_move = refl; passes = refl }; needs = refl; avoids = refl }
 
 -- ---- lists

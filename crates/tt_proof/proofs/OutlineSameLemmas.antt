@@ -9,9 +9,9 @@ use Rattle.tt_proof.specs.declared.position_footprint.PositionFootprint.{Positio
 use Rattle.tt_proof.specs.declared.outline_replay.ReplayResult.{ReplayResult}
 use Rattle.tt_proof.specs.declared.outline_replay.ReplayResult.TheVariants.{Won, Lost, Unfit}
 use Rattle.tt_proof.specs.Outlines.{Outline, Branches, ended, picked, replied, part, no_branch, branch}
-use Rattle.tt_proof.specs.SharedParts.{HasPosition, FootprintFits, RestsOnPosition, RestsOnRepeats, RestsBeforePick, RestsBeforeReply, RestsOnBoth, CombinesTo, IsResultBeforeTurn}
+use Rattle.tt_proof.specs.SharedParts.{HasPosition, FootprintFits, RestsOnPositionAlone, RestsOnRepeats, RestsBeforePick, RestsBeforeOpposingTurn, RestsOnBoth, CombinesTo, IsResultBeforeTurn}
 use Rattle.tt_proof.specs.SharedParts.{NamedFootprints, kept_footprint, wins_if_fit, with_named_footprint, with_unreached_names, with_unreached_branch_names, IsResultOfDone, IsResultOfPart, IsResultOfReply, IsOutlineAnswer}
-use Rattle.tt_proof.specs.SharedParts.{FindsOutline, FindsBranches}
+use Rattle.tt_proof.specs.SharedParts.{IsReplayOfOutline, IsReplayOfBranches}
 use Rattle.tt_proof.specs.inside.OutlineReplaying.{FindsPick, FindsReply, FindsTogether, FindsBranch}
 use Rattle.tt_proof.proofs.OutlineReplayLemmas.{iff_chain, some_none}
 
@@ -66,7 +66,7 @@ module _ (f : Frame) (s : State) where
     avoids = a;
   }
 
-  same_alone : (x y : PositionFootprint) → RestsOnPosition f s x → RestsOnPosition f s y → SameBasis x y
+  same_alone : (x y : PositionFootprint) → RestsOnPositionAlone f s x → RestsOnPositionAlone f s y → SameBasis x y
   same_alone x y h k =
       at_one x y h.position k.position (same_list x.needs y.needs (h.needs ∙ sym k.needs)) (same_list x.avoids y.avoids (h.avoids ∙ sym k.avoids))
 
@@ -79,7 +79,7 @@ module _ (f : Frame) (s : State) where
       at_one v w h.position k.position (λ b. iff_chain (h.needs b) (iff_chain (λ m. ((e.needs b).0 m.0, m.1), λ m. ((e.needs b).1 m.0, m.1)) (turned (k.needs b))))
       (λ b. iff_chain (h.avoids b) (iff_chain (either (e.avoids b) (λ m. m, λ m. m)) (turned (k.avoids b))))
 
-  same_before_reply : (t : Turn) (x y v w : PositionFootprint) → SameBasis x y → RestsBeforeReply f s t x v → RestsBeforeReply f s t y w → SameBasis v w
+  same_before_reply : (t : Turn) (x y v w : PositionFootprint) → SameBasis x y → RestsBeforeOpposingTurn f s t x v → RestsBeforeOpposingTurn f s t y w → SameBasis v w
   same_before_reply t x y v w e h k =
       at_one v w h.position k.position (λ b. iff_chain (h.needs b) (iff_chain (λ m. ((e.needs b).0 m.0, m.1), λ m. ((e.needs b).1 m.0, m.1)) (turned (k.needs b))))
       (λ b. iff_chain (same_list v.avoids x.avoids h.avoids b) (iff_chain (e.avoids b) (same_list y.avoids w.avoids (sym k.avoids) b)))
@@ -179,7 +179,7 @@ module _ (f : Frame) (s : State) where
   end_same side (Won x) Unfit a b = absurd b
   end_same side Lost Unfit a b = absurd b
 
-  alone_same : (r q : ReplayResult) → (x : PositionFootprint) × ((r ≡ Won x) × RestsOnPosition f s x) → (y : PositionFootprint) × ((q ≡ Won y) × RestsOnPosition f s y) → SameFound r q
+  alone_same : (r q : ReplayResult) → (x : PositionFootprint) × ((r ≡ Won x) × RestsOnPositionAlone f s x) → (y : PositionFootprint) × ((q ≡ Won y) × RestsOnPositionAlone f s y) → SameFound r q
   alone_same r q a b = found_as (Won a.0) (Won b.0) r q a.1.0 b.1.0 (both_won a.0 b.0 (same_alone f s a.0 b.0 a.1.1 b.1.1))
 
 -- ---- names
@@ -217,7 +217,7 @@ module _ (side : Side) (f : Frame) where
   abbrev Same : (ReplayResult → NamedFootprints → Type 0) → (ReplayResult → NamedFootprints → Type 0) → Type 0
   Same F G = (r q : ReplayResult) (ls ks : NamedFootprints) → F r ls → G q ks → SameFound r q × SameNames ls ks
 
-  pick_same : (t : Turn) (o : Outline) (s : State) (ns ms : NamedFootprints) → SameNames ns ms → Same (FindsOutline side f ns o (after f s t)) (FindsOutline side f ms o (after f s t))
+  pick_same : (t : Turn) (o : Outline) (s : State) (ns ms : NamedFootprints) → SameNames ns ms → Same (IsReplayOfOutline side f ns o (after f s t)) (IsReplayOfOutline side f ms o (after f s t))
       → Same (FindsPick side f ns t o s) (FindsPick side f ms t o s)
   pick_same t o s ns ms h g r q ls ks (inl a) (inl b) =
       let k = g a.2.0 b.2.0 ls ks a.2.1.0 b.2.1.0 in
@@ -227,23 +227,23 @@ module _ (side : Side) (f : Frame) where
   pick_same t o s ns ms h g r q ls ks (inr a) (inr b) =
       (found_as Lost Lost r q a.1 b.1 both_lost, names_as (with_unreached_names ns o) (with_unreached_names ms o) ls ks a.2 b.2 (unreached_same o ns ms h))
 
-  branch_same : (t : Turn) (o : Outline) (s : State) (ns ms : NamedFootprints) → SameNames ns ms → Same (FindsOutline side f ns o (after f s t)) (FindsOutline side f ms o (after f s t))
+  branch_same : (t : Turn) (o : Outline) (s : State) (ns ms : NamedFootprints) → SameNames ns ms → Same (IsReplayOfOutline side f ns o (after f s t)) (IsReplayOfOutline side f ms o (after f s t))
       → Same (FindsBranch side f ns t o s) (FindsBranch side f ms t o s)
   branch_same t o s ns ms h g r q ls ks (inl a) (inl b) =
       let k = g a.1.0 b.1.0 ls ks a.1.1.0 b.1.1.0 in
-      (before_same (RestsBeforeReply f s t) a.1.0 b.1.0 r q (same_before_reply f s t) k.0 a.1.1.1 b.1.1.1, k.1)
+      (before_same (RestsBeforeOpposingTurn f s t) a.1.0 b.1.0 r q (same_before_reply f s t) k.0 a.1.1.1 b.1.1.1, k.1)
   branch_same t o s ns ms h g r q ls ks (inl a) (inr b) = absurd (b.0 a.0)
   branch_same t o s ns ms h g r q ls ks (inr a) (inl b) = absurd (a.0 b.0)
   branch_same t o s ns ms h g r q ls ks (inr a) (inr b) =
       (alone_same f s r q a.1 b.1, names_as (with_unreached_names ns o) (with_unreached_names ms o) ls ks a.2 b.2 (unreached_same o ns ms h))
 
-  together_same : (bs : Branches) (s : State) (ns ms : NamedFootprints) → Same (FindsBranches side f ns bs s) (FindsBranches side f ms bs s)
+  together_same : (bs : Branches) (s : State) (ns ms : NamedFootprints) → Same (IsReplayOfBranches side f ns bs s) (IsReplayOfBranches side f ms bs s)
       → Same (FindsTogether side f ns bs s) (FindsTogether side f ms bs s)
   together_same bs s ns ms g r q ls ks a b =
       let k = g a.1.1.0 b.1.1.0 ls ks a.1.1.1.0 b.1.1.1.0 in
       (both_same (Won a.0) a.1.1.0 r (Won b.0) b.1.1.0 q (both_won a.0 b.0 (same_repeats f s a.0 b.0 a.1.0 b.1.0)) k.0 a.1.1.1.1 b.1.1.1.1, k.1)
 
-  reply_found_same : (bs : Branches) (s : State) (ns ms : NamedFootprints) → SameNames ns ms → Same (FindsBranches side f ns bs s) (FindsBranches side f ms bs s)
+  reply_found_same : (bs : Branches) (s : State) (ns ms : NamedFootprints) → SameNames ns ms → Same (IsReplayOfBranches side f ns bs s) (IsReplayOfBranches side f ms bs s)
       → Same (FindsReply side f ns bs s) (FindsReply side f ms bs s)
   reply_found_same bs s ns ms h g r q ls ks (inl a) (inl b) =
       let k = together_same bs s ns ms g a.2.0 b.2.0 ls ks a.2.1.0 b.2.1.0 in (reply_same f s bs a.2.0 b.2.0 r q k.0 a.2.1.1 b.2.1.1, k.1)
@@ -258,7 +258,7 @@ module _ (side : Side) (f : Frame) where
       (h.0, names_as (with_named_footprint n (kept_footprint r) ls) (with_named_footprint n (kept_footprint q) ks) ls' ks' e d (with_same n ls ks (kept_footprint r) (kept_footprint q) h.1 (kept_same r q h.0)))
 
   mutual
-    outline_same : (o : Outline) (s : State) (ns ms : NamedFootprints) → SameNames ns ms → Same (FindsOutline side f ns o s) (FindsOutline side f ms o s)
+    outline_same : (o : Outline) (s : State) (ns ms : NamedFootprints) → SameNames ns ms → Same (IsReplayOfOutline side f ns o s) (IsReplayOfOutline side f ms o s)
     outline_same ended s ns ms h r q ls ks a b = (end_same f s side r q a.0 b.0, names_as ns ms ls ks a.1 b.1 h)
     outline_same (part k) s ns ms h r q ls ks a b =
         (name_same f s (get_or ns k None) (get_or ms k None) r q (named_same ns ms k h) a.0 b.0, names_as ns ms ls ks a.1 b.1 h)
@@ -269,7 +269,7 @@ module _ (side : Side) (f : Frame) where
         named n r q a.0 b.0 ls ks
         (reply_found_same bs s ns ms h (λ r' q' ls' ks' a' b'. branches_same bs s ns ms h r' q' ls' ks' a' b') r q a.0 b.0 a.1.1 b.1.1) a.1.0 b.1.0
 
-    branches_same : (bs : Branches) (s : State) (ns ms : NamedFootprints) → SameNames ns ms → Same (FindsBranches side f ns bs s) (FindsBranches side f ms bs s)
+    branches_same : (bs : Branches) (s : State) (ns ms : NamedFootprints) → SameNames ns ms → Same (IsReplayOfBranches side f ns bs s) (IsReplayOfBranches side f ms bs s)
     branches_same no_branch s ns ms h r q ls ks a b = (alone_same f s r q a.0 b.0, names_as ns ms ls ks a.1 b.1 h)
     branches_same (branch t o bs) s ns ms h r q ls ks a b =
         let here =

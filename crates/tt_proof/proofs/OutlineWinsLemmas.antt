@@ -2,8 +2,8 @@
 use Rattle.std.proofs.Common.{◌≡◌, ◌≤◌, zero, suc, ◌+◌, ◌⊎◌, ℕ, Bool, true, false, inl, inr, arith, Some, None, List, [], ◌∷◌, ◌++◌, ◌∙◌, ◌↔◌, refl, sym, ap, subst, Contains, Option, get_or, IsTrue, IfSome, true≢false}
 use Rattle.std.proofs.lemmas.List.Elements.{Contains-append_left, Contains-append_right, Contains-append_cases}
 use Rattle.tt_board.specs.Position.{Position, Colouring}
-use Rattle.tt_game.specs.Game.{State, IsLegal, after, history, made, winner_of, opponent}
-use Rattle.tt_game.specs.Line.{HasBoard}
+use Rattle.tt_game.specs.Game.{State, IsLegal, after, history, colouring_after_play, winner_of, opponent}
+use Rattle.tt_game.specs.Line.{HasBoardInHistory}
 use Rattle.tt_game.specs.declared.frame.Frame.{Frame}
 use Rattle.tt_game.specs.declared.frame.Side.{Side}
 use Rattle.tt_game.specs.declared.turns.Turn.{Turn}
@@ -11,15 +11,15 @@ use Rattle.tt_game.specs.declared.turns.Turn.TheVariants.{Play, Pass}
 use Rattle.tt_proof.specs.declared.position_footprint.PositionFootprint.{PositionFootprint}
 use Rattle.tt_proof.specs.declared.outline_replay.ReplayResult.{ReplayResult}
 use Rattle.tt_proof.specs.declared.outline_replay.ReplayResult.TheVariants.{Won, Lost, Unfit}
-use Rattle.tt_proof.specs.Strategy.{Strategy, Entries, done, pick, reply, none, entry, number_on}
-use Rattle.tt_proof.specs.Outlines.{Outline, Branches, ended, picked, replied, part, no_branch, branch, unfolded, unfolded_entries, with_named_tree, named_trees_after, named_trees_after_branches, IsOrderly, AreOrderly}
-use Rattle.tt_proof.specs.Footprints.{IsRepeated}
+use Rattle.tt_proof.specs.Strategy.{Strategy, Entries, done, pick, reply, none, entry, turn_number_on_size}
+use Rattle.tt_proof.specs.Outlines.{Outline, Branches, ended, picked, replied, part, no_branch, branch, unfolded, unfolded_entries, with_named_tree, named_trees_after, named_trees_after_branches, IsOutlineInOrder, AreBranchesInOrder}
+use Rattle.tt_proof.specs.Footprints.{IsRepeatedByPlay}
 use Rattle.tt_proof.specs.KeptFootprints.{board_of_colouring}
 use Rattle.tt_proof.specs.Wins.{Wins, WinsBehind}
 use Rattle.tt_proof.specs.inside.Replaying.{HasEntry}
-use Rattle.tt_proof.specs.SharedParts.{FootprintFits, RestsOnPosition, RestsOnRepeats, MakesBoard, RestsBeforePick, RestsBeforeReply, RestsOnBoth, CombinesTo, IsResultBeforeTurn, HasBranch}
+use Rattle.tt_proof.specs.SharedParts.{FootprintFits, RestsOnPositionAlone, RestsOnRepeats, MakesBoard, RestsBeforePick, RestsBeforeOpposingTurn, RestsOnBoth, CombinesTo, IsResultBeforeTurn, HasBranch}
 use Rattle.tt_proof.specs.SharedParts.{NamedFootprints, kept_footprint, wins_if_fit, with_named_footprint, with_unreached_names, with_unreached_branch_names, IsResultOfDone, IsResultOfPart, IsResultOfReply}
-use Rattle.tt_proof.specs.SharedParts.{FindsOutline, FindsBranches}
+use Rattle.tt_proof.specs.SharedParts.{IsReplayOfOutline, IsReplayOfBranches}
 use Rattle.tt_proof.specs.inside.OutlineReplaying.{FindsPick, FindsReply, FindsBranch}
 use Rattle.tt_proof.proofs.FitsLemmas.{Carried, same_made, same_winner, legal_now, legal_before}
 use Rattle.tt_proof.proofs.FootprintLemmas.{none_held}
@@ -57,7 +57,7 @@ module _ (side : Side) (f : Frame) where
 
   -- and of what plays would repeat
   abbrev pub KnowRepeats : State → ReplayResult → Type 0
-  KnowRepeats s (Won x) = (c : Colouring) → IsRepeated f (history s) [] s c → Contains x.needs (board_of_colouring f c)
+  KnowRepeats s (Won x) = (c : Colouring) → IsRepeatedByPlay f (history s) [] s c → Contains x.needs (board_of_colouring f c)
   KnowRepeats s Lost = Unit {0}
   KnowRepeats s Unfit = Unit {0}
 
@@ -76,23 +76,23 @@ module _ (side : Side) (f : Frame) where
 
 module _ (f : Frame) (s : State) (x : PositionFootprint) where
   -- what is needed in front of the turn is in the history there
-  needs_before : (t : Turn) → FootprintFits f x (after f s t) → (b : Position) → Contains x.needs b × (MakesBoard f s t b → ⊥) → HasBoard f s b
+  needs_before : (t : Turn) → FootprintFits f x (after f s t) → (b : Position) → Contains x.needs b × (MakesBoard f s t b → ⊥) → HasBoardInHistory f s b
   needs_before Pass m b n = m.needs b n.0
-  needs_before (Play p) m b n = let h = m.needs b n.0 in (h.0, pass h.0 (Contains-append_cases (history s) (made f s p ∷ []) b.points h.1))
+  needs_before (Play p) m b n = let h = m.needs b n.0 in (h.0, pass h.0 (Contains-append_cases (history s) (colouring_after_play f s p ∷ []) b.points h.1))
     where
-      pass : b.size ≡ f.size → Contains (history s) b.points ⊎ Contains (made f s p ∷ []) b.points → Contains (history s) b.points
+      pass : b.size ≡ f.size → Contains (history s) b.points ⊎ Contains (colouring_after_play f s p ∷ []) b.points → Contains (history s) b.points
       pass size (inl h) = h
-      pass size (inr h) = absurd (n.1 (size, sym (only (made f s p) b.points h)))
+      pass size (inr h) = absurd (n.1 (size, sym (only (colouring_after_play f s p) b.points h)))
 
   -- and what is avoided behind it is not
-  avoids_before : (t : Turn) → FootprintFits f x (after f s t) → (b : Position) → Contains x.avoids b → HasBoard f s b → ⊥
+  avoids_before : (t : Turn) → FootprintFits f x (after f s t) → (b : Position) → Contains x.avoids b → HasBoardInHistory f s b → ⊥
   avoids_before Pass m b a h = m.avoids b a h
-  avoids_before (Play p) m b a h = m.avoids b a (h.0, Contains-append_left (history s) (made f s p ∷ []) b.points h.1)
+  avoids_before (Play p) m b a h = m.avoids b a (h.0, Contains-append_left (history s) (colouring_after_play f s p ∷ []) b.points h.1)
 
   -- the basis is met behind the turn at another state, where in front of it all is met
   met_behind : (t : Turn) → IsLegal f s t → FootprintFits f x (after f s t) → (s' : State) → Carried (history s) (history s') [] s s'
-      → ((b : Position) → Contains x.needs b × (MakesBoard f s t b → ⊥) → HasBoard f s' b)
-      → ((b : Position) → Contains x.avoids b → HasBoard f s' b → ⊥) → FootprintFits f x (after f s' t)
+      → ((b : Position) → Contains x.needs b × (MakesBoard f s t b → ⊥) → HasBoardInHistory f s' b)
+      → ((b : Position) → Contains x.avoids b → HasBoardInHistory f s' b → ⊥) → FootprintFits f x (after f s' t)
   met_behind Pass l m s' r n a = record {
     position = record {
       present = m.position.present ∙ ap (board_of_colouring f) (sym r.present);
@@ -108,26 +108,26 @@ module _ (f : Frame) (s : State) (x : PositionFootprint) where
       to_move = m.position.to_move ∙ ap opponent (sym r.to_move);
       passes = m.position.passes;
     };
-    needs = λ b w. let h = m.needs b w in (h.0, need b w (Contains-append_cases (history s) (made f s p ∷ []) b.points h.1));
-    avoids = λ b w h. avoid b w h.0 (Contains-append_cases (history s') (made f s' p ∷ []) b.points h.1);
+    needs = λ b w. let h = m.needs b w in (h.0, need b w (Contains-append_cases (history s) (colouring_after_play f s p ∷ []) b.points h.1));
+    avoids = λ b w h. avoid b w h.0 (Contains-append_cases (history s') (colouring_after_play f s' p ∷ []) b.points h.1);
   }
     where
-      same : made f s' p ≡ made f s p
+      same : colouring_after_play f s' p ≡ colouring_after_play f s p
       same = same_made s.to_move f (history s) (history s') [] s s' p r
 
-      need : (b : Position) → Contains x.needs b → Contains (history s) b.points ⊎ Contains (made f s p ∷ []) b.points
-          → Contains (history s' ++ made f s' p ∷ []) b.points
-      need b w (inl h) = Contains-append_left (history s') (made f s' p ∷ []) b.points
+      need : (b : Position) → Contains x.needs b → Contains (history s) b.points ⊎ Contains (colouring_after_play f s p ∷ []) b.points
+          → Contains (history s' ++ colouring_after_play f s' p ∷ []) b.points
+      need b w (inl h) = Contains-append_left (history s') (colouring_after_play f s' p ∷ []) b.points
           (n b (w, λ e. l.4 (subst (λ d. Contains (history s) d) (sym e.1) h))).1
-      need b w (inr h) = Contains-append_right (history s') (made f s' p ∷ []) b.points (subst (λ d. Contains (d ∷ []) b.points) (sym same) h)
+      need b w (inr h) = Contains-append_right (history s') (colouring_after_play f s' p ∷ []) b.points (subst (λ d. Contains (d ∷ []) b.points) (sym same) h)
 
-      avoid : (b : Position) → Contains x.avoids b → b.size ≡ f.size → Contains (history s') b.points ⊎ Contains (made f s' p ∷ []) b.points → ⊥
+      avoid : (b : Position) → Contains x.avoids b → b.size ≡ f.size → Contains (history s') b.points ⊎ Contains (colouring_after_play f s' p ∷ []) b.points → ⊥
       avoid b w size (inl h) = a b w (size, h)
       avoid b w size (inr h) =
-          m.avoids b w (size, Contains-append_right (history s) (made f s p ∷ []) b.points (subst (λ d. Contains (d ∷ []) b.points) same h))
+          m.avoids b w (size, Contains-append_right (history s) (colouring_after_play f s p ∷ []) b.points (subst (λ d. Contains (d ∷ []) b.points) same h))
 
 -- a board that the turn makes is not in the history, where the turn is legal
-not_made : (f : Frame) (s : State) (t : Turn) (b : Position) → IsLegal f s t → MakesBoard f s t b → HasBoard f s b → ⊥
+not_made : (f : Frame) (s : State) (t : Turn) (b : Position) → IsLegal f s t → MakesBoard f s t b → HasBoardInHistory f s b → ⊥
 not_made f s Pass b l e h = e.1
 not_made f s (Play p) b l e h = l.4 (subst (λ d. Contains (history s) d) (sym e.1) h.1)
 
@@ -144,7 +144,7 @@ sound_pick side f s t u x y mine l h more = (here, there)
       avoids = λ b a. avoid b ((more.avoids b).0 a);
     }
       where
-        avoid : (b : Position) → Contains x.avoids b ⊎ MakesBoard f s t b → HasBoard f s b → ⊥
+        avoid : (b : Position) → Contains x.avoids b ⊎ MakesBoard f s t b → HasBoardInHistory f s b → ⊥
         avoid b (inl a) = avoids_before f s x t h.0 b a
         avoid b (inr e) = not_made f s t b l e
 
@@ -163,7 +163,7 @@ sound_pick side f s t u x y mine l h more = (here, there)
 -- ---- a branch
 
 sound_branch : (side : Side) (f : Frame) (s : State) (t : Turn) (u : Strategy) (x y : PositionFootprint) → IsLegal f s t
-    → IsSound side f (after f s t) u (Won x) → RestsBeforeReply f s t x y → IsSoundBehind side f s t u (Won y)
+    → IsSound side f (after f s t) u (Won x) → RestsBeforeOpposingTurn f s t x y → IsSoundBehind side f s t u (Won y)
 sound_branch side f s t u x y l h more = (here, there)
   where
     back : (b : Position) → Contains y.avoids b → Contains x.avoids b
@@ -197,11 +197,11 @@ module _ (f : Frame) (s s' : State) (x y z : PositionFootprint) (j : RestsOnBoth
     avoids = λ b w. avoid b ((j.avoids b).0 w);
   }
     where
-      need : (b : Position) → Contains x.needs b ⊎ Contains y.needs b → HasBoard f s b
+      need : (b : Position) → Contains x.needs b ⊎ Contains y.needs b → HasBoardInHistory f s b
       need b (inl w) = m.needs b w
       need b (inr w) = n.needs b w
 
-      avoid : (b : Position) → Contains x.avoids b ⊎ Contains y.avoids b → HasBoard f s b → ⊥
+      avoid : (b : Position) → Contains x.avoids b ⊎ Contains y.avoids b → HasBoardInHistory f s b → ⊥
       avoid b (inl w) = m.avoids b w
       avoid b (inr w) = n.avoids b w
 
@@ -287,33 +287,33 @@ module _ (side : Side) (f : Frame) where
   branch_of_entry us (branch t' o bs) t (inr h) = inr (branch_of_entry (named_trees_after us o) bs t h)
 
   -- branches in order have one of a turn at the most
-  least_tree : (us : List Strategy) (least : ℕ) (bs : Branches) (t : Turn) (u : Strategy) → AreOrderly f.size least bs → HasTree (unfolded_entries us bs) t u
-      → least ≤ number_on f.size t
+  least_tree : (us : List Strategy) (least : ℕ) (bs : Branches) (t : Turn) (u : Strategy) → AreBranchesInOrder f.size least bs → HasTree (unfolded_entries us bs) t u
+      → least ≤ turn_number_on_size f.size t
   least_tree us least no_branch t u o h = absurd h
-  least_tree us least (branch t' c bs) t u o (inl e) = let same = ap (number_on f.size) e.0 in omega (arith, o.0, same)
+  least_tree us least (branch t' c bs) t u o (inl e) = let same = ap (turn_number_on_size f.size) e.0 in omega (arith, o.0, same)
   least_tree us least (branch t' c bs) t u o (inr h) =
-      let past = least_tree (named_trees_after us c) (number_on f.size t' + 1) bs t u o.3 h in omega (arith, o.0, past)
+      let past = least_tree (named_trees_after us c) (turn_number_on_size f.size t' + 1) bs t u o.3 h in omega (arith, o.0, past)
 
-  least_entry : (us : List Strategy) (least : ℕ) (bs : Branches) (t : Turn) (s : State) → AreOrderly f.size least bs → WinsBehind side f (unfolded_entries us bs) t s
-      → least ≤ number_on f.size t
+  least_entry : (us : List Strategy) (least : ℕ) (bs : Branches) (t : Turn) (s : State) → AreBranchesInOrder f.size least bs → WinsBehind side f (unfolded_entries us bs) t s
+      → least ≤ turn_number_on_size f.size t
   least_entry us least no_branch t s o h = absurd h
-  least_entry us least (branch t' c bs) t s o (inl e) = let same = ap (number_on f.size) e.0 in omega (arith, o.0, same)
+  least_entry us least (branch t' c bs) t s o (inl e) = let same = ap (turn_number_on_size f.size) e.0 in omega (arith, o.0, same)
   least_entry us least (branch t' c bs) t s o (inr h) =
-      let past = least_entry (named_trees_after us c) (number_on f.size t' + 1) bs t s o.3 h in omega (arith, o.0, past)
+      let past = least_entry (named_trees_after us c) (turn_number_on_size f.size t' + 1) bs t s o.3 h in omega (arith, o.0, past)
 
-  only_one : (us : List Strategy) (least : ℕ) (bs : Branches) (t : Turn) (u : Strategy) (s : State) → AreOrderly f.size least bs
+  only_one : (us : List Strategy) (least : ℕ) (bs : Branches) (t : Turn) (u : Strategy) (s : State) → AreBranchesInOrder f.size least bs
       → HasTree (unfolded_entries us bs) t u → WinsBehind side f (unfolded_entries us bs) t s → Wins side f u (after f s t)
   only_one us least no_branch t u s o h w = absurd h
   only_one us least (branch t' c bs) t u s o (inl e) (inl w) = subst (λ z. Wins side f z (after f s t)) e.1 w.1
   only_one us least (branch t' c bs) t u s o (inl e) (inr w) =
-      let past = least_entry (named_trees_after us c) (number_on f.size t' + 1) bs t s o.3 w in
-      let same = ap (number_on f.size) e.0 in absurd (omega (arith, past, same))
+      let past = least_entry (named_trees_after us c) (turn_number_on_size f.size t' + 1) bs t s o.3 w in
+      let same = ap (turn_number_on_size f.size) e.0 in absurd (omega (arith, past, same))
   only_one us least (branch t' c bs) t u s o (inr h) (inl w) =
-      let past = least_tree (named_trees_after us c) (number_on f.size t' + 1) bs t u o.3 h in
-      let same = ap (number_on f.size) w.0 in absurd (omega (arith, past, same))
-  only_one us least (branch t' c bs) t u s o (inr h) (inr w) = only_one (named_trees_after us c) (number_on f.size t' + 1) bs t u s o.3 h w
+      let past = least_tree (named_trees_after us c) (turn_number_on_size f.size t' + 1) bs t u o.3 h in
+      let same = ap (turn_number_on_size f.size) w.0 in absurd (omega (arith, past, same))
+  only_one us least (branch t' c bs) t u s o (inr h) (inr w) = only_one (named_trees_after us c) (turn_number_on_size f.size t' + 1) bs t u s o.3 h w
 
-  sound_reply : (s : State) (us : List Strategy) (bs : Branches) (q r : ReplayResult) → winner_of f s ≡ None → s.to_move ≡ opponent side → AreOrderly f.size 0 bs
+  sound_reply : (s : State) (us : List Strategy) (bs : Branches) (q r : ReplayResult) → winner_of f s ≡ None → s.to_move ≡ opponent side → AreBranchesInOrder f.size 0 bs
       → AreSound side f s (unfolded_entries us bs) q × KnowRepeats side f s q → IsResultOfReply f s bs q r → IsSound side f s (reply (unfolded_entries us bs)) r
   sound_reply s us bs Unfit r nobody turn o h e = subst (IsSound side f s (reply (unfolded_entries us bs))) (sym e) tt
   sound_reply s us bs Lost r nobody turn o h e =
@@ -383,7 +383,7 @@ module _ (side : Side) (f : Frame) where
   before_pick s t u Unfit r mine l h e = subst (IsSound side f s (pick t u)) (sym e) tt
 
   before_reply : (s : State) (t : Turn) (u : Strategy) (q r : ReplayResult) → IsLegal f s t → IsSound side f (after f s t) u q
-      → IsResultBeforeTurn (RestsBeforeReply f s t) q r → IsSoundBehind side f s t u r
+      → IsResultBeforeTurn (RestsBeforeOpposingTurn f s t) q r → IsSoundBehind side f s t u r
   before_reply s t u (Won x) r l h e = subst (IsSoundBehind side f s t u) (sym e.1.0) (sound_branch side f s t u x e.0 l h e.1.1)
   before_reply s t u Lost r l h e = subst (IsSoundBehind side f s t u) (sym e) (l, h)
   before_reply s t u Unfit r l h e = subst (IsSoundBehind side f s t u) (sym e) tt
@@ -400,12 +400,12 @@ module _ (side : Side) (f : Frame) where
   of_name us ns k s Lost h e = absurd e
   of_name us ns k s Unfit h e = tt
 
-  alone_behind : (s : State) (t : Turn) (u : Strategy) (x : PositionFootprint) → (IsLegal f s t → ⊥) → RestsOnPosition f s x → IsSoundBehind side f s t u (Won x)
+  alone_behind : (s : State) (t : Turn) (u : Strategy) (x : PositionFootprint) → (IsLegal f s t → ⊥) → RestsOnPositionAlone f s x → IsSoundBehind side f s t u (Won x)
   alone_behind s t u x bars h = (met_empty f s x h, λ s' m l. absurd (bars l))
 
   -- by what is found behind a turn
   abbrev Behind : List Strategy → NamedFootprints → Outline → State → NamedFootprints → Type 0
-  Behind us ns o s ms = (q : ReplayResult) → FindsOutline side f ns o s q ms → IsSound side f s (unfolded us o) q × WinAsKept side f (named_trees_after us o) ms
+  Behind us ns o s ms = (q : ReplayResult) → IsReplayOfOutline side f ns o s q ms → IsSound side f s (unfolded us o) q × WinAsKept side f (named_trees_after us o) ms
 
   of_pick : (us : List Strategy) (ns : NamedFootprints) (t : Turn) (o : Outline) (s : State) (r : ReplayResult) (ms : NamedFootprints) → WinAsKept side f us ns → Behind us ns o (after f s t) ms
       → FindsPick side f ns t o s r ms → IsSound side f s (pick t (unfolded us o)) r × WinAsKept side f (named_trees_after us o) ms
@@ -423,8 +423,8 @@ module _ (side : Side) (f : Frame) where
     subst (WinAsKept side f (named_trees_after us o)) (sym w.2) (unreached_kept us ns o h),
   )
 
-  of_reply : (us : List Strategy) (ns : NamedFootprints) (bs : Branches) (s : State) (r : ReplayResult) (ms : NamedFootprints) → AreOrderly f.size 0 bs → WinAsKept side f us ns
-      → ((q : ReplayResult) → FindsBranches side f ns bs s q ms → AreSound side f s (unfolded_entries us bs) q × WinAsKept side f (named_trees_after_branches us bs) ms)
+  of_reply : (us : List Strategy) (ns : NamedFootprints) (bs : Branches) (s : State) (r : ReplayResult) (ms : NamedFootprints) → AreBranchesInOrder f.size 0 bs → WinAsKept side f us ns
+      → ((q : ReplayResult) → IsReplayOfBranches side f ns bs s q ms → AreSound side f s (unfolded_entries us bs) q × WinAsKept side f (named_trees_after_branches us bs) ms)
       → FindsReply side f ns bs s r ms → IsSound side f s (reply (unfolded_entries us bs)) r × WinAsKept side f (named_trees_after_branches us bs) ms
   of_reply us ns bs s r ms o h g (inl w) =
       let e = w.2.1.0 in
@@ -442,8 +442,8 @@ module _ (side : Side) (f : Frame) where
   with_name_kept n us ls ms s u r k e = (k.0, rw e (named_with n us ls u (kept_footprint r) k.1 (kept_sound s u r k.0)))
 
   mutual
-    pub sound : (us : List Strategy) (ns : NamedFootprints) (o : Outline) (s : State) (r : ReplayResult) (ms : NamedFootprints) → IsOrderly f.size o → WinAsKept side f us ns
-        → FindsOutline side f ns o s r ms → IsSound side f s (unfolded us o) r × WinAsKept side f (named_trees_after us o) ms
+    pub sound : (us : List Strategy) (ns : NamedFootprints) (o : Outline) (s : State) (r : ReplayResult) (ms : NamedFootprints) → IsOutlineInOrder f.size o → WinAsKept side f us ns
+        → IsReplayOfOutline side f ns o s r ms → IsSound side f s (unfolded us o) r × WinAsKept side f (named_trees_after us o) ms
     sound us ns ended s r ms o h e = (at_end s r e.0, subst (WinAsKept side f us) (sym e.1) h)
     sound us ns (part k) s r ms o h e = (of_name us ns k s r h e.0, subst (WinAsKept side f us) (sym e.1) h)
     sound us ns (picked n t c) s r ms o h e =
@@ -453,19 +453,19 @@ module _ (side : Side) (f : Frame) where
         with_name_kept n (named_trees_after_branches us bs) e.0 ms s (reply (unfolded_entries us bs)) r
         (of_reply us ns bs s r e.0 o h (λ q g. sound_all us ns 0 bs s q e.0 o h g) e.1.1) e.1.0
 
-    sound_all : (us : List Strategy) (ns : NamedFootprints) (least : ℕ) (bs : Branches) (s : State) (r : ReplayResult) (ms : NamedFootprints) → AreOrderly f.size least bs
-        → WinAsKept side f us ns → FindsBranches side f ns bs s r ms → AreSound side f s (unfolded_entries us bs) r × WinAsKept side f (named_trees_after_branches us bs) ms
+    sound_all : (us : List Strategy) (ns : NamedFootprints) (least : ℕ) (bs : Branches) (s : State) (r : ReplayResult) (ms : NamedFootprints) → AreBranchesInOrder f.size least bs
+        → WinAsKept side f us ns → IsReplayOfBranches side f ns bs s r ms → AreSound side f s (unfolded_entries us bs) r × WinAsKept side f (named_trees_after_branches us bs) ms
     sound_all us ns least no_branch s r ms o h e = (
       subst (AreSound side f s none) (sym e.0.1.0) (met_empty f s e.0.0 e.0.1.1, λ s' m t u k. absurd k),
       subst (WinAsKept side f us) (sym e.1) h,
     )
     sound_all us ns least (branch t c bs) s r ms o h e =
         let here = of_branch us ns t c s e.0 e.1.1.0 h (λ q g. sound us ns c (after f s t) q e.1.1.0 o.2 h g) e.1.1.1.0 in
-        let rest = sound_all (named_trees_after us c) e.1.1.0 (number_on f.size t + 1) bs s e.1.0 ms o.3 here.1 e.1.1.1.1 in
+        let rest = sound_all (named_trees_after us c) e.1.1.0 (turn_number_on_size f.size t + 1) bs s e.1.0 ms o.3 here.1 e.1.1.1.1 in
         (sound_more side f s t (unfolded us c) (unfolded_entries (named_trees_after us c) bs) e.0 e.1.0 r here.0 rest.0 e.1.1.1.2, rest.1)
 
 -- the answer says whether the tree wins
-pub answer_sound : (side : Side) (f : Frame) (o : Outline) (s : State) (r : ReplayResult) (ms : NamedFootprints) → IsOrderly f.size o → FindsOutline side f [] o s r ms
+pub answer_sound : (side : Side) (f : Frame) (o : Outline) (s : State) (r : ReplayResult) (ms : NamedFootprints) → IsOutlineInOrder f.size o → IsReplayOfOutline side f [] o s r ms
     → IfSome (wins_if_fit r) (λ wins. IsTrue wins ↔ Wins side f (unfolded [] o) s)
 answer_sound side f o s r ms ordered h = pass r (sound side f [] [] o s r ms ordered tt h).0
   where

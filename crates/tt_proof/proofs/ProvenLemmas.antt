@@ -9,9 +9,9 @@ use Rattle.tt_game.specs.declared.frame.Frame.{Frame}
 use Rattle.tt_game.specs.declared.turns.Turn.{Turn}
 use Rattle.tt_game.specs.declared.turns.Turn.TheVariants.{Play, Pass}
 use Rattle.tt_proof.specs.declared.tree.TheConstants.{MOST_DEPTH}
-use Rattle.tt_proof.specs.ProofClaim.{ProofClaim, IsWinningTree, IsChild, AreChildren, turns_of, trees_by_turn}
+use Rattle.tt_proof.specs.ProofClaim.{ProofClaim, IsWinningTree, IsChild, AreReplyChildren, turns_of, trees_by_turn}
 use Rattle.tt_proof.specs.inside.Replaying.{HasEntry, LegalWin}
-use Rattle.tt_proof.specs.Strategy.{done, pick, reply, entries_of, depth_of_entries, AreInOrder, number_on}
+use Rattle.tt_proof.specs.Strategy.{done, pick, reply, entries_of, depth_of_entries, AreInOrder, turn_number_on_size}
 use Rattle.tt_proof.proofs.WinsLemmas.{reply_wins}
 use Rattle.tt_game.specs.laws.Members.{IsIn, in_of_contains}
 
@@ -57,25 +57,25 @@ AllWon (e ∷ es) = IsWinningTree e.1.side e.1.frame e.1.state e.1.tree × AllWo
 
 module _ (f : Frame) (s : State) where
   -- each child's tree that is won wins after its turn
-  children_win : (es : List (Turn × ProofClaim)) → AreChildren f s es → AllWon es →
+  children_win : (es : List (Turn × ProofClaim)) → AreReplyChildren f s es → AllWon es →
       LegalWin (opponent s.to_move) f s (entries_of (trees_by_turn es))
   children_win [] h w = tt
   children_win (e ∷ es) h w = (λ l. (child_won f s (opponent s.to_move) e.0 e.1 h.0 w.0).wins, children_win es h.1 w.1)
 
   -- replies with children's trees are at most `MOST_DEPTH` deep
-  children_low : (es : List (Turn × ProofClaim)) → AreChildren f s es → depth_of_entries (entries_of (trees_by_turn es)) ≤ MOST_DEPTH
+  children_low : (es : List (Turn × ProofClaim)) → AreReplyChildren f s es → depth_of_entries (entries_of (trees_by_turn es)) ≤ MOST_DEPTH
   children_low [] h = omega arith
   children_low (e ∷ es) h = let low = h.0.shallow in omega (arith, low, children_low es h.1)
 
   -- they are in order where the turns lie on the board and rise
-  children_in_order : (least : ℕ) (es : List (Turn × ProofClaim)) → AreChildren f s es → AllWon es →
+  children_in_order : (least : ℕ) (es : List (Turn × ProofClaim)) → AreReplyChildren f s es → AllWon es →
       RisesFrom f.size least (turns_of es) → AreInOrder f.size least (entries_of (trees_by_turn es))
   children_in_order least [] h w r = tt
   children_in_order least (e ∷ es) h w r = (
     r.0,
     r.1,
     (child_won f s (opponent s.to_move) e.0 e.1 h.0 w.0).in_order,
-    children_in_order (number_on f.size e.0 + 1) es h.1 w.1 r.2,
+    children_in_order (turn_number_on_size f.size e.0 + 1) es h.1 w.1 r.2,
   )
 
   -- each child's turn has an entry
@@ -86,7 +86,7 @@ module _ (f : Frame) (s : State) where
 
   -- a reply with a won child for each legal turn wins for the side that is not to move
   pub won_reply : (f' : Frame) (s' : State) (side : Side) (es : List (Turn × ProofClaim)) → f' ≡ f → s' ≡ s →
-      side ≡ opponent s.to_move → winner_of f s ≡ None → turns_of es ≡ legal_turns f s → AreChildren f s es → AllWon es →
+      side ≡ opponent s.to_move → winner_of f s ≡ None → turns_of es ≡ legal_turns f s → AreReplyChildren f s es → AllWon es →
       IsWinningTree side f' s' (reply (entries_of (trees_by_turn es)))
   won_reply f' s' side es same_f same_s theirs nobody same h w =
       let ts = turns_of es in

@@ -4,7 +4,7 @@ use Rattle.tt_sgf.specs.declared.size.Size.{Size}
 use Rattle.tt_game.specs.declared.turns.Turn.{Turn}
 use Rattle.tt_proof.specs.declared.certificate_read.CertFault.{CertFault}
 use Rattle.tt_proof.specs.declared.certificate_read.CertFault.TheVariants.{Syntax, TooDeep, NoMemory}
-use Rattle.tt_proof.specs.Strategy.{Strategy, Entries, done, pick, reply, none, entry, depth, depth_of_entries, IsOnBoard, IsInOrder}
+use Rattle.tt_proof.specs.Strategy.{Strategy, Entries, done, pick, reply, none, entry, depth, depth_of_entries, IsTurnOnBoardOfSize, IsInOrder}
 use Rattle.tt_proof.specs.CertificateText.{won_symbol, pick_symbol, replies_symbol, turn_text, tree_text, entries_text, IsTreeTextDownTo, IsEntriesTextDownTo}
 use Rattle.tt_proof.specs.inside.CertificateReading.{TreeAt, DeepAt, EntriesAt, EntriesDeepAt, FaultAt, EntriesFaultAt}
 use Rattle.tt_proof.proofs.TextLemmas.{heads, tails}
@@ -12,7 +12,7 @@ use Rattle.tt_proof.proofs.TextLemmas.{heads, tails}
 module _ (size : Size) where
   -- no turn of the board stands there
   abbrev pub NoTurn : List ℕ → Type 0
-  NoTurn r = (t : Turn) (y : List ℕ) → IsOnBoard size t → r ≡ turn_text size t ++ y → ⊥
+  NoTurn r = (t : Turn) (y : List ℕ) → IsTurnOnBoardOfSize size t → r ≡ turn_text size t ++ y → ⊥
 
   -- a strategy that is deeper than e has a turn with e turns above it
   mutual
@@ -122,7 +122,7 @@ module _ (size : Size) where
       deep (reply es) k x y o e w = omega (arith, heads (e ∙ ap (λ z. z ++ y) w.1.0))
 
   -- where no turn has room, a turn behind `!` is too deep
-  pub pick_deep : (t : Turn) (r y : List ℕ) → IsOnBoard size t → r ≡ turn_text size t ++ y → DeepAt size 0 (pick_symbol ∷ r)
+  pub pick_deep : (t : Turn) (r y : List ℕ) → IsTurnOnBoardOfSize size t → r ≡ turn_text size t ++ y → DeepAt size 0 (pick_symbol ∷ r)
   pick_deep t r y o e = record {
     tree = pick t done;
     beginning = pick_symbol ∷ turn_text size t;
@@ -133,13 +133,13 @@ module _ (size : Size) where
   }
 
   -- a turn and a tree behind `!` are a pick, a turn deeper
-  pub pick_read : (e : ℕ) (t : Turn) (u : Strategy) (r after y : List ℕ) → IsOnBoard size t → r ≡ turn_text size t ++ after →
+  pub pick_read : (e : ℕ) (t : Turn) (u : Strategy) (r after y : List ℕ) → IsTurnOnBoardOfSize size t → r ≡ turn_text size t ++ after →
       TreeAt size e u after y → TreeAt size (suc e) (pick t u) (pick_symbol ∷ r) y
   pick_read e t u r after y o at h =
       record { in_order = (o, h.in_order); shallow = omega (arith, h.shallow); text = ap (λ w. pick_symbol ∷ w) (at ∙ ap (λ w. turn_text size t ++ w) h.text) }
 
   -- a fault of the tree behind the turn is one of the pick
-  pub pick_fault : (e : ℕ) (t : Turn) (r after : List ℕ) (f : CertFault) → IsOnBoard size t → r ≡ turn_text size t ++ after →
+  pub pick_fault : (e : ℕ) (t : Turn) (r after : List ℕ) (f : CertFault) → IsTurnOnBoardOfSize size t → r ≡ turn_text size t ++ after →
       FaultAt size e after f → FaultAt size (suc e) (pick_symbol ∷ r) f
   pick_fault e t r after NoMemory o at h = tt
   pick_fault e t r after TooDeep o at h = record {

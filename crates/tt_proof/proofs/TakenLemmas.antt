@@ -8,7 +8,7 @@ use Rattle.tt_game.specs.Game.{State, history}
 use Rattle.tt_game.specs.laws.Members.{IsIn, in_of_contains, contains_of_in}
 use Rattle.tt_game.specs.declared.frame.Frame.{Frame}
 use Rattle.tt_proof.specs.declared.footprints.Footprint.{Footprint}
-use Rattle.tt_proof.specs.BoardBounds.{IsWithin}
+use Rattle.tt_proof.specs.BoardSetBounds.{MayContainBoard}
 use Rattle.tt_proof.specs.ProofClaim.{ProofClaim, IsWinningTree}
 use Rattle.tt_proof.specs.Footprints.{IsMet, FitsAt}
 use Rattle.tt_proof.specs.KeptFootprints.{IsFootprint, board_of_colouring}
@@ -55,9 +55,9 @@ taken_in (suc n) (x ∷ xs) c (inr m) = inr (taken_in n xs c m)
 
 module _ (p : ProofClaim) (f : Frame) (s : State) (x : Footprint) (bs : List Position) (shows : colourings bs ≡ history s)
     (sizes : All (λ (b : Position). b.size ≡ f.size) bs) (n : ℕ) (alike : take n (history s) ≡ take n (history p.state))
-    (low : All (λ (b : Position). IsWithin x.met b → Contains (history p.state) b.points) (take (length (drop n bs) - 1) (drop n bs))) where
+    (low : All (λ (b : Position). MayContainBoard x.met b → Contains (history p.state) b.points) (take (length (drop n bs) - 1) (drop n bs))) where
   -- the boards behind the first ones, but the last one, are those of the colourings there
-  low_behind : (c : Colouring) → IsIn (front (drop n (history s))) c → IsWithin x.met (board_of_colouring f c) → Contains (history p.state) c
+  low_behind : (c : Colouring) → IsIn (front (drop n (history s))) c → MayContainBoard x.met (board_of_colouring f c) → Contains (history p.state) c
   low_behind c m =
       let k = length (drop n bs) - 1 in
       let same : colourings (take k (drop n bs)) ≡ front (drop n (history s)) =
@@ -65,14 +65,14 @@ module _ (p : ProofClaim) (f : Frame) (s : State) (x : Footprint) (bs : List Pos
       ∙ ap front (sym (drop-map (λ b. b.points) n bs)) ∙ ap (λ cs. front (drop n cs)) shows in
       let sized = All-take (λ (b : Position). b.size ≡ f.size) k (drop n bs) (All-drop (λ (b : Position). b.size ≡ f.size) n bs sizes) in
       let there = board_in f (take k (drop n bs)) c sized (subst (λ cs. IsIn cs c) (sym same) m) in
-      All-contains (λ (b : Position). IsWithin x.met b → Contains (history p.state) b.points) (take k (drop n bs)) (board_of_colouring f c) low (contains_of_in (take k (drop n bs)) (board_of_colouring f c) there)
+      All-contains (λ (b : Position). MayContainBoard x.met b → Contains (history p.state) b.points) (take k (drop n bs)) (board_of_colouring f c) low (contains_of_in (take k (drop n bs)) (board_of_colouring f c) there)
 
   -- so what the tree meets is in the line's history only where it is in the proof's
   unmet : p.frame ≡ f → IsFootprint p.frame p.state p.tree x → s.present ≡ p.state.present → (c : Colouring) → IsMet p.frame p.tree p.state c →
       Contains (history s) c → Contains (history p.state) c
   unmet frame foot same c m k = elim (three_parts n s.earlier s.present c (in_of_contains (history s) c k)) [
     | inl begun ↦ contains_of_in (history p.state) c (taken_in n (history p.state) c (subst (λ cs. IsIn cs c) alike begun))
-    | inr (inl behind) ↦ low_behind c behind (subst (λ g. IsWithin x.met (board_of_colouring g c)) frame (foot.met c m))
+    | inr (inl behind) ↦ low_behind c behind (subst (λ g. MayContainBoard x.met (board_of_colouring g c)) frame (foot.met c m))
     | inr (inr e) ↦ Contains-append_right p.state.earlier (p.state.present ∷ []) c (contains_of_in (p.state.present ∷ []) c (inl (sym same ∙ e)))
   ]
 

@@ -4,7 +4,7 @@ use Rattle.tt_game.specs.Game.{State, IsLegal, after}
 use Rattle.tt_game.specs.declared.frame.Side.{Side}
 use Rattle.tt_game.specs.declared.turns.Turn.{Turn}
 use Rattle.tt_game.specs.declared.frame.Frame.{Frame}
-use Rattle.tt_proof.specs.Strategy.{Entries, reply, none, entry, AreInOrder, number_on}
+use Rattle.tt_proof.specs.Strategy.{Entries, reply, none, entry, AreInOrder, turn_number_on_size}
 use Rattle.tt_proof.specs.Wins.{Wins, WinsBehind}
 use Rattle.tt_proof.specs.inside.Replaying.{HasEntry, LegalWin, AnswersEach}
 
@@ -23,17 +23,17 @@ module _ (side : Side) (f : Frame) (s : State) where
   has_behind (entry t' u es) t (inr h) = inr (has_behind es t h)
 
   -- of entries in order, none has a number below the least
-  entry_number : (least : ℕ) (es : Entries) (t : Turn) → AreInOrder f.size least es → HasEntry es t → least ≤ number_on f.size t
+  entry_number : (least : ℕ) (es : Entries) (t : Turn) → AreInOrder f.size least es → HasEntry es t → least ≤ turn_number_on_size f.size t
   entry_number least none t o h = absurd h
-  entry_number least (entry t' u es) t o (inl e) = let same = ap (number_on f.size) e in omega (arith, o.0, same)
+  entry_number least (entry t' u es) t o (inl e) = let same = ap (turn_number_on_size f.size) e in omega (arith, o.0, same)
   entry_number least (entry t' u es) t o (inr h) =
-      let past = entry_number (number_on f.size t' + 1) es t o.3 h in omega (arith, o.0, past)
+      let past = entry_number (turn_number_on_size f.size t' + 1) es t o.3 h in omega (arith, o.0, past)
 
   -- of entries in order, each of a legal turn wins where some entry of each such turn does
   pub legal_win : (least : ℕ) (es : Entries) → AreInOrder f.size least es →
       ((t : Turn) → HasEntry es t → IsLegal f s t → WinsBehind side f es t s) → LegalWin side f s es
   legal_win least none o h = tt
-  legal_win least (entry t u es) o h = (here, legal_win (number_on f.size t + 1) es o.3 there)
+  legal_win least (entry t u es) o h = (here, legal_win (turn_number_on_size f.size t + 1) es o.3 there)
     where
       -- the first one does
       here : IsLegal f s t → Wins side f u (after f s t)
@@ -42,7 +42,7 @@ module _ (side : Side) (f : Frame) (s : State) where
           -- it is the only one of its turn
           pass : WinsBehind side f (entry t u es) t s → Wins side f u (after f s t)
           pass (inl e) = e.1
-          pass (inr w) = let late = entry_number (number_on f.size t + 1) es t o.3 (has_behind es t w) in absurd (omega (arith, late))
+          pass (inr w) = let late = entry_number (turn_number_on_size f.size t + 1) es t o.3 (has_behind es t w) in absurd (omega (arith, late))
 
       -- of the other turns, some entry behind it does
       there : (t' : Turn) → HasEntry es t' → IsLegal f s t' → WinsBehind side f es t' s
@@ -51,8 +51,8 @@ module _ (side : Side) (f : Frame) (s : State) where
           -- the first one is not of this turn
           pass : WinsBehind side f (entry t u es) t' s → WinsBehind side f es t' s
           pass (inl w) =
-              let late = entry_number (number_on f.size t + 1) es t' o.3 e in
-              let same = ap (number_on f.size) w.0 in
+              let late = entry_number (turn_number_on_size f.size t + 1) es t' o.3 e in
+              let same = ap (turn_number_on_size f.size) w.0 in
               absurd (omega (arith, late, same))
           pass (inr w) = w
 

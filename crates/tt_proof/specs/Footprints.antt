@@ -6,7 +6,7 @@ use Rattle.std.specs.FinSet as set
 use Rattle.tt_sgf.specs.Sizes.{point_count}
 use Rattle.tt_board.specs.Position.{Colouring}
 use Rattle.tt_board.specs.Reach.{entry_at}
-use Rattle.tt_game.specs.Game.{State, IsLegal, after, history, made}
+use Rattle.tt_game.specs.Game.{State, IsLegal, after, history, colouring_after_play}
 use Rattle.tt_game.specs.declared.frame.Frame.{Frame}
 use Rattle.tt_game.specs.declared.turns.Turn.{Turn}
 use Rattle.tt_game.specs.declared.turns.Turn.TheVariants.{Play, Pass}
@@ -16,18 +16,18 @@ use Rattle.tt_proof.specs.ProofClaim.{ProofClaim}
 -- the path from a state on, after one more turn: a play appends the colouring that it makes, a pass nothing
 abbrev pub path_after_turn : Frame → State → Turn → List Colouring → List Colouring
 path_after_turn f s Pass path = path
-path_after_turn f s (Play p) path = path ++ made f s p ∷ []
+path_after_turn f s (Play p) path = path ++ colouring_after_play f s p ∷ []
 
 -- the turn is a play, and makes the colouring
 abbrev pub MakesColouring : Frame → State → Turn → Colouring → Type 0
 MakesColouring f s Pass c = ⊥
-MakesColouring f s (Play p) c = made f s p ≡ c
+MakesColouring f s (Play p) c = colouring_after_play f s p ≡ c
 
 module _ (f : Frame) where
   -- a play on an empty point of the region would make the colouring, which the history h has and the path has not
-  abbrev pub IsRepeated : List Colouring → List Colouring → State → Colouring → Type 0
-  IsRepeated h path s c =
-      ((p : ℕ) × (p < point_count f.size) × (entry_at s.present p ≡ None) × IsTrue (set.contains f.region p) × (made f s p ≡ c))
+  abbrev pub IsRepeatedByPlay : List Colouring → List Colouring → State → Colouring → Type 0
+  IsRepeatedByPlay h path s c =
+      ((p : ℕ) × (p < point_count f.size) × (entry_at s.present p ≡ None) × IsTrue (set.contains f.region p) × (colouring_after_play f s p ≡ c))
       × Contains h c × (Contains path c → ⊥)
 
   -- A node of the strategy is reached where each turn on the way to it is legal.
@@ -38,7 +38,7 @@ module _ (f : Frame) where
       pub IsNeeded : Strategy → List Colouring → State → Colouring → Type 0
       IsNeeded done path s c = ⊥
       IsNeeded (pick t u) path s c = IsLegal f s t × IsNeeded u (path_after_turn f s t path) (after f s t) c
-      IsNeeded (reply es) path s c = IsRepeated h path s c ⊎ IsNeededBehind es path s c
+      IsNeeded (reply es) path s c = IsRepeatedByPlay h path s c ⊎ IsNeededBehind es path s c
 
       -- so does the strategy of some entry
       pub IsNeededBehind : Entries → List Colouring → State → Colouring → Type 0

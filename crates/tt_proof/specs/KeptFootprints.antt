@@ -1,7 +1,7 @@
 -- Footprints as they are kept: as lists of boards, and a bound.
 use Rattle.std.specs.Prelude.{◌≡◌, ◌↔◌, ℕ, List, [], ◌∷◌, ◌++◌, Contains, IsTrue}
 use Rattle.std.specs.FinSet as set
-use Rattle.tt_board.specs.Stones.{Points}
+use Rattle.tt_board.specs.Stones.{PointNumberSet}
 use Rattle.tt_board.specs.Position.{Position, Colouring}
 use Rattle.tt_game.specs.Game.{State, IsLegal, after, history}
 use Rattle.tt_game.specs.declared.frame.Frame.{Frame}
@@ -9,7 +9,7 @@ use Rattle.tt_game.specs.declared.frame.Side.{Side}
 use Rattle.tt_game.specs.declared.turns.Turn.{Turn}
 use Rattle.tt_game.specs.declared.turns.Turn.TheVariants.{Play}
 use Rattle.tt_proof.specs.declared.footprints.Footprint.{Footprint}
-use Rattle.tt_proof.specs.BoardBounds.{IsWithin}
+use Rattle.tt_proof.specs.BoardSetBounds.{MayContainBoard}
 use Rattle.tt_proof.specs.Strategy.{Strategy, reply, entries_of}
 use Rattle.tt_proof.specs.Footprints.{IsNeeded, IsAvoided, IsMet}
 use Rattle.tt_proof.specs.ProofClaim.{IsWinningTree}
@@ -30,10 +30,10 @@ pub record IsFootprint (f : Frame) (s : State) (u : Strategy) (x : Footprint) : 
   pub avoids_sized : HaveFrameSize f x.avoids
   pub needed : (c : Colouring) → Contains x.needs (board_of_colouring f c) ↔ IsNeeded f (history s) u [] s c
   pub avoided : (c : Colouring) → Contains x.avoids (board_of_colouring f c) ↔ IsAvoided f u s c
-  pub met : (c : Colouring) → IsMet f u s c → IsWithin x.met (board_of_colouring f c)
+  pub met : (c : Colouring) → IsMet f u s c → MayContainBoard x.met (board_of_colouring f c)
 
 -- a play on each point of the set is legal
-abbrev pub AreLegalPlays : Frame → State → Points → Type 0
+abbrev pub AreLegalPlays : Frame → State → PointNumberSet → Type 0
 AreLegalPlays f s points = (p : ℕ) → IsTrue (set.contains points p) → IsLegal f s (Play p)
 
 -- the board is the one after the turn

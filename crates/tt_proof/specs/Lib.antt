@@ -3,7 +3,7 @@ pub mod Strategy
 pub mod Nodes
 pub mod Wins
 pub mod Footprints
-pub mod BoardBounds
+pub mod BoardSetBounds
 pub mod KeptFootprints
 pub mod StrategyLaws
 pub mod ProofClaim

@@ -7,7 +7,7 @@ use Rattle.tt_game.specs.declared.turns.Turn.{Turn}
 use Rattle.tt_proof.specs.declared.outlines.Outline as form
 use Rattle.tt_proof.specs.declared.outlines.Outline.TheOpen as layer
 use Rattle.tt_proof.specs.declared.tree.TheConstants.{MOST_DEPTH}
-use Rattle.tt_proof.specs.Strategy.{Strategy, Entries, done, pick, reply, none, entry, depth, IsOnBoard, number_on}
+use Rattle.tt_proof.specs.Strategy.{Strategy, Entries, done, pick, reply, none, entry, depth, IsTurnOnBoardOfSize, turn_number_on_size}
 use Rattle.tt_proof.specs.CertificateText.{won_symbol, pick_symbol, replies_symbol, turn_text, side_prefix}
 
 mutual
@@ -66,34 +66,34 @@ abbrev mutual
 
 abbrev mutual
   -- the turns lie on the board, and those of each reply rise by their numbers
-  pub IsOrderly : Size → Outline → Type 0
-  IsOrderly size ended = Unit {0}
-  IsOrderly size (picked n t o) = IsOnBoard size t × IsOrderly size o
-  IsOrderly size (replied n bs) = AreOrderly size 0 bs
-  IsOrderly size (part k) = Unit {0}
+  pub IsOutlineInOrder : Size → Outline → Type 0
+  IsOutlineInOrder size ended = Unit {0}
+  IsOutlineInOrder size (picked n t o) = IsTurnOnBoardOfSize size t × IsOutlineInOrder size o
+  IsOutlineInOrder size (replied n bs) = AreBranchesInOrder size 0 bs
+  IsOutlineInOrder size (part k) = Unit {0}
 
-  pub AreOrderly : Size → ℕ → Branches → Type 0
-  AreOrderly size least no_branch = Unit {0}
-  AreOrderly size least (branch t o bs) =
-      (least ≤ number_on size t) × IsOnBoard size t × IsOrderly size o × AreOrderly size (number_on size t + 1) bs
+  pub AreBranchesInOrder : Size → ℕ → Branches → Type 0
+  AreBranchesInOrder size least no_branch = Unit {0}
+  AreBranchesInOrder size least (branch t o bs) =
+      (least ≤ turn_number_on_size size t) × IsTurnOnBoardOfSize size t × IsOutlineInOrder size o × AreBranchesInOrder size (turn_number_on_size size t + 1) bs
 
 -- ---- texts: `=` in front of a tree names it, `*` and a number stands for the tree of that name
-abbrev pub name_symbol : ℕ
-name_symbol = 61
+abbrev pub naming_symbol : ℕ
+naming_symbol = 61
 
 abbrev pub part_symbol : ℕ
 part_symbol = 42
 
-abbrev pub name_text : Bool → List ℕ
-name_text true = name_symbol ∷ []
-name_text false = []
+abbrev pub naming_text : Bool → List ℕ
+naming_text true = naming_symbol ∷ []
+naming_text false = []
 
 module _ (size : Size) where
   abbrev mutual
     pub outline_text : Outline → List ℕ
     outline_text ended = won_symbol ∷ []
-    outline_text (picked n t o) = name_text n ++ (pick_symbol ∷ (turn_text size t ++ outline_text o))
-    outline_text (replied n bs) = name_text n ++ (replies_symbol ∷ branches_text bs)
+    outline_text (picked n t o) = naming_text n ++ (pick_symbol ∷ (turn_text size t ++ outline_text o))
+    outline_text (replied n bs) = naming_text n ++ (replies_symbol ∷ branches_text bs)
     outline_text (part k) = part_symbol ∷ decimal k
 
     pub branches_text : Branches → List ℕ
@@ -104,7 +104,7 @@ module _ (size : Size) where
   -- and its tree has at most 512 turns on each way down
   pub record IsSharedCertificate (bytes : List ℕ) (side : Side) (o : Outline) : Type 0 where
     pub closed : RefersBack [] o
-    pub orderly : IsOrderly size o
+    pub orderly : IsOutlineInOrder size o
     pub shallow : depth (unfolded [] o) ≤ MOST_DEPTH
     pub text : bytes ≡ side_prefix side ++ outline_text o
 
@@ -119,10 +119,10 @@ module _ (size : Size) where
     -- above it, or to the whole name of a tree that is too deep there
     pub OutlineGoesDeep : List Strategy → ℕ → Outline → List ℕ → Type 0
     OutlineGoesDeep us left ended r = ⊥
-    OutlineGoesDeep us zero (picked n t o) r = (y : List ℕ) × (r ≡ name_text n ++ (pick_symbol ∷ (turn_text size t ++ y)))
+    OutlineGoesDeep us zero (picked n t o) r = (y : List ℕ) × (r ≡ naming_text n ++ (pick_symbol ∷ (turn_text size t ++ y)))
     OutlineGoesDeep us (suc left) (picked n t o) r =
-        (y : List ℕ) × ((r ≡ name_text n ++ (pick_symbol ∷ (turn_text size t ++ y))) × OutlineGoesDeep us left o y)
-    OutlineGoesDeep us left (replied n bs) r = (y : List ℕ) × ((r ≡ name_text n ++ (replies_symbol ∷ y)) × BranchesGoDeep us left bs y)
+        (y : List ℕ) × ((r ≡ naming_text n ++ (pick_symbol ∷ (turn_text size t ++ y))) × OutlineGoesDeep us left o y)
+    OutlineGoesDeep us left (replied n bs) r = (y : List ℕ) × ((r ≡ naming_text n ++ (replies_symbol ∷ y)) × BranchesGoDeep us left bs y)
     OutlineGoesDeep us left (part k) r =
         (y : List ℕ) × ((r ≡ part_symbol ∷ (decimal k ++ y)) × HasNoDigitInFront y × (left < depth (get_or us k done)))
 
@@ -140,7 +140,7 @@ module _ (size : Size) where
     pub outline : Outline
     pub behind : List ℕ
     pub closed : RefersBack [] outline
-    pub orderly : IsOrderly size outline
+    pub orderly : IsOutlineInOrder size outline
     pub deep : OutlineGoesDeep [] most outline behind
     pub text : bytes ≡ side_prefix side ++ behind
 

@@ -32,9 +32,9 @@ pub record IsChild (f : Frame) (s : State) (side : Side) (t : Turn) (p : ProofCl
   pub shallow : depth p.tree < MOST_DEPTH
 
 -- each is a child for its turn, of the side that is not to move
-abbrev pub AreChildren : Frame → State → List (Turn × ProofClaim) → Type 0
-AreChildren f s [] = Unit {0}
-AreChildren f s (e ∷ es) = IsChild f s (opponent s.to_move) e.0 e.1 × AreChildren f s es
+abbrev pub AreReplyChildren : Frame → State → List (Turn × ProofClaim) → Type 0
+AreReplyChildren f s [] = Unit {0}
+AreReplyChildren f s (e ∷ es) = IsChild f s (opponent s.to_move) e.0 e.1 × AreReplyChildren f s es
 
 abbrev pub turns_of : List (Turn × ProofClaim) → List Turn
 turns_of es = map (λ e. e.0) es

@@ -3,7 +3,7 @@
 use Rattle.std.specs.Prelude.{◌≡◌, ◌↔◌, ◌⊎◌, Bool, true, false, List, [], ◌∷◌, ◌++◌, Contains, Option, Some, None, get_or}
 use Rattle.tt_board.specs.Position.{Position}
 use Rattle.tt_game.specs.Game.{State, IsLegal, after, history, opponent, winner_of}
-use Rattle.tt_game.specs.Line.{HasBoard}
+use Rattle.tt_game.specs.Line.{HasBoardInHistory}
 use Rattle.tt_game.specs.declared.frame.Frame.{Frame}
 use Rattle.tt_game.specs.declared.frame.Side.{Side}
 use Rattle.tt_game.specs.declared.turns.Turn.{Turn}
@@ -11,7 +11,7 @@ use Rattle.tt_proof.specs.declared.position_footprint.PositionFootprint.{Positio
 use Rattle.tt_proof.specs.declared.outline_replay.ReplayResult.{ReplayResult}
 use Rattle.tt_proof.specs.declared.outline_replay.ReplayResult.TheVariants.{Won, Lost, Unfit}
 use Rattle.tt_proof.specs.Outlines.{Outline, Branches, ended, picked, replied, part, no_branch, branch}
-use Rattle.tt_proof.specs.Footprints.{IsRepeated, MakesColouring}
+use Rattle.tt_proof.specs.Footprints.{IsRepeatedByPlay, MakesColouring}
 use Rattle.tt_proof.specs.KeptFootprints.{board_of_colouring}
 
 -- ---- what a tree rests on: a position, boards that a history needs, and boards that it has to avoid
@@ -26,11 +26,11 @@ module _ (f : Frame) where
   -- a tree that rests on this fits at the state: the history has all that is needed and nothing that is avoided
   pub record FootprintFits (x : PositionFootprint) (s : State) : Type 0 where
     pub position : HasPosition s x
-    pub needs : (b : Position) → Contains x.needs b → HasBoard f s b
-    pub avoids : (b : Position) → Contains x.avoids b → HasBoard f s b → ⊥
+    pub needs : (b : Position) → Contains x.needs b → HasBoardInHistory f s b
+    pub avoids : (b : Position) → Contains x.avoids b → HasBoardInHistory f s b → ⊥
 
   -- it rests on the position alone, as an ended tree does
-  pub record RestsOnPosition (s : State) (x : PositionFootprint) : Type 0 where
+  pub record RestsOnPositionAlone (s : State) (x : PositionFootprint) : Type 0 where
     pub position : HasPosition s x
     pub needs : x.needs ≡ []
     pub avoids : x.avoids ≡ []
@@ -38,7 +38,7 @@ module _ (f : Frame) where
   -- it rests on the boards that plays would repeat, as a reply does besides what its branches rest on
   pub record RestsOnRepeats (s : State) (x : PositionFootprint) : Type 0 where
     pub position : HasPosition s x
-    pub needs : (b : Position) → Contains x.needs b ↔ ((b.size ≡ f.size) × IsRepeated f (history s) [] s b.points)
+    pub needs : (b : Position) → Contains x.needs b ↔ ((b.size ≡ f.size) × IsRepeatedByPlay f (history s) [] s b.points)
     pub avoids : x.avoids ≡ []
 
   -- the turn is a play, and makes the board
@@ -52,7 +52,7 @@ module _ (f : Frame) where
     pub avoids : (b : Position) → Contains x.avoids b ↔ (Contains behind.avoids b ⊎ MakesBoard s t b)
 
   -- in front of a turn of the other side: that board is no more needed
-  pub record RestsBeforeReply (s : State) (t : Turn) (behind x : PositionFootprint) : Type 0 where
+  pub record RestsBeforeOpposingTurn (s : State) (t : Turn) (behind x : PositionFootprint) : Type 0 where
     pub position : HasPosition s x
     pub needs : (b : Position) → Contains x.needs b ↔ (Contains behind.needs b × (MakesBoard s t b → ⊥))
     pub avoids : x.avoids ≡ behind.avoids
@@ -138,51 +138,51 @@ module _ (f : Frame) where
 module _ (side : Side) (f : Frame) where
   -- on an ended tree
   abbrev pub IsResultOfDone : State → ReplayResult → Type 0
-  IsResultOfDone s (Won x) = (winner_of f s ≡ Some side) × RestsOnPosition f s x
+  IsResultOfDone s (Won x) = (winner_of f s ≡ Some side) × RestsOnPositionAlone f s x
   IsResultOfDone s Lost = winner_of f s ≡ Some side → ⊥
   IsResultOfDone s Unfit = ⊥
 
   -- on a node, by what is found behind it. Where no play leads on, the names are those that are skipped.
   module _ (s : State) (Behind : ReplayResult → NamedFootprints → Type 0) (skipped : NamedFootprints) (r : ReplayResult) (ms : NamedFootprints) where
     -- on a pick: the side is to move, and the turn is legal; else it doesn't win
-    abbrev pub PickFinds : Turn → Type 0
-    PickFinds t =
+    abbrev pub IsReplayOfPick : Turn → Type 0
+    IsReplayOfPick t =
         ((s.to_move ≡ side) × IsLegal f s t × ((q : ReplayResult) × (Behind q ms × IsResultBeforeTurn (RestsBeforePick f s t) q r)))
         ⊎ ((s.to_move ≡ side → IsLegal f s t → ⊥) × (r ≡ Lost) × (ms ≡ skipped))
 
     -- on a branch: its turn is legal; else it rests on the position alone
-    abbrev pub BranchFinds : Turn → Type 0
-    BranchFinds t =
-        (IsLegal f s t × ((q : ReplayResult) × (Behind q ms × IsResultBeforeTurn (RestsBeforeReply f s t) q r)))
-        ⊎ ((IsLegal f s t → ⊥) × ((x : PositionFootprint) × ((r ≡ Won x) × RestsOnPosition f s x)) × (ms ≡ skipped))
+    abbrev pub IsReplayOfBranch : Turn → Type 0
+    IsReplayOfBranch t =
+        (IsLegal f s t × ((q : ReplayResult) × (Behind q ms × IsResultBeforeTurn (RestsBeforeOpposingTurn f s t) q r)))
+        ⊎ ((IsLegal f s t → ⊥) × ((x : PositionFootprint) × ((r ≡ Won x) × RestsOnPositionAlone f s x)) × (ms ≡ skipped))
 
     -- on a reply: nobody has won, and the other side is to move; else it doesn't win
-    abbrev pub ReplyFinds : Branches → Type 0
-    ReplyFinds bs =
+    abbrev pub IsReplayOfReply : Branches → Type 0
+    IsReplayOfReply bs =
         ((winner_of f s ≡ None) × (s.to_move ≡ opponent side) × ((q : ReplayResult) × (Behind q ms × IsResultOfReply f s bs q r)))
         ⊎ ((winner_of f s ≡ None → s.to_move ≡ opponent side → ⊥) × (r ≡ Lost) × (ms ≡ skipped))
 
   -- on branches, with what plays would repeat
-  abbrev pub FindsWithRepeats : State → (ReplayResult → NamedFootprints → Type 0) → ReplayResult → NamedFootprints → Type 0
-  FindsWithRepeats s Behind r ms = (x : PositionFootprint) × (RestsOnRepeats f s x × ((q : ReplayResult) × (Behind q ms × CombinesTo (Won x) q r)))
+  abbrev pub IsReplayWithRepeats : State → (ReplayResult → NamedFootprints → Type 0) → ReplayResult → NamedFootprints → Type 0
+  IsReplayWithRepeats s Behind r ms = (x : PositionFootprint) × (RestsOnRepeats f s x × ((q : ReplayResult) × (Behind q ms × CombinesTo (Won x) q r)))
 
   abbrev mutual
     -- on an outline at a state, by what the names before it rest on; the last list says what all names behind it rest on
-    pub FindsOutline : NamedFootprints → Outline → State → ReplayResult → NamedFootprints → Type 0
-    FindsOutline ns ended s r ms = IsResultOfDone s r × (ms ≡ ns)
-    FindsOutline ns (picked n t o) s r ms =
-        (ls : NamedFootprints) × ((ms ≡ with_named_footprint n (kept_footprint r) ls) × PickFinds s (FindsOutline ns o (after f s t)) (with_unreached_names ns o) r ls t)
-    FindsOutline ns (replied n bs) s r ms =
-        (ls : NamedFootprints) × ((ms ≡ with_named_footprint n (kept_footprint r) ls) × ReplyFinds s (FindsWithRepeats s (FindsBranches ns bs s)) (with_unreached_branch_names ns bs) r ls bs)
-    FindsOutline ns (part k) s r ms = IsResultOfPart f (get_or ns k None) s r × (ms ≡ ns)
+    pub IsReplayOfOutline : NamedFootprints → Outline → State → ReplayResult → NamedFootprints → Type 0
+    IsReplayOfOutline ns ended s r ms = IsResultOfDone s r × (ms ≡ ns)
+    IsReplayOfOutline ns (picked n t o) s r ms =
+        (ls : NamedFootprints) × ((ms ≡ with_named_footprint n (kept_footprint r) ls) × IsReplayOfPick s (IsReplayOfOutline ns o (after f s t)) (with_unreached_names ns o) r ls t)
+    IsReplayOfOutline ns (replied n bs) s r ms =
+        (ls : NamedFootprints) × ((ms ≡ with_named_footprint n (kept_footprint r) ls) × IsReplayOfReply s (IsReplayWithRepeats s (IsReplayOfBranches ns bs s)) (with_unreached_branch_names ns bs) r ls bs)
+    IsReplayOfOutline ns (part k) s r ms = IsResultOfPart f (get_or ns k None) s r × (ms ≡ ns)
 
     -- on branches together
-    pub FindsBranches : NamedFootprints → Branches → State → ReplayResult → NamedFootprints → Type 0
-    FindsBranches ns no_branch s r ms = ((x : PositionFootprint) × ((r ≡ Won x) × RestsOnPosition f s x)) × (ms ≡ ns)
-    FindsBranches ns (branch t o bs) s r ms =
+    pub IsReplayOfBranches : NamedFootprints → Branches → State → ReplayResult → NamedFootprints → Type 0
+    IsReplayOfBranches ns no_branch s r ms = ((x : PositionFootprint) × ((r ≡ Won x) × RestsOnPositionAlone f s x)) × (ms ≡ ns)
+    IsReplayOfBranches ns (branch t o bs) s r ms =
         (q : ReplayResult) × ((p : ReplayResult) × ((ls : NamedFootprints) × (
-        BranchFinds s (FindsOutline ns o (after f s t)) (with_unreached_names ns o) q ls t × FindsBranches ls bs s p ms × CombinesTo q p r)))
+        IsReplayOfBranch s (IsReplayOfOutline ns o (after f s t)) (with_unreached_names ns o) q ls t × IsReplayOfBranches ls bs s p ms × CombinesTo q p r)))
 
   -- the answer on a whole outline
   abbrev pub IsOutlineAnswer : Outline → State → Option Bool → Type 0
-  IsOutlineAnswer o s a = (r : ReplayResult) × ((ms : NamedFootprints) × (FindsOutline [] o s r ms × (a ≡ wins_if_fit r)))
+  IsOutlineAnswer o s a = (r : ReplayResult) × ((ms : NamedFootprints) × (IsReplayOfOutline [] o s r ms × (a ≡ wins_if_fit r)))

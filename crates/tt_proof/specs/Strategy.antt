@@ -2,7 +2,7 @@
 use Rattle.std.specs.Prelude.{ℕ, ◌+◌, ◌≤◌, max, List, [], ◌∷◌}
 use Rattle.tt_sgf.specs.declared.size.Size.{Size}
 use Rattle.tt_game.specs.declared.turns.Turn.{Turn}
-pub use Rattle.tt_game.specs.Turns.{IsOnBoard, number_on}
+pub use Rattle.tt_game.specs.Turns.{IsTurnOnBoardOfSize, turn_number_on_size}
 use Rattle.tt_proof.specs.declared.tree.Tree.{Tree, fold-Tree}
 use Rattle.tt_proof.specs.declared.tree.Tree.TheOpen as layer
 
@@ -33,14 +33,14 @@ abbrev mutual
   -- the turns lie on the board, and those of each reply rise by their numbers
   pub IsInOrder : Size → Strategy → Type 0
   IsInOrder size done = Unit {0}
-  IsInOrder size (pick t u) = IsOnBoard size t × IsInOrder size u
+  IsInOrder size (pick t u) = IsTurnOnBoardOfSize size t × IsInOrder size u
   IsInOrder size (reply es) = AreInOrder size 0 es
 
   -- so are the entries, and none has a number below the least
   pub AreInOrder : Size → ℕ → Entries → Type 0
   AreInOrder size least none = Unit {0}
   AreInOrder size least (entry t u es) =
-      (least ≤ number_on size t) × IsOnBoard size t × IsInOrder size u × AreInOrder size (number_on size t + 1) es
+      (least ≤ turn_number_on_size size t) × IsTurnOnBoardOfSize size t × IsInOrder size u × AreInOrder size (turn_number_on_size size t + 1) es
 
 abbrev pub entries_of : List (Turn × Strategy) → Entries
 entries_of [] = none

@@ -5,7 +5,7 @@ use Rattle.std.specs.declared.sync.Arc.{Arc}
 use Rattle.std.specs.declared.vec.Vec.{Vec}
 use Rattle.tt_sgf.specs.declared.size.Size.{Size}
 use Rattle.tt_board.specs.Position.{Colouring}
-use Rattle.tt_game.specs.Game.{State, Forces, after, history, made}
+use Rattle.tt_game.specs.Game.{State, Forces, after, history, colouring_after_play}
 use Rattle.tt_game.specs.declared.frame.Side.{Side}
 use Rattle.tt_game.specs.declared.frame.Frame.{Frame}
 use Rattle.tt_game.specs.declared.turns.Turn.{Turn}
@@ -26,8 +26,8 @@ FittingTreesWin = (side : Side) (f : Frame) (u : Strategy) (s s' : State) → Wi
 
 -- where a strategy fits, and the history has no colouring that it meets but what its own history has, it needs, avoids and meets
 -- there what it does at its own state
-abbrev pub FootprintsCarryOver : Type 0
-FootprintsCarryOver =
+abbrev pub FootprintsCarryOverIfUnmet : Type 0
+FootprintsCarryOverIfUnmet =
     (side : Side) (f : Frame) (u : Strategy) (s s' : State) → Wins side f u s → IsInOrder f.size u → Fits f u s s'
     → ((c : Colouring) → IsMet f u s c → Contains (history s') c → Contains (history s) c)
     → (c : Colouring)
@@ -37,12 +37,12 @@ FootprintsCarryOver =
 abbrev pub NeedsLosePlayedColouring : Type 0
 NeedsLosePlayedColouring =
     (f : Frame) (u : Strategy) (s : State) (p : ℕ) (c : Colouring)
-    → IsNeeded f (history s) u (made f s p ∷ []) (after f s (Play p)) c
-    ↔ (IsNeeded f (history (after f s (Play p))) u [] (after f s (Play p)) c × (c ≢ made f s p))
+    → IsNeeded f (history s) u (colouring_after_play f s p ∷ []) (after f s (Play p)) c
+    ↔ (IsNeeded f (history (after f s (Play p))) u [] (after f s (Play p)) c × (c ≢ colouring_after_play f s p))
 
 -- a text is of one strategy, and none is a proper beginning of another
-abbrev pub OneStrategyPerText : Type 0
-OneStrategyPerText = (size : Size) (u v : Strategy) (y z : List ℕ) → tree_text size u ++ y ≡ tree_text size v ++ z → (u ≡ v) × (y ≡ z)
+abbrev pub OneStrategyPerTextPrefix : Type 0
+OneStrategyPerTextPrefix = (size : Size) (u v : Strategy) (y z : List ℕ) → tree_text size u ++ y ≡ tree_text size v ++ z → (u ≡ v) × (y ≡ z)
 
 -- bytes are the certificate of one side and one strategy at the most
 abbrev pub OneStrategyPerCertificate : Type 0

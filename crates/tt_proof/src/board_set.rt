@@ -4,7 +4,7 @@
 
 ghost use Rattle.std.specs.Prelude.{◌≡◌, ◌≢◌, ◌↔◌, ◌⊎◌, ◌<◌, ◌≤◌, ◌++◌, ◌∷◌, ℕ, [], length, get_or, Contains, IfOk, OnOk, IsTrue, MatchOption};
 ghost use Rattle.tt_board.specs.Position.{Position};
-ghost use Rattle.tt_game.specs.Line.{HasBoard};
+ghost use Rattle.tt_game.specs.Line.{HasBoardInHistory};
 ghost use Rattle.tt_game.specs.Mixing.{board_hash};
 ghost use Rattle.tt_proof.specs.inside.Collecting.{IsOneLess};
 
@@ -379,10 +379,10 @@ impl BoardSet {
 
     /// Whether all are boards of the line's history.
     pub fn all_in_history(&self, line: &Line) -> bool
-        ensures { IsTrue result ↔ ((b : Position) → Contains self.now b → HasBoard line.now.frame line.now.state b) }
+        ensures { IsTrue result ↔ ((b : Position) → Contains self.now b → HasBoardInHistory line.now.frame line.now.state b) }
     {
         for held in &self.boards {
-            if !line.has_board(held.board()) {
+            if !line.has_board_in_history(held.board()) {
                 return false;
             }
         }
@@ -391,10 +391,10 @@ impl BoardSet {
 
     /// Whether none is a board of the line's history.
     pub fn none_in_history(&self, line: &Line) -> bool
-        ensures { IsTrue result ↔ ((b : Position) → Contains self.now b → HasBoard line.now.frame line.now.state b → ⊥) }
+        ensures { IsTrue result ↔ ((b : Position) → Contains self.now b → HasBoardInHistory line.now.frame line.now.state b → ⊥) }
     {
         for held in &self.boards {
-            if line.has_board(held.board()) {
+            if line.has_board_in_history(held.board()) {
                 return false;
             }
         }

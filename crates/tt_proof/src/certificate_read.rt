@@ -5,7 +5,7 @@ ghost use Rattle.tt_sgf.specs.Bytes.{lower_a, semicolon};
 ghost use Rattle.tt_sgf.specs.Sizes.{point_count};
 ghost use Rattle.tt_sgf.specs.declared.size.TheConstants.{MOST_POINTS};
 ghost use Rattle.tt_game.specs.declared.turns.Turn.{Turn};
-ghost use Rattle.tt_proof.specs.Strategy.{strategy_of, entries_of_reply, number_on, IsOnBoard};
+ghost use Rattle.tt_proof.specs.Strategy.{strategy_of, entries_of_reply, turn_number_on_size, IsTurnOnBoardOfSize};
 ghost use Rattle.tt_proof.specs.CertificateText.{pick_symbol, replies_symbol, turn_text, side_prefix, IsCertificate, IsTooDeep};
 ghost use Rattle.tt_proof.specs.inside.CertificateReading.{TreeAt, EntriesAt, FaultAt, EntriesFaultAt};
 ghost use Rattle.tt_proof.specs.CertificateFaults.{IsCertFault, code_of};
@@ -70,8 +70,8 @@ fn read_point(first: u8, second: u8, size: Size) -> Option<Point>
 /// The turn at the front of the bytes, its number, and what follows.
 pub(crate) fn read_turn(bytes: &[u8], size: Size) -> Option<(Turn, u16, &[u8])>
     ensures { MatchOption result
-        ((t : Turn) (y : List ℕ) → IsOnBoard size t → bytes.now ≡ turn_text size t ++ y → ⊥)
-        (λ r. IsOnBoard size r.0 × (r.1 ≡ number_on size r.0) × (r.1 ≤ MOST_POINTS) × (bytes.now ≡ turn_text size r.0 ++ r.2.now)) }
+        ((t : Turn) (y : List ℕ) → IsTurnOnBoardOfSize size t → bytes.now ≡ turn_text size t ++ y → ⊥)
+        (λ r. IsTurnOnBoardOfSize size r.0 × (r.1 ≡ turn_number_on_size size r.0) × (r.1 ≤ MOST_POINTS) × (bytes.now ≡ turn_text size r.0 ++ r.2.now)) }
 {
     let (first, rest) = bytes.split_first()?;
     let (second, rest) = rest.split_first()?;

@@ -4,7 +4,7 @@ ghost use Rattle.std.specs.Prelude.{◌≡◌, ◌<◌, ◌≤◌, ◌+◌, ◌/
 ghost use Rattle.tt_sgf.specs.Bytes.{lower_a};
 ghost use Rattle.tt_sgf.specs.Sizes.{point_count};
 ghost use Rattle.tt_proof.specs.declared.tree.TheConstants.{MOST_DEPTH};
-ghost use Rattle.tt_proof.specs.Strategy.{done, pick, depth, strategy_of, entries_of_reply, IsOnBoard, IsInOrder, AreInOrder};
+ghost use Rattle.tt_proof.specs.Strategy.{done, pick, depth, strategy_of, entries_of_reply, IsTurnOnBoardOfSize, IsInOrder, AreInOrder};
 ghost use Rattle.tt_proof.specs.CertificateText.{readable_turn_text, turn_text, tree_text, entries_text, certificate_text};
 
 use crate::tree::Tree;
@@ -36,7 +36,7 @@ fn letter_of_row(p: Point, size: Size) -> u8
 /// Writes the text of a turn behind the bytes: the letters of its column and row, or `--` for a pass. Where memory is
 /// refused nothing is written.
 pub fn put_turn(out: &mut Vec<u8>, turn: Turn, size: Size) -> Result<(), NoMemory>
-    requires { IsOnBoard size turn }
+    requires { IsTurnOnBoardOfSize size turn }
     ensures ok { OnOk result (out.new.items ≡ out.old.items ++ turn_text size turn) }
     ensures err { OnErr result (out.new.items ≡ out.old.items) }
 {
@@ -51,7 +51,7 @@ pub fn put_turn(out: &mut Vec<u8>, turn: Turn, size: Size) -> Result<(), NoMemor
 /// Writes a turn for people to read behind the bytes: the letters of its column and row, or `pass`. Where memory is refused
 /// nothing is written.
 pub fn put_readable_turn(out: &mut Vec<u8>, turn: Turn, size: Size) -> Result<(), NoMemory>
-    requires { IsOnBoard size turn }
+    requires { IsTurnOnBoardOfSize size turn }
     ensures ok { OnOk result (out.new.items ≡ out.old.items ++ readable_turn_text size turn) }
     ensures err { OnErr result (out.new.items ≡ out.old.items) }
 {

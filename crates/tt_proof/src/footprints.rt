@@ -2,19 +2,19 @@
 
 ghost use Rattle.std.specs.Prelude.{◌≡◌, ◌≤◌, ◌<◌, ◌↔◌, ◌⊎◌, List, [], ◌∷◌, ◌++◌, Contains, IfOk, OnOk, MatchOption};
 ghost use Rattle.tt_board.specs.Position.{Position, Colouring};
-ghost use Rattle.tt_game.specs.Game.{State, IsLegal, after, history, made};
+ghost use Rattle.tt_game.specs.Game.{State, IsLegal, after, history, colouring_after_play};
 ghost use Rattle.tt_game.specs.Line.{IsBarredBySuperko};
 ghost use Rattle.tt_game.specs.declared.turns.Turn.{Turn};
 ghost use Rattle.tt_game.specs.declared.frame.Frame.{Frame};
 ghost use Rattle.tt_proof.specs.declared.tree.TheConstants.{MOST_DEPTH};
-ghost use Rattle.tt_proof.specs.Strategy.{Strategy, done, pick, reply, none, depth, depth_of_entries, strategy_of, entries_of, entries_of_reply, IsInOrder, AreInOrder, IsOnBoard};
-ghost use Rattle.tt_proof.specs.Footprints.{IsRepeated};
+ghost use Rattle.tt_proof.specs.Strategy.{Strategy, done, pick, reply, none, depth, depth_of_entries, strategy_of, entries_of, entries_of_reply, IsInOrder, AreInOrder, IsTurnOnBoardOfSize};
+ghost use Rattle.tt_proof.specs.Footprints.{IsRepeatedByPlay};
 ghost use Rattle.tt_proof.specs.KeptFootprints.{IsFootprint, IsBoardAfter, IsEntryJoined, HaveFrameSize, board_of_colouring, AreLegalPlays};
 ghost use Rattle.tt_proof.specs.inside.Collecting.{IsPassedUp, IsPlayed, IsMadeWithin};
-ghost use Rattle.tt_proof.specs.BoardBounds.{IsWider};
+ghost use Rattle.tt_proof.specs.BoardSetBounds.{IsWiderOrSame};
 
-use crate::board_bounds::{BoardBound, union_of_bounds};
 use crate::board_set::BoardSet;
+use crate::board_set_bounds::{BoardSetBound, union_of_bounds};
 use crate::tree::Tree;
 use std::alloc::Global;
 use tt_board::Board;
@@ -27,7 +27,7 @@ use tt_sgf::{NoMemory, Point, PointSet};
 pub struct Footprint {
     pub needs: BoardSet,
     pub avoids: BoardSet,
-    pub met: Option<BoardBound>,
+    pub met: Option<BoardSetBound>,
 }
 
 impl Footprint {
@@ -47,11 +47,11 @@ impl Footprint {
     pub fn of_empty_reply(alloc: Global, line: &Line) -> Result<Footprint, NoMemory>
         ensures { IfOk result (λ x. IsFootprint line.now.frame line.now.state (reply none) x) }
     {
-        Footprint::of_empty_reply_with_legal(alloc, line, &PointSet::empty())
+        Footprint::of_empty_reply_given_legal(alloc, line, &PointSet::empty())
     }
 
     /// The same where plays on these points are known to be legal: such a play repeats nothing, and isn't tried.
-    pub fn of_empty_reply_with_legal(
+    pub fn of_empty_reply_given_legal(
         alloc: Global,
         line: &Line,
         legal: &PointSet,
@@ -158,27 +158,27 @@ pub(crate) fn add_made_board(
 /// A bound of what is met behind the turns of a reply, from that behind others and from that behind one more, which led to
 /// the board.
 fn widened_bound(
-    met: &Option<BoardBound>,
+    met: &Option<BoardSetBound>,
     turn: &Turn,
     board: &Board,
-    behind: &Option<BoardBound>,
-) -> Option<BoardBound>
-    ensures before { IsWider result met.now }
-    ensures behind { IsWider result behind.now }
+    behind: &Option<BoardSetBound>,
+) -> Option<BoardSetBound>
+    ensures before { IsWiderOrSame result met.now }
+    ensures behind { IsWiderOrSame result behind.now }
     ensures made { IsMadeWithin turn.now board.now result }
 {
     let both = union_of_bounds(met, behind);
     match turn {
         Turn::Pass => both,
-        Turn::Play(_) => union_of_bounds(&both, &Some(BoardBound::of(board))),
+        Turn::Play(_) => union_of_bounds(&both, &Some(BoardSetBound::of(board))),
     }
 }
 
 /// The board of the history that a play on the point would repeat. A play that is known to be legal isn't tried.
-fn repeated(line: &Line, legal: &PointSet, p: Point) -> Option<Board>
+fn repeated_board_unless_legal(line: &Line, legal: &PointSet, p: Point) -> Option<Board>
     requires { AreLegalPlays line.now.frame line.now.state legal.now }
     ensures { MatchOption result (IsBarredBySuperko line.now.frame line.now.state p → ⊥)
-        (λ b. IsBarredBySuperko line.now.frame line.now.state p × (b ≡ board_of_colouring line.now.frame (made line.now.frame line.now.state p))) }
+        (λ b. IsBarredBySuperko line.now.frame line.now.state p × (b ≡ board_of_colouring line.now.frame (colouring_after_play line.now.frame line.now.state p))) }
 {
     if legal.has(p) {
         return None;
@@ -198,9 +198,9 @@ fn add_repeated_board(
     ensures sized { OnOk result (HaveFrameSize line.now.frame needs.old → HaveFrameSize line.now.frame needs.new) }
     ensures more { OnOk result ((c : Colouring) → Contains needs.new (board_of_colouring line.now.frame c)
         ↔ (Contains needs.old (board_of_colouring line.now.frame c)
-        ⊎ (IsBarredBySuperko line.now.frame line.now.state p × (made line.now.frame line.now.state p ≡ c)))) }
+        ⊎ (IsBarredBySuperko line.now.frame line.now.state p × (colouring_after_play line.now.frame line.now.state p ≡ c)))) }
 {
-    match repeated(line, legal, p) {
+    match repeated_board_unless_legal(line, legal, p) {
         Some(board) => needs.add(alloc, &board),
         None => Ok(()),
     }
@@ -211,7 +211,7 @@ fn repeated_boards(alloc: Global, line: &Line, legal: &PointSet) -> Result<Board
     requires { AreLegalPlays line.now.frame line.now.state legal.now }
     ensures sized { IfOk result (λ needs. HaveFrameSize line.now.frame needs) }
     ensures exact { IfOk result (λ needs. (c : Colouring) → Contains needs (board_of_colouring line.now.frame c)
-        ↔ IsRepeated line.now.frame (history line.now.state) [] line.now.state c) }
+        ↔ IsRepeatedByPlay line.now.frame (history line.now.state) [] line.now.state c) }
 {
     let region = &line.frame().region;
     let mut needs = BoardSet::new(alloc);
@@ -233,7 +233,7 @@ fn join_entry(
     footprint: &mut Footprint,
 ) -> Result<(), NoMemory>
     requires depth { depth (strategy_of tree.now) ≤ MOST_DEPTH }
-    requires on_board { IsOnBoard line.old.frame.size turn.now }
+    requires on_board { IsTurnOnBoardOfSize line.old.frame.size turn.now }
     requires in_order { IsInOrder line.old.frame.size (strategy_of tree.now) }
     ensures exact { OnOk result (IsEntryJoined line.old.frame line.old.state turn.now (strategy_of tree.now) footprint.old footprint.new) }
     ensures same { line.new ≡ line.old }
@@ -261,7 +261,7 @@ fn footprint_of_pick(
     line: &mut Line,
 ) -> Result<Footprint, NoMemory>
     requires depth { depth (strategy_of tree.now) ≤ MOST_DEPTH }
-    requires on_board { IsOnBoard line.old.frame.size turn.now }
+    requires on_board { IsTurnOnBoardOfSize line.old.frame.size turn.now }
     requires in_order { IsInOrder line.old.frame.size (strategy_of tree.now) }
     ensures exact { IfOk result (λ x. IsFootprint line.old.frame line.old.state (pick turn.now (strategy_of tree.now)) x) }
     ensures same { line.new ≡ line.old }

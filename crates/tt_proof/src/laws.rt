@@ -1,7 +1,7 @@
 //! Laws of trees and of certificates, over the definitions alone.
 
 ghost use Rattle.tt_proof.specs.OutlineLaws.{OneOutlinePerCertificate, PlainIsSharedCertificate, OneAnswerPerOutline};
-ghost use Rattle.tt_proof.specs.StrategyLaws.{WinningStrategyForces, FittingTreesWin, FootprintsCarryOver, NeedsLosePlayedColouring, OneStrategyPerText, OneStrategyPerCertificate, StrategyOfEquations};
+ghost use Rattle.tt_proof.specs.StrategyLaws.{WinningStrategyForces, FittingTreesWin, FootprintsCarryOverIfUnmet, NeedsLosePlayedColouring, OneStrategyPerTextPrefix, OneStrategyPerCertificate, StrategyOfEquations};
 
 /// A winning tree of depth n makes its side force a win within n turns.
 pub fn winning_strategy_forces()
@@ -16,8 +16,8 @@ pub fn fitting_trees_win()
 /// A footprint may be taken to another history without a walk through its tree: where the tree fits, and the history has no
 /// colouring that a turn makes which the tree answers, the tree needs and avoids there what it did. What both histories have
 /// needs no look: a board that is in the tree's own history is made by no such turn.
-pub fn footprints_carry_over()
-    ensures { FootprintsCarryOver }
+pub fn footprints_carry_over_if_unmet()
+    ensures { FootprintsCarryOverIfUnmet }
 {}
 
 /// What a tree needs is joined from what its children need: the child of a play needs in the history from before the play
@@ -27,8 +27,8 @@ pub fn needs_lose_played_colouring()
 {}
 
 /// A text is of one tree, and no tree's text goes on to be another's.
-pub fn one_strategy_per_text()
-    ensures { OneStrategyPerText }
+pub fn one_strategy_per_text_prefix()
+    ensures { OneStrategyPerTextPrefix }
 {}
 
 /// Bytes are the certificate of one side and one tree at the most.

@@ -1,8 +1,8 @@
 //! Strategy trees, their exact replay, proofs that win with their footprints, and certificates. Their tests stand in `tt_tests`: `proof_tests`.
 #![tactic(auto)]
 
-mod board_bounds;
 mod board_set;
+mod board_set_bounds;
 mod certificate_read;
 mod certificate_write;
 mod footprints;
@@ -19,8 +19,8 @@ mod replays;
 mod tree;
 mod tree_builders;
 
-pub use board_bounds::{BoardBound, is_within};
 pub use board_set::BoardSet;
+pub use board_set_bounds::{BoardSetBound, is_board_within};
 pub use certificate_read::{CertFault, read_cert};
 pub use certificate_write::{put_readable_turn, put_turn, write_cert};
 pub use footprints::{Footprint, footprint_of};

@@ -5,7 +5,7 @@ ghost use Rattle.tt_sgf.specs.declared.size.TheConstants.{MOST_POINTS};
 ghost use Rattle.tt_proof.specs.CertificateText.{pick_symbol, replies_symbol, side_prefix};
 ghost use Rattle.tt_proof.specs.declared.tree.TheConstants.{MOST_DEPTH};
 ghost use Rattle.tt_proof.specs.Strategy.{depth};
-ghost use Rattle.tt_proof.specs.Outlines.{IsSharedCertificate, outline_of, unfolded, branches_of_reply, name_symbol, name_text, part_symbol};
+ghost use Rattle.tt_proof.specs.Outlines.{IsSharedCertificate, outline_of, unfolded, branches_of_reply, naming_symbol, naming_text, part_symbol};
 ghost use Rattle.tt_proof.specs.CertificateFaults.{IsSharedCertFault};
 ghost use Rattle.tt_proof.specs.inside.OutlineReading.{HasNoDigitInFront, DigitsAt, ReadsOutline, ReadsBranches, OutlineFaultAt, BranchesFaultAt, with_depth};
 
@@ -137,8 +137,8 @@ fn read_named_outline<'a>(
     depths: &mut Vec<u16>,
 ) -> Result<(Outline, u16, &'a [u8]), CertFault>
     ensures { MatchResult result
-        (λ r. ReadsOutline size left depths.old.items depths.new.items (outline_of r.0) r.1 (name_symbol ∷ bytes.now) r.2.now)
-        (λ e. OutlineFaultAt size left depths.old.items (name_symbol ∷ bytes.now) e) }
+        (λ r. ReadsOutline size left depths.old.items depths.new.items (outline_of r.0) r.1 (naming_symbol ∷ bytes.now) r.2.now)
+        (λ e. OutlineFaultAt size left depths.old.items (naming_symbol ∷ bytes.now) e) }
 {
     match bytes.split_first() {
         None => Err(CertFault::Syntax),
@@ -164,8 +164,8 @@ fn read_pick<'a>(
     depths: &mut Vec<u16>,
 ) -> Result<(Outline, u16, &'a [u8]), CertFault>
     ensures { MatchResult result
-        (λ r. ReadsOutline size left depths.old.items depths.new.items (outline_of r.0) r.1 (name_text named ++ (pick_symbol ∷ bytes.now)) r.2.now)
-        (λ e. OutlineFaultAt size left depths.old.items (name_text named ++ (pick_symbol ∷ bytes.now)) e) }
+        (λ r. ReadsOutline size left depths.old.items depths.new.items (outline_of r.0) r.1 (naming_text named ++ (pick_symbol ∷ bytes.now)) r.2.now)
+        (λ e. OutlineFaultAt size left depths.old.items (naming_text named ++ (pick_symbol ∷ bytes.now)) e) }
 {
     match read_turn(bytes, size) {
         None => Err(CertFault::Syntax),
@@ -197,8 +197,8 @@ fn read_reply<'a>(
     depths: &mut Vec<u16>,
 ) -> Result<(Outline, u16, &'a [u8]), CertFault>
     ensures { MatchResult result
-        (λ r. ReadsOutline size left depths.old.items depths.new.items (outline_of r.0) r.1 (name_text named ++ (replies_symbol ∷ bytes.now)) r.2.now)
-        (λ e. OutlineFaultAt size left depths.old.items (name_text named ++ (replies_symbol ∷ bytes.now)) e) }
+        (λ r. ReadsOutline size left depths.old.items depths.new.items (outline_of r.0) r.1 (naming_text named ++ (replies_symbol ∷ bytes.now)) r.2.now)
+        (λ e. OutlineFaultAt size left depths.old.items (naming_text named ++ (replies_symbol ∷ bytes.now)) e) }
 {
     match read_branches(alloc, bytes, size, left, depths) {
         Err(fault) => Err(fault),
@@ -286,7 +286,7 @@ fn read_shared_cert_for_side(
 }
 
 /// The side and the outline that the bytes are the certificate of, on a board of this size. Its tree is at most so deep.
-pub(crate) fn read_shared_cert_within(
+pub(crate) fn read_shared_cert_to_depth(
     alloc: Global,
     bytes: &[u8],
     size: Size,
@@ -330,5 +330,5 @@ pub fn read_shared_cert(
         (λ r. IsSharedCertificate size bytes.now r.0 (outline_of r.1))
         (λ e. IsSharedCertFault size MOST_DEPTH bytes.now e) }
 {
-    read_shared_cert_within(alloc, bytes, size, MOST_DEPTH)
+    read_shared_cert_to_depth(alloc, bytes, size, MOST_DEPTH)
 }

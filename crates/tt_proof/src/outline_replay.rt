@@ -3,11 +3,11 @@
 ghost use Rattle.std.specs.Prelude.{◌≡◌, ◌↔◌, [], None, IfOk, OnOk, IfSome, IsTrue};
 ghost use Rattle.tt_game.specs.Game.{IsLegal};
 ghost use Rattle.tt_proof.specs.KeptFootprints.{IsBoardAfter};
-ghost use Rattle.tt_proof.specs.Strategy.{IsOnBoard};
-ghost use Rattle.tt_proof.specs.Outlines.{outline_of, branches_of_reply, unfolded, IsOrderly, AreOrderly};
+ghost use Rattle.tt_proof.specs.Strategy.{IsTurnOnBoardOfSize};
+ghost use Rattle.tt_proof.specs.Outlines.{outline_of, branches_of_reply, unfolded, IsOutlineInOrder, AreBranchesInOrder};
 ghost use Rattle.tt_proof.specs.Wins.{Wins};
-ghost use Rattle.tt_proof.specs.SharedParts.{CombinesTo, IsResultBeforeTurn, RestsBeforePick, RestsBeforeReply, IsResultOfDone, IsResultOfPart, IsResultOfReply, HasBranch};
-ghost use Rattle.tt_proof.specs.SharedParts.{FindsOutline, kept_footprint, with_named_footprint, with_unreached_names, with_unreached_branch_names, wins_if_fit, IsOutlineAnswer};
+ghost use Rattle.tt_proof.specs.SharedParts.{CombinesTo, IsResultBeforeTurn, RestsBeforePick, RestsBeforeOpposingTurn, IsResultOfDone, IsResultOfPart, IsResultOfReply, HasBranch};
+ghost use Rattle.tt_proof.specs.SharedParts.{IsReplayOfOutline, kept_footprint, with_named_footprint, with_unreached_names, with_unreached_branch_names, wins_if_fit, IsOutlineAnswer};
 ghost use Rattle.tt_proof.specs.inside.OutlineReplaying.{FindsPick, FindsReply, FindsBranch, FindsTogether};
 
 use crate::outlines::Outline;
@@ -49,7 +49,7 @@ fn combine_results(first: ReplayResult, second: ReplayResult) -> Result<ReplayRe
 }
 
 /// What is found on the pick of a legal turn, which leads to the board, by what is found behind it.
-fn result_before_pick(
+fn result_of_pick(
     alloc: Global,
     line: &Line,
     turn: &Turn,
@@ -70,9 +70,9 @@ fn result_before_pick(
 }
 
 /// What is found on the branch of a legal turn, which leads to the board, by what is found behind it.
-fn result_before_reply(line: &Line, turn: &Turn, board: &Board, found: ReplayResult) -> ReplayResult
+fn result_of_branch(line: &Line, turn: &Turn, board: &Board, found: ReplayResult) -> ReplayResult
     requires { IsBoardAfter line.now.frame line.now.state turn.now board.now }
-    ensures { IsResultBeforeTurn (RestsBeforeReply line.now.frame line.now.state turn.now) found result }
+    ensures { IsResultBeforeTurn (RestsBeforeOpposingTurn line.now.frame line.now.state turn.now) found result }
 {
     match found {
         ReplayResult::Won(basis) => ReplayResult::Won(basis.before_opposing_turn(
@@ -243,8 +243,8 @@ fn replay_branch(
     line: &mut Line,
     names: &mut Vec<Option<PositionFootprint>>,
 ) -> Result<ReplayResult, NoMemory>
-    requires on_board { IsOnBoard line.old.frame.size turn }
-    requires orderly { IsOrderly line.old.frame.size (outline_of child.now) }
+    requires on_board { IsTurnOnBoardOfSize line.old.frame.size turn }
+    requires orderly { IsOutlineInOrder line.old.frame.size (outline_of child.now) }
     ensures found { IfOk result (λ r. FindsBranch s line.old.frame names.old.items turn (outline_of child.now) line.old.state r names.new.items) }
     ensures same { line.new ≡ line.old }
 {
@@ -254,7 +254,7 @@ fn replay_branch(
             let found = replay_outline(alloc, child, s, line, names);
             line.pop();
             match found {
-                Ok(behind) => Ok(result_before_reply(line, &turn, &board, behind)),
+                Ok(behind) => Ok(result_of_branch(line, &turn, &board, behind)),
                 Err(e) => Err(e),
             }
         }
@@ -275,7 +275,7 @@ fn replay_branches(
     line: &mut Line,
     names: &mut Vec<Option<PositionFootprint>>,
 ) -> Result<ReplayResult, NoMemory>
-    requires orderly { AreOrderly line.old.frame.size 0 (branches_of_reply list.now) }
+    requires orderly { AreBranchesInOrder line.old.frame.size 0 (branches_of_reply list.now) }
     ensures found { IfOk result (λ r. FindsTogether s line.old.frame names.old.items (branches_of_reply list.now) line.old.state r names.new.items) }
     ensures same { line.new ≡ line.old }
 {
@@ -296,7 +296,7 @@ fn replay_reply(
     line: &mut Line,
     names: &mut Vec<Option<PositionFootprint>>,
 ) -> Result<ReplayResult, NoMemory>
-    requires orderly { AreOrderly line.old.frame.size 0 (branches_of_reply list.now) }
+    requires orderly { AreBranchesInOrder line.old.frame.size 0 (branches_of_reply list.now) }
     ensures found { IfOk result (λ r. FindsReply s line.old.frame names.old.items (branches_of_reply list.now) line.old.state r names.new.items) }
     ensures same { line.new ≡ line.old }
 {
@@ -319,8 +319,8 @@ fn replay_pick(
     line: &mut Line,
     names: &mut Vec<Option<PositionFootprint>>,
 ) -> Result<ReplayResult, NoMemory>
-    requires on_board { IsOnBoard line.old.frame.size turn }
-    requires orderly { IsOrderly line.old.frame.size (outline_of child.now) }
+    requires on_board { IsTurnOnBoardOfSize line.old.frame.size turn }
+    requires orderly { IsOutlineInOrder line.old.frame.size (outline_of child.now) }
     ensures found { IfOk result (λ r. FindsPick s line.old.frame names.old.items turn (outline_of child.now) line.old.state r names.new.items) }
     ensures same { line.new ≡ line.old }
 {
@@ -334,7 +334,7 @@ fn replay_pick(
             let found = replay_outline(alloc, child, s, line, names);
             line.pop();
             match found {
-                Ok(behind) => result_before_pick(alloc, line, &turn, &board, behind),
+                Ok(behind) => result_of_pick(alloc, line, &turn, &board, behind),
                 Err(e) => Err(e),
             }
         }
@@ -355,8 +355,8 @@ fn replay_outline(
     line: &mut Line,
     names: &mut Vec<Option<PositionFootprint>>,
 ) -> Result<ReplayResult, NoMemory>
-    requires orderly { IsOrderly line.old.frame.size (outline_of o.now) }
-    ensures found { IfOk result (λ r. FindsOutline s line.old.frame names.old.items (outline_of o.now) line.old.state r names.new.items) }
+    requires orderly { IsOutlineInOrder line.old.frame.size (outline_of o.now) }
+    ensures found { IfOk result (λ r. IsReplayOfOutline s line.old.frame names.old.items (outline_of o.now) line.old.state r names.new.items) }
     ensures same { line.new ≡ line.old }
 {
     match o {
@@ -398,7 +398,7 @@ pub fn replay_shared_cert(
     s: Side,
     line: &mut Line,
 ) -> Result<Option<bool>, NoMemory>
-    requires { IsOrderly line.old.frame.size (outline_of o.now) }
+    requires { IsOutlineInOrder line.old.frame.size (outline_of o.now) }
     ensures parts { IfOk result (IsOutlineAnswer s line.old.frame (outline_of o.now) line.old.state) }
     ensures exact { IfOk result (λ answer. IfSome answer (λ wins. IsTrue wins ↔ Wins s line.old.frame (unfolded [] (outline_of o.now)) line.old.state)) }
     ensures same { line.new ≡ line.old }

@@ -10,7 +10,7 @@ pub(crate) mod draft;
 pub(crate) mod kept_trees;
 
 use crate::certificate_read::CertFault;
-use crate::outline_read::read_shared_cert_within;
+use crate::outline_read::read_shared_cert_to_depth;
 use crate::outline_replay::replay_shared_cert;
 use crate::outline_write::draft::Draft;
 use crate::tree::Tree;
@@ -32,7 +32,7 @@ fn is_winning_cert(
     ensures { IfOk result (λ b. b ≡ true → IsWinningSharedCertificate line.old.frame line.old.state s first most_depth bytes.now) }
 {
     let size = line.frame().size;
-    match read_shared_cert_within(alloc, bytes, size, most_depth) {
+    match read_shared_cert_to_depth(alloc, bytes, size, most_depth) {
         Ok((side, outline)) => {
             if side != s || outline.first() != first {
                 return Ok(false);

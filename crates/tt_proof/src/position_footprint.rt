@@ -2,7 +2,7 @@
 
 ghost use Rattle.std.specs.Prelude.{◌≡◌, ◌↔◌, IfOk, IsTrue};
 ghost use Rattle.tt_proof.specs.KeptFootprints.{IsBoardAfter};
-ghost use Rattle.tt_proof.specs.SharedParts.{FootprintFits, RestsOnPosition, RestsOnRepeats, RestsBeforePick, RestsBeforeReply, RestsOnBoth};
+ghost use Rattle.tt_proof.specs.SharedParts.{FootprintFits, RestsOnPositionAlone, RestsOnRepeats, RestsBeforePick, RestsBeforeOpposingTurn, RestsOnBoth};
 
 use crate::board_set::BoardSet;
 use crate::footprints::{Footprint, add_made_board, remove_made_board};
@@ -24,7 +24,7 @@ pub(crate) struct PositionFootprint {
 impl PositionFootprint {
     /// The line's position with any history.
     pub(crate) fn of(alloc: Global, line: &Line) -> PositionFootprint
-        ensures { RestsOnPosition line.now.frame line.now.state result }
+        ensures { RestsOnPositionAlone line.now.frame line.now.state result }
     {
         PositionFootprint {
             board: line.present().copy(),
@@ -90,7 +90,7 @@ impl PositionFootprint {
         board: &Board,
     ) -> PositionFootprint
         requires { IsBoardAfter line.now.frame line.now.state turn.now board.now }
-        ensures { RestsBeforeReply line.now.frame line.now.state turn.now self result }
+        ensures { RestsBeforeOpposingTurn line.now.frame line.now.state turn.now self result }
     {
         let PositionFootprint {
             board: _,

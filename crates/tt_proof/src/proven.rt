@@ -9,13 +9,13 @@ ghost use Rattle.tt_game.specs.declared.turns.Turn.{Turn};
 ghost use Rattle.tt_proof.specs.declared.tree.TheConstants.{MOST_DEPTH};
 ghost use Rattle.tt_proof.specs.Strategy.{pick, reply, done, depth, strategy_of, IsInOrder, entries_of};
 ghost use Rattle.tt_proof.specs.Nodes.{nodes};
-ghost use Rattle.tt_proof.specs.BoardBounds.{IsWithin};
-ghost use Rattle.tt_proof.specs.ProofClaim.{IsWinningTree, StandsAt, IsChild, AreChildren, turns_of, trees_by_turn, first_turn_of};
+ghost use Rattle.tt_proof.specs.BoardSetBounds.{MayContainBoard};
+ghost use Rattle.tt_proof.specs.ProofClaim.{IsWinningTree, StandsAt, IsChild, AreReplyChildren, turns_of, trees_by_turn, first_turn_of};
 ghost use Rattle.tt_proof.specs.Footprints.{FitsAt};
 ghost use Rattle.tt_proof.specs.KeptFootprints.{IsFootprint};
 ghost use Rattle.tt_proof.specs.Rejections.{IsRejected};
 
-use crate::board_bounds::{BoardBound, is_within};
+use crate::board_set_bounds::{BoardSetBound, is_board_within};
 use crate::footprints::{Footprint, footprint_of};
 use crate::measured_tree::{MeasuredTree, ReplyBuilder};
 use crate::replays::replay;
@@ -213,9 +213,9 @@ impl Proof {
         if self.stands_at(line) {
             return Some(own);
         }
-        let behind = &line.history()[self.snapshot.common_beginning_length(line)..];
+        let behind = &line.history()[self.snapshot.known_common_history_length(line)..];
         let earlier = &behind[..behind.len().saturating_sub(1)];
-        if self.fits(line) && are_outside_or_made(&own.met, &self.snapshot, earlier) {
+        if self.fits(line) && are_outside_or_in_snapshot(&own.met, &self.snapshot, earlier) {
             return Some(own);
         }
         None
@@ -310,7 +310,7 @@ impl Proof {
     ) -> Result<Proof, NoMemory>
         requires nobody { winner_of line.now.frame line.now.state ≡ None }
         requires turns { turns_of children.items ≡ legal_turns line.now.frame line.now.state }
-        requires children { AreChildren line.now.frame line.now.state children.items }
+        requires children { AreReplyChildren line.now.frame line.now.state children.items }
         ensures { IfOk result (λ p. StandsAt p line.now.frame line.now.state × (p.side ≡ opponent line.now.state.to_move)
             × (p.tree ≡ reply (entries_of (trees_by_turn children.items)))) }
     {
@@ -355,21 +355,29 @@ impl Proof {
 }
 
 /// Whether the board lies outside the bound, or was made where the snapshot is.
-fn is_outside_or_made(bound: &Option<BoardBound>, snapshot: &Snapshot, board: &Board) -> bool
-    ensures { IsTrue result → IsWithin bound.now board.now → Contains (history snapshot.now.state) board.now.points }
+fn is_outside_or_in_snapshot(
+    bound: &Option<BoardSetBound>,
+    snapshot: &Snapshot,
+    board: &Board,
+) -> bool
+    ensures { IsTrue result → MayContainBoard bound.now board.now → Contains (history snapshot.now.state) board.now.points }
 {
-    if is_within(bound, board) {
+    if is_board_within(bound, board) {
         return snapshot.has_later_board(board);
     }
     true
 }
 
 /// Whether each of the boards lies outside the bound, or was made where the snapshot is.
-fn are_outside_or_made(bound: &Option<BoardBound>, snapshot: &Snapshot, boards: &[Board]) -> bool
-    ensures { IsTrue result → All (λ b. IsWithin bound.now b → Contains (history snapshot.now.state) b.points) boards.now }
+fn are_outside_or_in_snapshot(
+    bound: &Option<BoardSetBound>,
+    snapshot: &Snapshot,
+    boards: &[Board],
+) -> bool
+    ensures { IsTrue result → All (λ b. MayContainBoard bound.now b → Contains (history snapshot.now.state) b.points) boards.now }
 {
     for board in boards {
-        if !is_outside_or_made(bound, snapshot, board) {
+        if !is_outside_or_in_snapshot(bound, snapshot, board) {
             return false;
         }
     }

@@ -2,7 +2,7 @@
 
 ghost use Rattle.std.specs.Prelude.{◌≡◌, ◌↔◌, ℕ, ◌<◌, ◌≤◌, IfOk, IsTrue, None, length};
 ghost use Rattle.tt_proof.specs.declared.tree.TheConstants.{MOST_DEPTH};
-ghost use Rattle.tt_proof.specs.Strategy.{done, pick, reply, depth, depth_of_entries, strategy_of, entries_of_reply, IsInOrder, AreInOrder, IsOnBoard};
+ghost use Rattle.tt_proof.specs.Strategy.{done, pick, reply, depth, depth_of_entries, strategy_of, entries_of_reply, IsInOrder, AreInOrder, IsTurnOnBoardOfSize};
 ghost use Rattle.tt_proof.specs.Wins.{Wins};
 ghost use Rattle.tt_proof.specs.inside.Replaying.{HasEntry, LegalWin, AnswersAfter, AnswersEach};
 ghost use Rattle.tt_game.specs.declared.turns.Turn.{Turn};
@@ -72,7 +72,7 @@ pub(crate) fn awaits_other_side(s: Side, line: &Line) -> bool
 }
 
 /// Whether the other side is to move and the list has an entry for each of its turns.
-fn answers_each_turn(list: &[(Turn, Tree)], s: Side, line: &Line) -> bool
+fn awaits_and_answers_each_turn(list: &[(Turn, Tree)], s: Side, line: &Line) -> bool
     ensures { IsTrue result ↔ AnswersEach s line.now.frame line.now.state (entries_of_reply list.now) }
 {
     awaits_other_side(s, line) && has_turn(list, Turn::Pass) && plays_are_answered(list, line)
@@ -87,7 +87,7 @@ fn replay_after(
     line: &mut Line,
 ) -> Result<Option<bool>, NoMemory>
     requires depth { depth (strategy_of child.now) ≤ MOST_DEPTH }
-    requires on_board { IsOnBoard line.old.frame.size turn }
+    requires on_board { IsTurnOnBoardOfSize line.old.frame.size turn }
     requires in_order { IsInOrder line.old.frame.size (strategy_of child.now) }
     ensures exact { IfOk result (λ answer. AnswersAfter s line.old.frame line.old.state turn (strategy_of child.now) answer) }
     ensures same { line.new ≡ line.old }
@@ -125,7 +125,7 @@ fn replay_entries(list: &[(Turn, Tree)], s: Side, line: &mut Line) -> Result<boo
 #[cycle(replay)]
 fn replay_pick(turn: Turn, child: &Tree, s: Side, line: &mut Line) -> Result<bool, NoMemory>
     requires depth { depth (strategy_of child.now) ≤ MOST_DEPTH }
-    requires on_board { IsOnBoard line.old.frame.size turn }
+    requires on_board { IsTurnOnBoardOfSize line.old.frame.size turn }
     requires in_order { IsInOrder line.old.frame.size (strategy_of child.now) }
     ensures exact { IfOk result (λ wins. IsTrue wins ↔ Wins s line.old.frame (pick turn (strategy_of child.now)) line.old.state) }
     ensures same { line.new ≡ line.old }
@@ -147,7 +147,7 @@ fn replay_reply(list: &[(Turn, Tree)], s: Side, line: &mut Line) -> Result<bool,
     ensures exact { IfOk result (λ wins. IsTrue wins ↔ Wins s line.old.frame (reply (entries_of_reply list.now)) line.old.state) }
     ensures same { line.new ≡ line.old }
 {
-    if !answers_each_turn(list, s, line) {
+    if !awaits_and_answers_each_turn(list, s, line) {
         return Ok(false);
     }
     replay_entries(list, s, line)

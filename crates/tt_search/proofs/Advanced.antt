@@ -6,12 +6,12 @@ use Rattle.tt_game.specs.Line.{LineWithUndo}
 use Rattle.tt_search.specs.PartialTree.{PartialTree}
 use Rattle.tt_search.specs.Numbers.{count, IsUndecided}
 use Rattle.tt_search.specs.MostProving.{most_proving_depth}
-use Rattle.tt_search.specs.Growing.{IsExpansion, IsClosing, IsGrowthStep, IsGrownBy, IsGrownFrom}
+use Rattle.tt_search.specs.Growing.{IsExpansion, IsClosing, IsGrowthStep, IsGrownInSteps, IsGrownFrom}
 use Rattle.tt_search.specs.inside.Walking.{Stand, Stage, stage, stand}
 use Rattle.tt_search.specs.inside.Taken.{Taken, IsLeft}
 use Rattle.tt_search.specs.inside.Steady.{IsGrowth, Steady, AreStepsAt}
 use Rattle.tt_search.specs.inside.Searching.{IsSearch}
-use Rattle.tt_search.specs.SearchState.{SearchState, IsSameProblem, IsStuckFor, IsStepOf}
+use Rattle.tt_search.specs.SearchState.{SearchState, HasSameLineAndLimits, IsStuckFor, IsStepOf}
 use Rattle.tt_search.specs.RunEnds.{HasRunTo}
 use Rattle.tt_search.specs.inside.Advanced.{IsAdvanced}
 use Rattle.tt_search.specs.declared.limits.Limits.{Limits}
@@ -62,7 +62,7 @@ module _ (at : Stand) (limits : Limits) where
   grows_with old new h u (inr g) = (u, inr (subst (λ r. IsClosing r at.frame at.state old.tree new.tree) h.room g.1))
 
   -- growths that keep the numbers are growths within the limits
-  pub grown_steady : (n : ℕ) (old new : Stage) → IsSearch at limits old → IsUndecided old.tree → Steady n at old new → IsGrownBy n limits at.frame at.state old.tree new.tree
+  pub grown_steady : (n : ℕ) (old new : Stage) → IsSearch at limits old → IsUndecided old.tree → Steady n at old new → IsGrownInSteps n limits at.frame at.state old.tree new.tree
   grown_steady zero old new h u e = ap (λ (x : Stage). x.tree) e
   grown_steady (suc n) old new h u (before, k, g, same) = (
     before.tree,
@@ -110,7 +110,7 @@ advanced_settled stop old h = record { before = old; reached = reached_itself ol
 -- ---- runs
 
 -- growths may go on where others ended
-grown_joined : (n : ℕ) (limits : Limits) (f : Frame) (s : State) (a b c : PartialTree) → IsGrownFrom limits f s a b → IsGrownBy n limits f s b c → IsGrownFrom limits f s a c
+grown_joined : (n : ℕ) (limits : Limits) (f : Frame) (s : State) (a b c : PartialTree) → IsGrownFrom limits f s a b → IsGrownInSteps n limits f s b c → IsGrownFrom limits f s a c
 grown_joined zero limits f s a b c h e = subst (IsGrownFrom limits f s a) (sym e) h
 grown_joined (suc n) limits f s a b c h (before, k, g) =
     let joined = grown_joined n limits f s a b before h k in
@@ -132,7 +132,7 @@ grows_falls limits f s old new (u, inl g) = falls_expanded limits.depth limits.b
 grows_falls limits f s old new (u, inr g) = falls_closed limits.depth limits.budget f s old new u g
 
 -- growths together leave no more to do
-grown_falls : (n : ℕ) (limits : Limits) (f : Frame) (s : State) (old new : PartialTree) → IsGrownBy n limits f s old new
+grown_falls : (n : ℕ) (limits : Limits) (f : Frame) (s : State) (old new : PartialTree) → IsGrownInSteps n limits f s old new
     → open_leaves new + (limits.budget - count new) * 363 ≤ open_leaves old + (limits.budget - count old) * 363
 grown_falls zero limits f s old new e = omega (arith, ap open_leaves e, ap count e)
 grown_falls (suc n) limits f s old new (before, k, g) = omega (arith, grown_falls n limits f s old before k, grows_falls limits f s before new g)
@@ -143,17 +143,17 @@ reached_falls old new h = subst (λ l. open_leaves new.tree + (l.budget - count 
     (grown_falls h.grown.0 old.limits old.line.frame old.line.state old.tree new.tree h.grown.1)
 
 -- two searches on the problem of one search are on the same problem
-since_before : (old before new : SearchState) → IsSameProblem old before → IsSameProblem old new → IsSameProblem before new
+since_before : (old before new : SearchState) → HasSameLineAndLimits old before → HasSameLineAndLimits old new → HasSameLineAndLimits before new
 since_before old before new h k = record { line = k.line ∙ sym h.line; limits = k.limits ∙ sym h.limits }
 
 -- steps whose last one expands or closes leave less to do
-pub advanced_falls : (stop : StopAfter) (old new : SearchState) (step : Step) → IsAdvanced stop old step new → IsSameProblem old new → (step ≡ Expanded) ⊎ (step ≡ Closed)
+pub advanced_falls : (stop : StopAfter) (old new : SearchState) (step : Step) → IsAdvanced stop old step new → HasSameLineAndLimits old new → (step ≡ Expanded) ⊎ (step ≡ Closed)
     → left_to_do new < left_to_do old
 advanced_falls stop old new step h same changed =
     omega (arith, reached_falls old h.before h.reached, falls h.before new step h.taken (since_before old h.before new h.reached.problem same) changed)
 
 -- from a search that is reached, steps whose last one expands or closes lead to one that is reached
-pub advanced_reached : (stop : StopAfter) (start old new : SearchState) (step : Step) → HasRunTo start old → IsAdvanced stop old step new → IsSameProblem old new → (step ≡ Expanded)
+pub advanced_reached : (stop : StopAfter) (start old new : SearchState) (step : Step) → HasRunTo start old → IsAdvanced stop old step new → HasSameLineAndLimits old new → (step ≡ Expanded)
     ⊎ (step ≡ Closed) → HasRunTo start new
 advanced_reached stop start old new step r h same changed =
     reached_more start h.before new step (reached_joined start old h.before r h.reached) (since_before old h.before new h.reached.problem same) h.taken changed

@@ -6,7 +6,7 @@ use Rattle.tt_search.specs.PartialTree.{PartialTree}
 use Rattle.tt_search.specs.inside.Walking.{Stand, Stage}
 use Rattle.tt_search.specs.inside.Taken.{Taken, IsLeft}
 use Rattle.tt_search.specs.SearchState.{SearchState}
-use Rattle.tt_search.specs.RunEnds.{HasSpent, IsSpentBy}
+use Rattle.tt_search.specs.RunEnds.{HasGrantPerExpansion, IsTallyAfterRun}
 use Rattle.tt_search.specs.declared.search.End.TheVariants as end
 use Rattle.tt_search.specs.declared.limits.Reason.{Reason}
 use Rattle.tt_search.specs.declared.limits.Reason.TheVariants.{Budget, Depth, Total, Memory}
@@ -63,8 +63,8 @@ pub settled_refused : (stop : StopAfter) (old new : GrantTally) → AreAsked sto
 settled_refused stop old new h = ap (λ (a : GrantTally). a.refused) h.asked ∙ h.granted
 
 -- what a run spent that ends stuck
-pub spent_stuck : (stop : StopAfter) (start search : SearchState) (first old new : GrantTally) (reason : Reason) → HasSpent start first search new → old.refused ≡ first.refused
-    → AreAsked stop old (Stuck reason) new → IsSpentBy start first (end.Stuck reason (Some search)) new
+pub spent_stuck : (stop : StopAfter) (start search : SearchState) (first old new : GrantTally) (reason : Reason) → HasGrantPerExpansion start first search new → old.refused ≡ first.refused
+    → AreAsked stop old (Stuck reason) new → IsTallyAfterRun start first (end.Stuck reason (Some search)) new
 spent_stuck stop start search first old new Budget spent same h = (spent, ap (λ (a : GrantTally). a.refused) h.asked ∙ h.granted ∙ same)
 spent_stuck stop start search first old new Depth spent same h = (spent, ap (λ (a : GrantTally). a.refused) h.asked ∙ h.granted ∙ same)
 spent_stuck stop start search first old new Total spent same h = (spent, ap (λ (a : GrantTally). a.refused) h.asked)

@@ -6,7 +6,7 @@ use Rattle.tt_game.specs.declared.frame.Side.TheVariants.{Attacker, Defender}
 use Rattle.tt_game.specs.declared.turns.Turn.{Turn}
 use Rattle.tt_game.specs.Game.{opponent}
 use Rattle.tt_search.specs.PartialTree.{PartialTree, fresh, won, closed, expanded, Children, no_more, more}
-use Rattle.tt_search.specs.Numbers.{infinite, least, capped_sum, decided_number, number, numbers, IsUndecided}
+use Rattle.tt_search.specs.Numbers.{infinite, least, capped_sum, decided_number, number, child_numbers, IsUndecided}
 use Rattle.tt_search.specs.MostProving.{first_index_of, index_of_best}
 use Rattle.tt_search.specs.inside.Children.{children_of}
 use Rattle.tt_search.proofs.Rows.{least_le, number_le}
@@ -50,9 +50,9 @@ mutual
   dual Defender (expanded Defender turns children) = dual_row Defender children
 
   -- so are the least of one side's numbers of the children and the capped sum of the other side's
-  dual_row : (goal : Side) (children : Children) → AreDual (least (numbers goal children)) (capped_sum (numbers (opponent goal) children))
+  dual_row : (goal : Side) (children : Children) → AreDual (least (child_numbers goal children)) (capped_sum (child_numbers (opponent goal) children))
   dual_row goal no_more = record { zero_infinite = λ e. omega arith; infinite_zero = λ e. refl; from_infinite = λ e. omega arith; from_zero = λ e. refl }
-  dual_row goal (more tree children) = dual_more (number goal tree) (number (opponent goal) tree) (numbers goal children) (numbers (opponent goal) children) (number_le goal tree)
+  dual_row goal (more tree children) = dual_more (number goal tree) (number (opponent goal) tree) (child_numbers goal children) (child_numbers (opponent goal) children) (number_le goal tree)
       (dual goal tree) (dual_row goal children)
 
 -- a least number that is not the first one is the least of the others
@@ -61,28 +61,28 @@ index_least v x xs e h = grind (arith, common_steps)
 
 -- the place of the number is there, and the child there has the number
 abbrev pub IsChildAt : Side → ℕ → List PartialTree → PartialTree → Type 0
-IsChildAt goal v trees d = (first_index_of v (numbers goal (children_of trees)) < length trees) × (number goal (get_or trees (first_index_of v (numbers goal (children_of trees))) d) ≡ v)
+IsChildAt goal v trees d = (first_index_of v (child_numbers goal (children_of trees)) < length trees) × (number goal (get_or trees (first_index_of v (child_numbers goal (children_of trees))) d) ≡ v)
 
 -- the first child with the least number is the first of all, or else it is found among the others
-child_here : (goal : Side) (v : ℕ) (tree : PartialTree) (trees : List PartialTree) (d : PartialTree) → v ≡ least (numbers goal (children_of (tree ∷ trees)))
-    → (v ≡ least (numbers goal (children_of trees)) → IsChildAt goal v trees d) → (b : Bool) → (number goal tree == v) ≡ b → IsChildAt goal v (tree ∷ trees) d
+child_here : (goal : Side) (v : ℕ) (tree : PartialTree) (trees : List PartialTree) (d : PartialTree) → v ≡ least (child_numbers goal (children_of (tree ∷ trees)))
+    → (v ≡ least (child_numbers goal (children_of trees)) → IsChildAt goal v trees d) → (b : Bool) → (number goal tree == v) ≡ b → IsChildAt goal v (tree ∷ trees) d
 child_here goal v tree trees d e below true q = rw q (omega arith, grind (arith, common_steps))
 child_here goal v tree trees d e below false q =
-    let k = below (index_least v (number goal tree) (numbers goal (children_of trees)) e q) in
+    let k = below (index_least v (number goal tree) (child_numbers goal (children_of trees)) e q) in
     rw (q, add-one) (omega (arith, k.0), k.1)
 
 -- where the least number isn't infinite, the child at its place has it
-pub child_at : (goal : Side) (v : ℕ) (trees : List PartialTree) (d : PartialTree) → v ≢ infinite → v ≡ least (numbers goal (children_of trees)) → IsChildAt goal v trees d
+pub child_at : (goal : Side) (v : ℕ) (trees : List PartialTree) (d : PartialTree) → v ≢ infinite → v ≡ least (child_numbers goal (children_of trees)) → IsChildAt goal v trees d
 child_at goal v [] d h e = absurd (h e)
 child_at goal v (tree ∷ trees) d h e = child_here goal v tree trees d e (child_at goal v trees d h) (number goal tree == v) refl
 
 -- an expanded node's number for the side to move is the least of its children's
-pub own_number : (mover : Side) (turns : List Turn) (children : Children) → number mover (expanded mover turns children) ≡ least (numbers mover children)
+pub own_number : (mover : Side) (turns : List Turn) (children : Children) → number mover (expanded mover turns children) ≡ least (child_numbers mover children)
 own_number Attacker turns children = refl
 own_number Defender turns children = refl
 
 -- and its number for the other side is their capped sum
-pub other_number : (mover : Side) (turns : List Turn) (children : Children) → number (opponent mover) (expanded mover turns children) ≡ capped_sum (numbers (opponent mover) children)
+pub other_number : (mover : Side) (turns : List Turn) (children : Children) → number (opponent mover) (expanded mover turns children) ≡ capped_sum (child_numbers (opponent mover) children)
 other_number Attacker turns children = refl
 other_number Defender turns children = refl
 
@@ -100,7 +100,7 @@ undecided_from tree Defender a b = (b, a)
 pub best_child : (mover : Side) (turns : List Turn) (trees : List PartialTree) (d : PartialTree) → IsUndecided (expanded mover turns (children_of trees))
     → (index_of_best mover (children_of trees) < length trees) × IsUndecided (get_or trees (index_of_best mover (children_of trees)) d)
 best_child mover turns trees d u =
-    let v : ℕ = least (numbers mover (children_of trees)) in
+    let v : ℕ = least (child_numbers mover (children_of trees)) in
     let tree : PartialTree = expanded mover turns (children_of trees) in
     let finite : v ≢ infinite = λ e. undecided_number tree u (opponent mover) (other_number mover turns (children_of trees) ∙ (dual_row mover (children_of trees)).infinite_zero e) in
     let positive : v ≢ 0 = λ e. undecided_number tree u mover (own_number mover turns (children_of trees) ∙ e) in

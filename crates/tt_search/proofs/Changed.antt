@@ -5,7 +5,7 @@ use Rattle.std.proofs.lemmas.List.{get_or-set_same}
 use Rattle.tt_game.specs.declared.frame.Side.{Side}
 use Rattle.tt_game.specs.Game.{opponent}
 use Rattle.tt_search.specs.PartialTree.{PartialTree, fresh}
-use Rattle.tt_search.specs.Numbers.{infinite, cap, least, has_infinite, capped_sum, number, numbers}
+use Rattle.tt_search.specs.Numbers.{infinite, cap, least, has_infinite, capped_sum, number, child_numbers}
 use Rattle.tt_search.specs.MostProving.{first_index_of, first_least_index}
 use Rattle.tt_search.specs.inside.Children.{children_of}
 use Rattle.tt_search.specs.inside.Choices.{Choices, node_with, best_index}
@@ -114,19 +114,19 @@ sum_changed m xs i l h =
 -- ---- children
 
 -- the numbers with another tree at a place
-numbers_set : (goal : Side) (trees : List PartialTree) (i : ℕ) (tree : PartialTree) → numbers goal (children_of (set trees i tree)) ≡ set (numbers goal (children_of trees)) i (number goal tree)
+numbers_set : (goal : Side) (trees : List PartialTree) (i : ℕ) (tree : PartialTree) → child_numbers goal (children_of (set trees i tree)) ≡ set (child_numbers goal (children_of trees)) i (number goal tree)
 numbers_set goal [] i tree = refl
 numbers_set goal (t ∷ trees) zero tree = refl
 numbers_set goal (t ∷ trees) (suc i) tree = ap (λ ns. number goal t ∷ ns) (numbers_set goal trees i tree)
 
 -- the number at a place
-number_at : (goal : Side) (trees : List PartialTree) (i : ℕ) (d : PartialTree) → i < length trees → get_or (numbers goal (children_of trees)) i 0 ≡ number goal (get_or trees i d)
+number_at : (goal : Side) (trees : List PartialTree) (i : ℕ) (d : PartialTree) → i < length trees → get_or (child_numbers goal (children_of trees)) i 0 ≡ number goal (get_or trees i d)
 number_at goal [] i d l = absurd (omega arith)
 number_at goal (t ∷ trees) zero d l = refl
 number_at goal (t ∷ trees) (suc i) d l = number_at goal trees i d (omega arith)
 
 -- there are as many numbers as trees
-length-numbers : (goal : Side) (trees : List PartialTree) → length (numbers goal (children_of trees)) ≡ length trees
+length-numbers : (goal : Side) (trees : List PartialTree) → length (child_numbers goal (children_of trees)) ≡ length trees
 length-numbers goal [] = refl
 length-numbers goal (t ∷ trees) = ap suc (length-numbers goal trees)
 
@@ -138,7 +138,7 @@ module _ (mover : Side) (old new : ChildNodes) (p : ℕ) (tree : PartialTree) (i
   trees = edge_trees old.edges old.grown.items
 
   abbrev row : Side → List ℕ
-  row goal = numbers goal (children_of trees)
+  row goal = child_numbers goal (children_of trees)
 
   -- there are as many edges
   edges_stay : length new.edges ≡ length old.edges
@@ -161,8 +161,8 @@ module _ (mover : Side) (old new : ChildNodes) (p : ℕ) (tree : PartialTree) (i
   in_row goal = omega (arith, length-numbers goal trees, there)
 
   -- the numbers have that of the tree at the place
-  row_is : (goal : Side) → numbers goal (children_of (edge_trees new.edges new.grown.items)) ≡ set (row goal) p (number goal tree)
-  row_is goal = ap (λ us. numbers goal (children_of us)) put.trees ∙ numbers_set goal trees p tree
+  row_is : (goal : Side) → child_numbers goal (children_of (edge_trees new.edges new.grown.items)) ≡ set (row goal) p (number goal tree)
+  row_is goal = ap (λ us. child_numbers goal (children_of us)) put.trees ∙ numbers_set goal trees p tree
 
   -- the number at the place was the least
   least_there : get_or (row mover) p 0 ≡ least (row mover)
@@ -173,7 +173,7 @@ module _ (mover : Side) (old new : ChildNodes) (p : ℕ) (tree : PartialTree) (i
     least_set_is : least (set (row mover) p (number mover tree)) ≡ number mover tree
     least_set_is = least_set (number mover tree) (row mover) p (in_row mover) (omega (arith, least_there)) no_more
 
-    pub least_stays : number mover tree ≡ least (numbers mover (children_of (edge_trees new.edges new.grown.items)))
+    pub least_stays : number mover tree ≡ least (child_numbers mover (children_of (edge_trees new.edges new.grown.items)))
     least_stays = sym (ap least (row_is mover) ∙ least_set_is)
 
     -- and the place is that of the best child
@@ -185,7 +185,7 @@ module _ (mover : Side) (old new : ChildNodes) (p : ℕ) (tree : PartialTree) (i
   -- where the sum was below the cap, the change gives the new sum
   pub sum_here : capped_sum (row (opponent mover)) < cap
       → IsChange (capped_sum (row (opponent mover))) (number (opponent mover) (child_of old p)) (number (opponent mover) tree)
-      (capped_sum (numbers (opponent mover) (children_of (edge_trees new.edges new.grown.items))))
+      (capped_sum (child_numbers (opponent mover) (children_of (edge_trees new.edges new.grown.items))))
   sum_here h =
       let goal : Side = opponent mover in
       let k = sum_changed (number goal tree) (row goal) p (in_row goal) h in
@@ -197,10 +197,10 @@ module _ (mover : Side) (old new : ChildNodes) (p : ℕ) (v : Choices) (was : Ph
     (pair : ArePair v.mover (node_with v) was) (is : p ≡ best_index (choices_of mover old))
     (there : best_index v < length v.trees) (tree : PartialTree) (put : IsPut p old tree new) (second : PartialTree) (second_is : second ≡ child_of new p) where
   abbrev before : Side → List ℕ
-  before goal = numbers goal (children_of (edge_trees old.edges old.grown.items))
+  before goal = child_numbers goal (children_of (edge_trees old.edges old.grown.items))
 
   abbrev after : Side → List ℕ
-  after goal = numbers goal (children_of (edge_trees new.edges new.grown.items))
+  after goal = child_numbers goal (children_of (edge_trees new.edges new.grown.items))
 
   -- the place is there
   pub in_trees : p < length (edge_trees old.edges old.grown.items)
@@ -264,6 +264,6 @@ module _ (mover : Side) (old new : ChildNodes) (p : ℕ) (v : Choices) (was : Ph
       )
 
 -- the least and the sum are the node's numbers
-pub pair_of : (c : Choices) (own other : ℕ) → own ≡ least (numbers c.mover (children_of c.trees)) → other ≡ capped_sum (numbers (opponent c.mover) (children_of c.trees))
+pub pair_of : (c : Choices) (own other : ℕ) → own ≡ least (child_numbers c.mover (children_of c.trees)) → other ≡ capped_sum (child_numbers (opponent c.mover) (children_of c.trees))
     → ArePair c.mover (node_with c) (record { own = own; other = other })
 pair_of c own other a b = record { own = a ∙ sym (own_number c.mover c.turns (children_of c.trees)); other = b ∙ sym (other_number c.mover c.turns (children_of c.trees)) }

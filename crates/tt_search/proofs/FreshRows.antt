@@ -4,7 +4,7 @@ use Rattle.std.specs.Prelude.{◌+◌, fold, replicate}
 use Rattle.tt_game.specs.declared.frame.Side.{Side}
 use Rattle.tt_search.specs.PartialTree.{PartialTree}
 use Rattle.tt_search.specs.inside.Children.{children_of}
-use Rattle.tt_search.specs.Numbers.{cap, least, has_infinite, capped_sum, numbers}
+use Rattle.tt_search.specs.Numbers.{cap, least, has_infinite, capped_sum, child_numbers}
 use Rattle.tt_search.specs.MostProving.{first_least_index}
 use Rattle.tt_search.specs.inside.Edges.{edge_state_of, edge_trees, AreFresh}
 use Rattle.tt_search.specs.declared.tree.edges.Edge.{Edge}
@@ -18,7 +18,7 @@ pub fresh_edge_state : (e : Edge) → e.code < 512 → edge_state_of e ≡ Fresh
 fresh_edge_state e h = rw (small_quotient e.code h) refl
 
 -- each has the number 1
-pub ones : (side : Side) (es : List Edge) (grown : List PartialTree) → AreFresh es → numbers side (children_of (edge_trees es grown)) ≡ replicate (length es) 1
+pub ones : (side : Side) (es : List Edge) (grown : List PartialTree) → AreFresh es → child_numbers side (children_of (edge_trees es grown)) ≡ replicate (length es) 1
 ones side [] grown h = refl
 ones side (e ∷ es) grown h = rw (h.0, ones side es grown h.1) refl
 

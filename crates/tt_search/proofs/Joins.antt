@@ -13,7 +13,7 @@ use Rattle.tt_proof.specs.declared.footprints.Footprint.{Footprint}
 use Rattle.tt_proof.specs.Strategy.{Strategy, Entries, reply, entry, entries_of}
 use Rattle.tt_proof.specs.KeptFootprints.{IsFootprint, IsEntryJoined}
 use Rattle.tt_search.specs.PartialTree.{PartialTree, fresh, expanded}
-use Rattle.tt_search.specs.Numbers.{is_same_side, numbers}
+use Rattle.tt_search.specs.Numbers.{is_same_side, child_numbers}
 use Rattle.tt_search.specs.Growing.{ArePartialTrees}
 use Rattle.tt_search.specs.inside.Within.{AllStayWithin}
 use Rattle.tt_search.specs.inside.Children.{children_of}
@@ -97,7 +97,7 @@ module _ (side : Side) (f : Frame) (s : State) where
       let children = children_of (edge_trees es grown) in
       record {
         whole = whole;
-        settled = all_zero side children (zero_sum (numbers side children) (other_zero side mover (edge_turns es) children e h.settled));
+        settled = all_zero side children (zero_sum (child_numbers side children) (other_zero side mover (edge_turns es) children e h.settled));
         legal = subst (EachIsLegal f s) (sym h.partial.2) (legal_turns_are_legal f s);
         partial = h.partial.3;
         stays = h.stays.1;

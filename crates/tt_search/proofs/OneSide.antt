@@ -5,7 +5,7 @@ use Rattle.tt_game.specs.declared.frame.Side.{Side}
 use Rattle.tt_game.specs.declared.frame.Side.TheVariants.{Attacker, Defender}
 use Rattle.tt_proof.specs.ProofClaim.{ProofClaim}
 use Rattle.tt_search.specs.PartialTree.{PartialTree, fresh, won, closed, expanded, Children, no_more, more}
-use Rattle.tt_search.specs.Numbers.{number, numbers}
+use Rattle.tt_search.specs.Numbers.{number, child_numbers}
 use Rattle.tt_search.specs.inside.Children.{children_of}
 use Rattle.tt_search.specs.inside.Edges.{edge_state_of, tree_of, edge_trees, grown_behind}
 use Rattle.tt_search.specs.Settled.{first_settled_index, strategy_for}
@@ -26,9 +26,9 @@ mutual
   never_both (closed Attacker strategy) h k = omega (arith, k)
   never_both (closed Defender strategy) h k = omega (arith, h)
   never_both (expanded Attacker turns children) h k =
-      never_attacked (first_settled_index Attacker children) children (zero_at Attacker children h) (all_zero Defender children (zero_sum (numbers Defender children) k))
+      never_attacked (first_settled_index Attacker children) children (zero_at Attacker children h) (all_zero Defender children (zero_sum (child_numbers Defender children) k))
   never_both (expanded Defender turns children) h k =
-      never_defended (first_settled_index Defender children) children (zero_at Defender children k) (all_zero Attacker children (zero_sum (numbers Attacker children) h))
+      never_defended (first_settled_index Defender children) children (zero_at Defender children k) (all_zero Attacker children (zero_sum (child_numbers Attacker children) h))
 
   -- so no child is settled for the attacker where all are for the defender
   never_attacked : (i : ℕ) (children : Children) → IsZeroAt Attacker i children → AreZero Defender children → ⊥

@@ -10,7 +10,7 @@ use Rattle.tt_search.specs.PartialTree.{PartialTree, fresh, won, closed, expande
 use Rattle.tt_search.specs.Numbers.{count, IsUndecided}
 use Rattle.tt_search.specs.MostProving.{index_of_best, most_proving_state, with_most_proving, with_leaf_below}
 use Rattle.tt_search.specs.Growing.{leaf_with_winner, new_leaves, expansion, IsExpansion, IsClosing, IsGrowthStep, IsGrownFrom}
-use Rattle.tt_search.specs.SearchState.{SearchState, IsStepOf, IsSameProblem}
+use Rattle.tt_search.specs.SearchState.{SearchState, IsStepOf, HasSameLineAndLimits}
 use Rattle.tt_search.specs.RunEnds.{HasRunTo}
 use Rattle.tt_search.specs.declared.limits.Step.{Step}
 use Rattle.tt_search.specs.declared.limits.Step.TheVariants.{Expanded, Closed}
@@ -80,7 +80,7 @@ abbrev pub left_to_do : SearchState → ℕ
 left_to_do search = open_leaves search.tree + (search.limits.budget - count search.tree) * 363
 
 -- a step that expands or closes leaves less to do
-pub falls : (old new : SearchState) (step : Step) → IsStepOf old step new → IsSameProblem old new → (step ≡ Expanded) ⊎ (step ≡ Closed) → left_to_do new < left_to_do old
+pub falls : (old new : SearchState) (step : Step) → IsStepOf old step new → HasSameLineAndLimits old new → (step ≡ Expanded) ⊎ (step ≡ Closed) → left_to_do new < left_to_do old
 falls old new step k same (inl e) =
     let h = subst (λ s. IsStepOf old s new) e k in
     subst (λ l. open_leaves new.tree + (l.budget - count new.tree) * 363 < left_to_do old) (sym same.limits)
@@ -96,7 +96,7 @@ grows_by old new step k (inl e) = let h = subst (λ s. IsStepOf old s new) e k i
 grows_by old new step k (inr e) = let h = subst (λ s. IsStepOf old s new) e k in (h.0, inr h.1)
 
 -- after growths, a step that expands or closes is one more
-pub grows : (start old new : SearchState) (step : Step) → IsSameProblem start old → IsGrownFrom start.limits start.line.frame start.line.state start.tree old.tree → IsStepOf old step new
+pub grows : (start old new : SearchState) (step : Step) → HasSameLineAndLimits start old → IsGrownFrom start.limits start.line.frame start.line.state start.tree old.tree → IsStepOf old step new
     → (step ≡ Expanded) ⊎ (step ≡ Closed) → IsGrownFrom start.limits start.line.frame start.line.state start.tree new.tree
 grows start old new step same g k h = (
   suc g.0,
@@ -109,7 +109,7 @@ grows start old new step same g k h = (
 )
 
 -- what is on the same problem as one on a search's problem is on that search's
-pub same_problem : (a b c : SearchState) → IsSameProblem a b → IsSameProblem b c → IsSameProblem a c
+pub same_problem : (a b c : SearchState) → HasSameLineAndLimits a b → HasSameLineAndLimits b c → HasSameLineAndLimits a c
 same_problem a b c h k = record { line = k.line ∙ h.line; limits = k.limits ∙ h.limits }
 
 -- a search is reached from itself
@@ -117,7 +117,7 @@ pub reached_itself : (start : SearchState) → HasRunTo start start
 reached_itself start = record { problem = record { line = refl; limits = refl }; grown = (0, refl) }
 
 -- from a search that is reached, a step that expands or closes leads to one that is reached
-pub reached_more : (start old new : SearchState) (step : Step) → HasRunTo start old → IsSameProblem old new → IsStepOf old step new → (step ≡ Expanded) ⊎ (step ≡ Closed) → HasRunTo start new
+pub reached_more : (start old new : SearchState) (step : Step) → HasRunTo start old → HasSameLineAndLimits old new → IsStepOf old step new → (step ≡ Expanded) ⊎ (step ≡ Closed) → HasRunTo start new
 reached_more start old new step r same k h = record {
   problem = same_problem start old new r.problem same;
   grown = grows start old new step r.problem r.grown k h;

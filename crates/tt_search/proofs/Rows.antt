@@ -4,7 +4,7 @@ use Rattle.std.proofs.lemmas.Grind.{common_steps}
 use Rattle.tt_game.specs.declared.frame.Side.{Side}
 use Rattle.tt_game.specs.declared.frame.Side.TheVariants.{Attacker, Defender}
 use Rattle.tt_search.specs.PartialTree.{PartialTree, fresh, won, closed, expanded, Children, no_more, more}
-use Rattle.tt_search.specs.Numbers.{infinite, cap, least, has_infinite, capped_sum, decided_number, combined_number, number, numbers, IsCappedOrInfinite}
+use Rattle.tt_search.specs.Numbers.{infinite, cap, least, has_infinite, capped_sum, decided_number, combined_number, number, child_numbers, IsCappedOrInfinite}
 use Rattle.tt_search.specs.MostProving.{first_least_index, index_of_best}
 
 -- the least of numbers is at most infinite
@@ -55,16 +55,16 @@ pub number_le : (goal : Side) (tree : PartialTree) → number goal tree ≤ infi
 number_le goal fresh = omega arith
 number_le goal (won side) = decided_number_le goal side
 number_le goal (closed side tree) = decided_number_le goal side
-number_le goal (expanded mover turns children) = combine_le goal mover (numbers goal children)
+number_le goal (expanded mover turns children) = combine_le goal mover (child_numbers goal children)
 
 -- looked at from the first one on, numbers that begin with one at most infinite give the first least
 best_from_infinite : (x : ℕ) (xs : List ℕ) → x ≤ infinite → best_from 0 infinite 0 (x ∷ xs) ≡ first_least_index (x ∷ xs)
 best_from_infinite x xs h = grind (arith, common_steps, least_le xs)
 
 -- looked at from the first one on, the children's numbers give the best child
-pub best_from_start : (mover : Side) (children : Children) → best_from 0 infinite 0 (numbers mover children) ≡ index_of_best mover children
+pub best_from_start : (mover : Side) (children : Children) → best_from 0 infinite 0 (child_numbers mover children) ≡ index_of_best mover children
 best_from_start mover no_more = refl
-best_from_start mover (more tree children) = best_from_infinite (number mover tree) (numbers mover children) (number_le mover tree)
+best_from_start mover (more tree children) = best_from_infinite (number mover tree) (child_numbers mover children) (number_le mover tree)
 
 -- a decided leaf gives 0 or an infinite number
 decided_capped : (goal side : Side) → IsCappedOrInfinite (decided_number goal side)
@@ -97,9 +97,9 @@ mutual
   number_capped goal fresh = inl (omega arith)
   number_capped goal (won side) = decided_capped goal side
   number_capped goal (closed side tree) = decided_capped goal side
-  number_capped goal (expanded mover turns children) = combined_capped goal mover (numbers goal children) (least_capped goal children)
+  number_capped goal (expanded mover turns children) = combined_capped goal mover (child_numbers goal children) (least_capped goal children)
 
   -- and the least of any children's
-  least_capped : (goal : Side) (children : Children) → IsCappedOrInfinite (least (numbers goal children))
+  least_capped : (goal : Side) (children : Children) → IsCappedOrInfinite (least (child_numbers goal children))
   least_capped goal no_more = inr refl
-  least_capped goal (more tree children) = lesser_capped (number goal tree) (least (numbers goal children)) (number_capped goal tree) (least_capped goal children)
+  least_capped goal (more tree children) = lesser_capped (number goal tree) (least (child_numbers goal children)) (number_capped goal tree) (least_capped goal children)

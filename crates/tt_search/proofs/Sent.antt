@@ -16,7 +16,7 @@ use Rattle.tt_game.proofs.Sent.{line_send, side_send}
 use Rattle.tt_proof.specs.contracts.proven.Proof as Proof
 use Rattle.tt_proof.proofs.Sent.{shared_send}
 use Rattle.tt_search.specs.contracts.tree.children.BestChild as BestChild
-use Rattle.tt_search.specs.contracts.tree.edge_row.Edges as Edges
+use Rattle.tt_search.specs.contracts.tree.edge_storage.Edges as Edges
 use Rattle.tt_search.specs.contracts.limits.Limits as Limits
 use Rattle.tt_search.specs.contracts.tree.untried.UntriedPlays as UntriedPlays
 use Rattle.tt_search.specs.contracts.tree.node.Node as Node
@@ -50,9 +50,9 @@ shared_field : IsSend (as_row (Arc.the_field Proof.the_row Global.the_row ghosts
 shared_field = search (sendable, crosses, shared_send) depth 40
 
 -- what a node has become holds packed children, of an expanded node or of one that has offered its proof
-growth_layer : (expanded offered : RattleType) → IsSend expanded → IsSend offered → IsSend (NodeKnot.layer-Growth expanded offered)
+growth_layer : (expanded offered : RattleType) → IsSend expanded → IsSend offered → IsSend (NodeKnot.layer-NodeState expanded offered)
 growth_layer expanded offered below above =
-    variants_send (NodeKnot.type-Growth expanded offered) (
+    variants_send (NodeKnot.type-NodeState expanded offered) (
       tt,
       (
         (side_send, tt),
@@ -78,7 +78,7 @@ node_keeps : (p : Parts NodeKnot.frame) → ((j : Deep.the_members) → IsSend (
 node_keeps p all Deep.member-Node =
     let nodes = all Deep.member-Node in
     let child_nodes : IsSend (NodeKnot.at-ChildNodes p) = rejoined_send _ _ Deep.split-ChildNodes Deep.join-ChildNodes Deep.joins-ChildNodes (child_nodes_layer _ nodes) in
-    let growth : IsSend (NodeKnot.at-Growth p) = rejoined_send _ _ Deep.split-Growth Deep.join-Growth Deep.joins-Growth (growth_layer _ _ child_nodes child_nodes) in
+    let growth : IsSend (NodeKnot.at-NodeState p) = rejoined_send _ _ Deep.split-NodeState Deep.join-NodeState Deep.joins-NodeState (growth_layer _ _ child_nodes child_nodes) in
     let node : IsSend (NodeKnot.at-Node p) = rejoined_send _ _ Deep.split-Node Deep.join-Node Deep.joins-Node (node_layer _ growth) in
     let view : IsSend (NodeKnot.view-Node p) = view_send _ _ _ _ _ node in
     record { owned = view.owned; leaving = λ k x w. tt }

@@ -6,7 +6,7 @@ use Rattle.tt_game.specs.declared.frame.Side.TheVariants.{Attacker, Defender}
 use Rattle.tt_game.specs.declared.turns.Turn.{Turn}
 use Rattle.tt_game.specs.Line.{LineWithUndo}
 use Rattle.tt_search.specs.PartialTree.{PartialTree, expanded}
-use Rattle.tt_search.specs.Numbers.{combined_number, number, numbers, count, IsUndecided}
+use Rattle.tt_search.specs.Numbers.{combined_number, number, child_numbers, count, IsUndecided}
 use Rattle.tt_search.specs.MostProving.{first_least_index, index_of_best}
 use Rattle.tt_search.specs.inside.Walking.{Stand, Stage, stage, stand, stand_of, stand_after, MayGrow}
 use Rattle.tt_search.specs.inside.Taken.{Taken, IsLeft}
@@ -161,9 +161,9 @@ same_stand a b l r = ap (λ x. stand x a.room) l ∙ ap (stand b.line) r
 
 -- a tree with the same number in the place of a child leaves the children's numbers as they were
 numbers_set : (goal : Side) (trees : List PartialTree) (i : ℕ) (d tree : PartialTree) → number goal tree ≡ number goal (get_or trees i d)
-    → numbers goal (children_of (set trees i tree)) ≡ numbers goal (children_of trees)
+    → child_numbers goal (children_of (set trees i tree)) ≡ child_numbers goal (children_of trees)
 numbers_set goal [] i d tree h = refl
-numbers_set goal (t ∷ trees) zero d tree h = ap (λ n. n ∷ numbers goal (children_of trees)) h
+numbers_set goal (t ∷ trees) zero d tree h = ap (λ n. n ∷ child_numbers goal (children_of trees)) h
 numbers_set goal (t ∷ trees) (suc i) d tree h = ap (λ ns. number goal t ∷ ns) (numbers_set goal trees i d tree h)
 
 -- of two items put at one place, the second one stays
@@ -191,7 +191,7 @@ module _ (at : Stand) (mover : Side) (turns : List Turn) (trees : List PartialTr
       ∙ ap (λ ts. expanded mover turns (children_of ts)) (set-get_or trees p child)
 
   -- a tree with the best child's numbers leaves the children's numbers as they were
-  row_is : (tree : PartialTree) → HaveSameNumbers child tree → (goal : Side) → numbers goal (children_of (set trees p tree)) ≡ numbers goal (children_of trees)
+  row_is : (tree : PartialTree) → HaveSameNumbers child tree → (goal : Side) → child_numbers goal (children_of (set trees p tree)) ≡ child_numbers goal (children_of trees)
   row_is tree h goal = numbers_set goal trees p child tree (h goal ∙ ap (number goal) child_is)
 
   -- and it is the best child again

@@ -10,11 +10,11 @@ use Rattle.tt_game.specs.Game.{State, IsLegal, after, winner_of}
 use Rattle.tt_game.specs.laws.Members.{IsIn, in_of_contains}
 use Rattle.tt_game.specs.laws.TurnLaws.{EachIsLegal, RisesFrom, legal_turns_are_legal, contains-legal_turns, legal_turns_rise_from_0}
 use Rattle.tt_game.specs.Turns.{legal_turns}
-use Rattle.tt_proof.specs.Strategy.{Strategy, Entries, depth, depth_of_entries, IsInOrder, AreInOrder, number_on}
+use Rattle.tt_proof.specs.Strategy.{Strategy, Entries, depth, depth_of_entries, IsInOrder, AreInOrder, turn_number_on_size}
 use Rattle.tt_proof.specs.ProofClaim.{IsWinningTree}
 use Rattle.tt_proof.specs.Wins.{Wins, WinsBehind}
 use Rattle.tt_search.specs.PartialTree.{PartialTree, fresh, won, closed, expanded, Children, no_more, more}
-use Rattle.tt_search.specs.Numbers.{is_same_side, least, capped_sum, decided_number, number, numbers}
+use Rattle.tt_search.specs.Numbers.{is_same_side, least, capped_sum, decided_number, number, child_numbers}
 use Rattle.tt_search.specs.MostProving.{first_index_of}
 use Rattle.tt_search.specs.Growing.{IsPartialTree, ArePartialTrees}
 use Rattle.tt_search.specs.inside.Within.{StaysWithin, AllStayWithin}
@@ -41,14 +41,14 @@ least_zero : (x y : ℕ) → min x y ≡ 0 → (x == 0) ≡ false → y ≡ 0
 least_zero x y e h = grind (arith, common_steps)
 
 -- the first 0 is the first child's, or else it is found among the others
-zero_by_first : (side : Side) (tree : PartialTree) (children : Children) → least (numbers side (more tree children)) ≡ 0
-    → (least (numbers side children) ≡ 0 → IsZeroAt side (first_index_of 0 (numbers side children)) children) → (b : Bool) → (number side tree == 0) ≡ b
-    → IsZeroAt side (first_index_of 0 (numbers side (more tree children))) (more tree children)
+zero_by_first : (side : Side) (tree : PartialTree) (children : Children) → least (child_numbers side (more tree children)) ≡ 0
+    → (least (child_numbers side children) ≡ 0 → IsZeroAt side (first_index_of 0 (child_numbers side children)) children) → (b : Bool) → (number side tree == 0) ≡ b
+    → IsZeroAt side (first_index_of 0 (child_numbers side (more tree children))) (more tree children)
 zero_by_first side tree children e below true q = rw q (grind (arith, common_steps))
-zero_by_first side tree children e below false q = rw (q, add-one) (below (least_zero (number side tree) (least (numbers side children)) e q))
+zero_by_first side tree children e below false q = rw (q, add-one) (below (least_zero (number side tree) (least (child_numbers side children)) e q))
 
 -- where the least number is 0, the first child that is settled is there
-pub zero_at : (side : Side) (children : Children) → least (numbers side children) ≡ 0 → IsZeroAt side (first_settled_index side children) children
+pub zero_at : (side : Side) (children : Children) → least (child_numbers side children) ≡ 0 → IsZeroAt side (first_settled_index side children) children
 zero_at side no_more e = absurd (omega arith)
 zero_at side (more tree children) e = zero_by_first side tree children e (zero_at side children) (number side tree == 0) refl
 
@@ -61,15 +61,15 @@ sum_more : (x : ℕ) (xs : List ℕ) → sum (x ∷ xs) ≡ x + sum xs
 sum_more x xs = grind (arith, common_steps)
 
 -- where the children's numbers sum up to 0, each of them is 0
-pub all_zero : (side : Side) (children : Children) → sum (numbers side children) ≡ 0 → AreZero side children
+pub all_zero : (side : Side) (children : Children) → sum (child_numbers side children) ≡ 0 → AreZero side children
 all_zero side no_more e = tt
 all_zero side (more tree children) e =
-    (omega (arith, e, sum_more (number side tree) (numbers side children)), all_zero side children (omega (arith, e, sum_more (number side tree) (numbers side children))))
+    (omega (arith, e, sum_more (number side tree) (child_numbers side children)), all_zero side children (omega (arith, e, sum_more (number side tree) (child_numbers side children))))
 
 -- ---- who is to move
 
 -- where the side to move has the number 0, so is the least of the children's
-pub own_zero : (side mover : Side) (turns : List Turn) (children : Children) → is_same_side side mover ≡ true → number side (expanded mover turns children) ≡ 0 → least (numbers side children) ≡ 0
+pub own_zero : (side mover : Side) (turns : List Turn) (children : Children) → is_same_side side mover ≡ true → number side (expanded mover turns children) ≡ 0 → least (child_numbers side children) ≡ 0
 own_zero Attacker Attacker turns children e z = z
 own_zero Attacker Defender turns children e z = cc
 own_zero Defender Attacker turns children e z = cc
@@ -77,7 +77,7 @@ own_zero Defender Defender turns children e z = z
 
 -- where the other side has it, so is their capped sum
 pub other_zero : (side mover : Side) (turns : List Turn) (children : Children) → is_same_side side mover ≡ false → number side (expanded mover turns children) ≡ 0
-    → capped_sum (numbers side children) ≡ 0
+    → capped_sum (child_numbers side children) ≡ 0
 other_zero Attacker Attacker turns children e z = cc
 other_zero Attacker Defender turns children e z = z
 other_zero Defender Attacker turns children e z = z
@@ -109,7 +109,7 @@ mutual
       by_mover side mover f s (pick_at side (first_settled_index side children) turns children) (replies side turns children) p.0 p.1
       (λ e. pick_wins side f s (first_settled_index side children) turns children p.0 (sym p.1 ∙ same_is_same side mover e) (subst (EachIsLegal f s) (sym p.2) (legal_turns_are_legal f s)) p.3
       (zero_at side children (own_zero side mover turns children e z)))
-      (λ e t l. replies_win side f s turns children t p.3 (all_zero side children (zero_sum (numbers side children) (other_zero side mover turns children e z)))
+      (λ e t l. replies_win side f s turns children t p.3 (all_zero side children (zero_sum (child_numbers side children) (other_zero side mover turns children e z)))
       (subst (λ ts. IsIn ts t) (sym p.2) (in_of_contains (legal_turns f s) t ((contains-legal_turns f s t).1 l))))
 
   -- so does the pick of a child with the number 0, where the side is to move
@@ -187,7 +187,7 @@ mutual
   pick_in_order side f s room from i (t ∷ ts) no_more up p h = tt
   pick_in_order side f s room from zero (t ∷ ts) (more tree children) up p h = (up.1, in_order side f (after f s t) room tree p.0 h.0)
   pick_in_order side f s room from (suc i) (t ∷ ts) (more tree children) up p h =
-      pick_in_order side f s room (number_on f.size t + 1) i ts children up.2 p.1 h.1
+      pick_in_order side f s room (turn_number_on_size f.size t + 1) i ts children up.2 p.1 h.1
 
   -- and so are the replies, from the number on from which the turns rise
   replies_in_order : (side : Side) (f : Frame) (s : State) (room from : ℕ) (turns : List Turn) (children : Children) → RisesFrom f.size from turns
@@ -195,7 +195,7 @@ mutual
   replies_in_order side f s room from [] children up p h = tt
   replies_in_order side f s room from (t ∷ ts) no_more up p h = tt
   replies_in_order side f s room from (t ∷ ts) (more tree children) up p h =
-      (up.0, up.1, in_order side f (after f s t) room tree p.0 h.0, replies_in_order side f s room (number_on f.size t + 1) ts children up.2 p.1 h.1)
+      (up.0, up.1, in_order side f (after f s t) room tree p.0 h.0, replies_in_order side f s room (turn_number_on_size f.size t + 1) ts children up.2 p.1 h.1)
 
 -- the strategy of a settled tree makes a proof
 pub makes_proof : (side : Side) (f : Frame) (s : State) (tree : PartialTree) (strategy : Strategy) → strategy ≡ strategy_for side tree → number side tree ≡ 0

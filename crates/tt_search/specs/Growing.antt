@@ -60,13 +60,13 @@ IsGrowthStep limits f s old new =
     IsUndecided old × ((count old < limits.budget × IsExpansion limits.depth f s old new) ⊎ IsClosing limits.depth f s old new)
 
 -- a tree is reached from another one by so many growths
-abbrev pub IsGrownBy : ℕ → Limits → Frame → State → PartialTree → PartialTree → Type 0
-IsGrownBy zero limits f s from tree = tree ≡ from
-IsGrownBy (suc n) limits f s from tree = (before : PartialTree) × IsGrownBy n limits f s from before × IsGrowthStep limits f s before tree
+abbrev pub IsGrownInSteps : ℕ → Limits → Frame → State → PartialTree → PartialTree → Type 0
+IsGrownInSteps zero limits f s from tree = tree ≡ from
+IsGrownInSteps (suc n) limits f s from tree = (before : PartialTree) × IsGrownInSteps n limits f s from before × IsGrowthStep limits f s before tree
 
 abbrev pub IsGrownFrom : Limits → Frame → State → PartialTree → PartialTree → Type 0
-IsGrownFrom limits f s from tree = (n : ℕ) × IsGrownBy n limits f s from tree
+IsGrownFrom limits f s from tree = (n : ℕ) × IsGrownInSteps n limits f s from tree
 
 -- a tree is reached from the one that is only the root
-abbrev pub IsGrown : Limits → Frame → State → PartialTree → Type 0
-IsGrown limits f s tree = IsGrownFrom limits f s (new_leaf f s) tree
+abbrev pub IsGrownFromRoot : Limits → Frame → State → PartialTree → Type 0
+IsGrownFromRoot limits f s tree = IsGrownFrom limits f s (new_leaf f s) tree

@@ -6,7 +6,7 @@ use Rattle.tt_game.specs.declared.turns.Turn.{Turn}
 use Rattle.tt_game.specs.declared.frame.Frame.{Frame}
 use Rattle.tt_game.specs.Game.{State, after}
 use Rattle.tt_search.specs.PartialTree.{PartialTree, fresh, won, closed, expanded, Children, no_more, more}
-use Rattle.tt_search.specs.Numbers.{numbers, least}
+use Rattle.tt_search.specs.Numbers.{child_numbers, least}
 
 -- the index of the first number that is this one
 abbrev pub first_index_of : ℕ → List ℕ → ℕ
@@ -19,7 +19,7 @@ first_least_index xs = first_index_of (least xs) xs
 
 -- the index of the child to go to: the first one with the least number of the side to move
 abbrev pub index_of_best : Side → Children → ℕ
-index_of_best mover children = first_least_index (numbers mover children)
+index_of_best mover children = first_least_index (child_numbers mover children)
 
 -- the state at the most-proving leaf of a tree at the state s
 abbrev mutual

@@ -45,11 +45,11 @@ abbrev mutual
   number goal fresh = 1
   number goal (won side) = decided_number goal side
   number goal (closed side strategy) = decided_number goal side
-  number goal (expanded mover turns children) = combined_number goal mover (numbers goal children)
+  number goal (expanded mover turns children) = combined_number goal mover (child_numbers goal children)
 
-  pub numbers : Side → Children → List ℕ
-  numbers goal no_more = []
-  numbers goal (more tree children) = number goal tree ∷ numbers goal children
+  pub child_numbers : Side → Children → List ℕ
+  child_numbers goal no_more = []
+  child_numbers goal (more tree children) = number goal tree ∷ child_numbers goal children
 
 abbrev pub proof_number : PartialTree → ℕ
 proof_number tree = number Attacker tree

@@ -6,14 +6,14 @@ use Rattle.tt_search.specs.Numbers.{number, count}
 use Rattle.tt_search.specs.Grants.{GrantTally}
 use Rattle.tt_search.specs.Growing.{IsGrownFrom}
 use Rattle.tt_search.specs.Settled.{strategy_for}
-use Rattle.tt_search.specs.SearchState.{SearchState, IsSameProblem, IsStuckFor}
+use Rattle.tt_search.specs.SearchState.{SearchState, HasSameLineAndLimits, IsStuckFor}
 use Rattle.tt_search.specs.declared.limits.Reason.TheVariants.{Budget, Depth, Total, Memory}
 use Rattle.tt_search.specs.declared.search.End.{End}
 use Rattle.tt_search.specs.declared.search.End.TheVariants.{Settled, Stuck}
 
 -- a search is on the same line under the same limits, and is reached by growth
 pub record HasRunTo (start search : SearchState) : Type 0 where
-  pub problem : IsSameProblem start search
+  pub problem : HasSameLineAndLimits start search
   pub grown : IsGrownFrom start.limits start.line.frame start.line.state start.tree search.tree
 
 -- the proof stands at the search's line, within its limit on depth, and its strategy is that of the search's tree
@@ -31,16 +31,16 @@ IsEndOf start (Stuck reason (Some search)) = HasRunTo start search × IsStuckFor
 IsEndOf start (Stuck reason None) = ⊥
 
 -- from one search to another one, as many expansions were granted as the tree's count rose by
-abbrev pub HasSpent : SearchState → GrantTally → SearchState → GrantTally → Type 0
-HasSpent start old search new = new.granted + count start.tree ≡ old.granted + count search.tree
+abbrev pub HasGrantPerExpansion : SearchState → GrantTally → SearchState → GrantTally → Type 0
+HasGrantPerExpansion start old search new = new.granted + count start.tree ≡ old.granted + count search.tree
 
 -- what a run spent, by its end: the grants are the expansions of the search that it holds, or of the one whose proof it
 -- answers; one was refused where it is stuck for the total, and elsewhere none was in the run
-abbrev pub IsSpentBy : SearchState → GrantTally → End → GrantTally → Type 0
-IsSpentBy start old (Settled proof) new =
-    (search : SearchState) × HasRunTo start search × IsProofOf search proof × HasSpent start old search new × (new.refused ≡ old.refused)
-IsSpentBy start old (Stuck Budget (Some search)) new = HasSpent start old search new × (new.refused ≡ old.refused)
-IsSpentBy start old (Stuck Depth (Some search)) new = HasSpent start old search new × (new.refused ≡ old.refused)
-IsSpentBy start old (Stuck Total (Some search)) new = HasSpent start old search new × (new.refused ≡ true)
-IsSpentBy start old (Stuck Memory (Some search)) new = HasSpent start old search new × (new.refused ≡ old.refused)
-IsSpentBy start old (Stuck reason None) new = ⊥
+abbrev pub IsTallyAfterRun : SearchState → GrantTally → End → GrantTally → Type 0
+IsTallyAfterRun start old (Settled proof) new =
+    (search : SearchState) × HasRunTo start search × IsProofOf search proof × HasGrantPerExpansion start old search new × (new.refused ≡ old.refused)
+IsTallyAfterRun start old (Stuck Budget (Some search)) new = HasGrantPerExpansion start old search new × (new.refused ≡ old.refused)
+IsTallyAfterRun start old (Stuck Depth (Some search)) new = HasGrantPerExpansion start old search new × (new.refused ≡ old.refused)
+IsTallyAfterRun start old (Stuck Total (Some search)) new = HasGrantPerExpansion start old search new × (new.refused ≡ true)
+IsTallyAfterRun start old (Stuck Memory (Some search)) new = HasGrantPerExpansion start old search new × (new.refused ≡ old.refused)
+IsTallyAfterRun start old (Stuck reason None) new = ⊥

@@ -18,7 +18,7 @@ pub record SearchState : Type 0 where
   pub tree : PartialTree
 
 -- a search is on the same line under the same limits
-pub record IsSameProblem (old new : SearchState) : Type 0 where
+pub record HasSameLineAndLimits (old new : SearchState) : Type 0 where
   pub line : new.line ≡ old.line
   pub limits : new.limits ≡ old.limits
 

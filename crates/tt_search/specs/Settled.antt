@@ -4,7 +4,7 @@ use Rattle.tt_game.specs.declared.frame.Side.{Side}
 use Rattle.tt_game.specs.declared.turns.Turn.{Turn}
 use Rattle.tt_proof.specs.Strategy.{Strategy, Entries, done, pick, reply, none, entry}
 use Rattle.tt_search.specs.PartialTree.{PartialTree, fresh, won, closed, expanded, Children, no_more, more}
-use Rattle.tt_search.specs.Numbers.{is_same_side, numbers}
+use Rattle.tt_search.specs.Numbers.{is_same_side, child_numbers}
 use Rattle.tt_search.specs.MostProving.{first_index_of}
 
 abbrev pub pick_or_reply : Bool → Strategy → Entries → Strategy
@@ -13,7 +13,7 @@ pick_or_reply false first all = reply all
 
 -- the index of the first child that is settled for the side
 abbrev pub first_settled_index : Side → Children → ℕ
-first_settled_index side children = first_index_of 0 (numbers side children)
+first_settled_index side children = first_index_of 0 (child_numbers side children)
 
 -- at a won leaf nothing is left to do, and a closed leaf has its strategy; where the side is to move it picks the first
 -- child that is settled for it, and elsewhere it has a reply to each turn

@@ -17,7 +17,7 @@ ghost use Rattle.tt_search.specs.inside.Child.{child_tree};
 
 use crate::tree::children::{Child, ChildNodes};
 use crate::tree::edges::Edge;
-use crate::tree::node::{Growth, Node};
+use crate::tree::node::{Node, NodeState};
 use crate::tree::numbers::is_same_side;
 use std::alloc::Global;
 use tt_board::Board;
@@ -39,19 +39,24 @@ impl Node {
         ensures exact { IfOk result (λ x. IsFootprint line.old.frame line.old.state (strategy_for side self.now) x) }
         ensures same { line.new ≡ line.old }
     {
-        match &self.growth {
-            Growth::Fresh => Ok(Footprint::empty(alloc)),
-            Growth::Won(_) => Ok(Footprint::empty(alloc)),
-            Growth::Closed(proof) => proof.footprint_at(alloc, line),
-            Growth::Untried(_, _) => unreachable!(),
-            Growth::Expanded(focus, children) => children.footprint(alloc, line, focus.mover, side),
-            Growth::Offered(_, _, proof) => proof.footprint_at(alloc, line),
+        match &self.node_state {
+            NodeState::Fresh => Ok(Footprint::empty(alloc)),
+            NodeState::Won(_) => Ok(Footprint::empty(alloc)),
+            NodeState::Closed(proof) => proof.footprint_at(alloc, line),
+            NodeState::Untried(_, _) => unreachable!(),
+            NodeState::Expanded(focus, children) => children.footprint(
+                alloc,
+                line,
+                focus.mover,
+                side,
+            ),
+            NodeState::Offered(_, _, proof) => proof.footprint_at(alloc, line),
         }
     }
 
     /// The same where the line stands at the node above, and this one is behind the turn; and the board after the turn.
     #[cycle(footprint)]
-    fn footprint_after(
+    fn board_and_footprint_after(
         &self,
         alloc: Global,
         turn: Turn,
@@ -79,7 +84,7 @@ impl Child<'_> {
     /// The footprint of a child's strategy for the side that it is settled for, where the line stands at the node above, and the
     /// child is behind the turn; and the board after the turn, which is pushed only where the child has grown.
     #[cycle(footprint)]
-    fn footprint_after(
+    fn board_and_footprint_after(
         self,
         alloc: Global,
         turn: Turn,
@@ -97,7 +102,7 @@ impl Child<'_> {
                 line.board_after_turn(turn),
                 Footprint::empty(alloc),
             )),
-            Child::Grown(node) => node.footprint_after(alloc, turn, line, side),
+            Child::Grown(node) => node.board_and_footprint_after(alloc, turn, line, side),
         }
     }
 }
@@ -149,7 +154,7 @@ fn pick_footprint(
     let (index, rank) = children.first_settled_index(side);
     let turn = children.edges.at(index).turn();
     let child = children.child(index, rank);
-    let (board, behind) = child.footprint_after(alloc, turn, line, side)?;
+    let (board, behind) = child.board_and_footprint_after(alloc, turn, line, side)?;
     Footprint::picked(alloc, line, &turn, &board, behind)
 }
 
@@ -180,12 +185,16 @@ fn reply_footprint(
         (reply (replies side (edge_turns edges.now) (children_of (edge_trees edges.now grown.now)))) x) }
     ensures same { line.new ≡ line.old }
 {
-    let mut footprint = Footprint::of_empty_reply_with_legal(alloc, line, &points_of_plays(edges))?;
+    let mut footprint = Footprint::of_empty_reply_given_legal(
+        alloc,
+        line,
+        &points_of_plays(edges),
+    )?;
     let mut rest = grown;
     for edge in edges {
-        let (child, behind) = Child::first_and_rest(*edge, rest);
+        let (child, behind) = Child::split_first_child(*edge, rest);
         let turn = edge.turn();
-        let (board, below) = child.footprint_after(alloc, turn, line, side)?;
+        let (board, below) = child.board_and_footprint_after(alloc, turn, line, side)?;
         footprint.add_entry(line, &turn, &board, below)?;
         rest = behind;
     }

@@ -31,11 +31,11 @@ pub trait Grants {
 
 /// Grants each ask, and counts them. It takes no memory.
 #[derive(Debug, Drop)]
-pub struct Free {
+pub struct AlwaysGranting {
     count: u64,
 }
 
-impl Model for Free {
+impl Model for AlwaysGranting {
     ghost use Rattle.std.specs.Prelude.{ℕ};
 
     ghost Value = { ℕ };
@@ -43,16 +43,16 @@ impl Model for Free {
     ghost view = { λ f. f.count };
 }
 
-impl Free {
+impl AlwaysGranting {
     /// One that has not been asked.
-    pub fn new() -> Free
+    pub fn new() -> AlwaysGranting
         ensures { result ≡ 0 }
     {
-        Free { count: 0 }
+        AlwaysGranting { count: 0 }
     }
 }
 
-impl Grants for Free {
+impl Grants for AlwaysGranting {
     ghost asked = { λ f. record { granted = f; refused = false } };
 
     ghost source = { λ _. tt };

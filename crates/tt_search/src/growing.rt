@@ -25,7 +25,7 @@ use crate::store::Store;
 use crate::store::usable_proofs::find_usable_proof;
 use crate::tree::children::{BestChild, ChildNodes};
 use crate::tree::edges::EdgeState;
-use crate::tree::node::{Growth, Node};
+use crate::tree::node::{Node, NodeState};
 use crate::tree::numbers::PhiDelta;
 use tt_game::Side;
 use tt_sgf::NoMemory;
@@ -137,8 +137,8 @@ impl Node {
         ensures steps { AreSteps stop walk.old self.old result self.new walk.new }
     {
         let (proof, disproof) = (self.proof, self.disproof);
-        match &mut self.growth {
-            Growth::Expanded(focus, children) => {
+        match &mut self.node_state {
+            NodeState::Expanded(focus, children) => {
                 let was = PhiDelta::of(focus.mover, proof, disproof);
                 let (step, numbers) = children.descend(focus, was, walk, stop, store, grants);
                 let (proof, disproof) = numbers.proof_and_disproof(focus.mover);
@@ -149,14 +149,15 @@ impl Node {
                 }
                 step
             }
-            Growth::Untried(mover, plays) => {
+            NodeState::Untried(mover, plays) => {
                 let Ok((focus, children)) = untried_children(walk.alloc, *mover, plays) else {
                     return Step::Stuck(Reason::Memory);
                 };
                 self.grow_untried(focus, children, walk, stop, store, grants)
             }
-            Growth::Won(_) | Growth::Closed(_) | Growth::Offered(_, _, _) => unreachable!(),
-            Growth::Fresh => self.first_step(walk, store, grants),
+            NodeState::Won(_) | NodeState::Closed(_) | NodeState::Offered(_, _, _) =>
+                unreachable!(),
+            NodeState::Fresh => self.first_step(walk, store, grants),
         }
     }
 
@@ -184,7 +185,7 @@ impl Node {
         *self = Node {
             proof,
             disproof,
-            growth: Growth::Expanded(focus, children),
+            node_state: NodeState::Expanded(focus, children),
         };
         if let Some(side) = self.settled_side() {
             walk.offering = self.offer_proof(side, walk, store);

@@ -14,9 +14,9 @@ ghost use Rattle.tt_search.specs.inside.Kept.{IsKept};
 ghost use Rattle.tt_search.specs.inside.Untried.{plays_and_pass, AreUntried};
 
 use crate::tree::children::{BestChild, ChildNodes};
-use crate::tree::edge_row::Edges;
+use crate::tree::edge_storage::Edges;
 use crate::tree::edges::{Edge, EdgeState};
-use crate::tree::node::{Growth, Node};
+use crate::tree::node::{Node, NodeState};
 use crate::tree::numbers::{PhiDelta, decided_number};
 use crate::tree::untried::UntriedPlays;
 use arrayvec::ArrayVec;
@@ -34,12 +34,12 @@ pub(crate) fn new_leaf(winner: Option<Side>) -> Node
         None => Node {
             proof: 1,
             disproof: 1,
-            growth: Growth::Fresh,
+            node_state: NodeState::Fresh,
         },
         Some(side) => Node {
             proof: decided_number(Side::Attacker, side),
             disproof: decided_number(Side::Defender, side),
-            growth: Growth::Won(side),
+            node_state: NodeState::Won(side),
         },
     }
 }
@@ -52,7 +52,7 @@ pub(crate) fn closed_leaf(proof: Arc<Proof>) -> Node
     Node {
         proof: decided_number(Side::Attacker, side),
         disproof: decided_number(Side::Defender, side),
-        growth: Growth::Closed(proof),
+        node_state: NodeState::Closed(proof),
     }
 }
 
@@ -67,7 +67,7 @@ fn expanded_node(alloc: Global, mover: Side, edges: Edges) -> Node
     Node {
         proof,
         disproof,
-        growth: Growth::Expanded(focus, children),
+        node_state: NodeState::Expanded(focus, children),
     }
 }
 
@@ -97,7 +97,7 @@ fn edges_to_new_leaves(alloc: Global, plays: &mut LegalPlays) -> Result<Edges, N
 }
 
 /// The legal plays, where these are many and nobody has won behind any turn.
-fn plays_if_none_wins(plays: &mut LegalPlays) -> Option<UntriedPlays>
+fn many_plays_if_none_wins(plays: &mut LegalPlays) -> Option<UntriedPlays>
     requires { plays.old.from ≡ 0 }
     ensures edges { IfSome result (λ found. AreNewEdges plays.old.frame plays.old.state (plays_and_pass found)) }
     ensures untried { IfSome result (λ found. AreUntried (plays_and_pass found)) }
@@ -129,7 +129,7 @@ fn untried_node(mover: Side, plays: UntriedPlays) -> Node
     Node {
         proof,
         disproof,
-        growth: Growth::Untried(mover, plays),
+        node_state: NodeState::Untried(mover, plays),
     }
 }
 
@@ -161,7 +161,7 @@ pub(crate) fn expanded_at(alloc: Global, line: &Line) -> Result<Node, NoMemory>
     ensures { IfOk result (λ node. node ≡ expansion line.now.frame line.now.state) }
 {
     let mut plays = line.legal_plays();
-    if let Some(found) = plays_if_none_wins(&mut plays) {
+    if let Some(found) = many_plays_if_none_wins(&mut plays) {
         return Ok(untried_node(line.to_move(), found));
     }
     plays.restart();

@@ -20,10 +20,10 @@ mod settled;
 mod store;
 mod tree;
 
-pub use grants::{Free, Grants};
+pub use grants::{AlwaysGranting, Grants};
 pub use limits::{Limits, MOST_EXPANDED, Reason, Step};
 pub use search::{End, Search};
-pub use store::key_index::{KeyIndex, ProofRow};
+pub use store::key_index::{KeyIndex, ProofList};
 pub use store::private::PrivateStore;
 pub use store::usable_proofs::find_usable_proof;
 pub use store::{Kept, NoStore, ProofPerSide, Store};

@@ -3,9 +3,9 @@
 ghost use Rattle.std.specs.Prelude.{◌≡◌, ◌+◌, ◌^◌, ◌<◌, ◌≤◌, IfOk};
 ghost use Rattle.tt_search.specs.declared.limits.Step.TheVariants.{Closed};
 ghost use Rattle.tt_search.specs.Numbers.{proof_number, disproof_number, count, IsCappedOrInfinite, IsUndecided};
-ghost use Rattle.tt_search.specs.Growing.{new_leaf, IsGrown};
-ghost use Rattle.tt_search.specs.SearchState.{IsSameProblem, IsStepOf};
-ghost use Rattle.tt_search.specs.RunEnds.{IsEndOf, HasSpent, IsSpentBy, IsProofOf};
+ghost use Rattle.tt_search.specs.Growing.{new_leaf, IsGrownFromRoot};
+ghost use Rattle.tt_search.specs.SearchState.{HasSameLineAndLimits, IsStepOf};
+ghost use Rattle.tt_search.specs.RunEnds.{IsEndOf, HasGrantPerExpansion, IsTallyAfterRun, IsProofOf};
 ghost use Rattle.tt_search.specs.Grants.{IsAskOfStep};
 ghost use Rattle.tt_search.specs.inside.Asking.{AreAsked};
 ghost use Rattle.tt_search.specs.inside.Advanced.{IsAdvanced};
@@ -74,7 +74,7 @@ impl Search {
     /// How many nodes are expanded.
     pub fn expanded(&self) -> u32
         ensures count { result ≡ count self.now.tree }
-        ensures grown { IsGrown self.now.limits self.now.line.frame self.now.line.state self.now.tree }
+        ensures grown { IsGrownFromRoot self.now.limits self.now.line.frame self.now.line.state self.now.tree }
     {
         self.limits.budget() - self.walk.left
     }
@@ -96,11 +96,11 @@ impl Search {
     /// it any more. The grants have room for what the budget has left.
     pub fn step<S: Store, G: Grants>(&mut self, store: &mut S, grants: &mut G) -> Step
         requires grants { (G.asked grants.old).granted + self.old.limits.budget < 2 ^ 64 + count self.old.tree }
-        ensures problem { IsSameProblem self.old self.new }
+        ensures problem { HasSameLineAndLimits self.old self.new }
         ensures taken { IsStepOf self.old result self.new }
         ensures may { result ≡ Closed → S.may_answer }
         ensures asked { IsAskOfStep (G.asked grants.old) result (G.asked grants.new) }
-        ensures spent { HasSpent self.old (G.asked grants.old) self.new (G.asked grants.new) }
+        ensures spent { HasGrantPerExpansion self.old (G.asked grants.old) self.new (G.asked grants.new) }
         ensures source { G.source grants.new ≡ G.source grants.old }
     {
         self.advance(store, grants, StopAfter::OneStep)
@@ -110,7 +110,7 @@ impl Search {
     pub fn run<S: Store, G: Grants>(self, store: &mut S, grants: &mut G) -> End
         requires grants { (G.asked grants.old).granted + self.limits.budget < 2 ^ 64 + count self.tree }
         ensures end { IsEndOf self result }
-        ensures spent { IsSpentBy self (G.asked grants.old) result (G.asked grants.new) }
+        ensures spent { IsTallyAfterRun self (G.asked grants.old) result (G.asked grants.new) }
         ensures few { (G.asked grants.new).granted + count self.tree ≤ (G.asked grants.old).granted + self.limits.budget }
         ensures source { G.source grants.new ≡ G.source grants.old }
     {
@@ -137,11 +137,11 @@ impl Search {
         stop: StopAfter,
     ) -> Step
         requires grants { (G.asked grants.old).granted + self.old.limits.budget < 2 ^ 64 + count self.old.tree }
-        ensures problem { IsSameProblem self.old self.new }
+        ensures problem { HasSameLineAndLimits self.old self.new }
         ensures advanced { IsAdvanced stop self.old result self.new }
         ensures may { result ≡ Closed → S.may_answer }
         ensures asked { AreAsked stop (G.asked grants.old) result (G.asked grants.new) }
-        ensures spent { HasSpent self.old (G.asked grants.old) self.new (G.asked grants.new) }
+        ensures spent { HasGrantPerExpansion self.old (G.asked grants.old) self.new (G.asked grants.new) }
         ensures source { G.source grants.new ≡ G.source grants.old }
         ensures few { count self.new.tree ≤ self.new.limits.budget }
     {

@@ -5,7 +5,7 @@ ghost use Rattle.std.specs.Prelude.{◌≡◌, ◌≤◌, ◌<◌, false, length
 ghost use Rattle.tt_proof.specs.Strategy.{reply};
 ghost use Rattle.tt_proof.specs.ProofClaim.{StandsAt};
 ghost use Rattle.tt_proof.specs.declared.tree.TheConstants.{MOST_DEPTH};
-ghost use Rattle.tt_search.specs.Numbers.{number, numbers, least, IsUndecided};
+ghost use Rattle.tt_search.specs.Numbers.{number, child_numbers, least, IsUndecided};
 ghost use Rattle.tt_search.specs.Growing.{IsPartialTree};
 ghost use Rattle.tt_search.specs.inside.Within.{StaysWithin};
 ghost use Rattle.tt_search.specs.Settled.{strategy_for, first_settled_index, pick_at, replies};
@@ -21,7 +21,7 @@ use crate::descent::Descent;
 use crate::store::Store;
 use crate::tree::children::{Child, ChildNodes};
 use crate::tree::edges::Edge;
-use crate::tree::node::{Growth, Node};
+use crate::tree::node::{Node, NodeState};
 use crate::tree::numbers::is_same_side;
 use std::alloc::Global;
 use std::mem;
@@ -37,13 +37,17 @@ impl Node {
         requires { number side self.now ≡ 0 }
         ensures { IfOk result (λ p. p ≡ strategy_for side self.now) }
     {
-        match &self.growth {
-            Growth::Fresh => Ok(MeasuredTree::done()),
-            Growth::Won(_) => Ok(MeasuredTree::done()),
-            Growth::Closed(proof) => proof.measured_tree().try_clone(),
-            Growth::Untried(_, _) => unreachable!(),
-            Growth::Expanded(focus, children) => children.measured_tree(alloc, focus.mover, side),
-            Growth::Offered(_, _, proof) => proof.measured_tree().try_clone(),
+        match &self.node_state {
+            NodeState::Fresh => Ok(MeasuredTree::done()),
+            NodeState::Won(_) => Ok(MeasuredTree::done()),
+            NodeState::Closed(proof) => proof.measured_tree().try_clone(),
+            NodeState::Untried(_, _) => unreachable!(),
+            NodeState::Expanded(focus, children) => children.measured_tree(
+                alloc,
+                focus.mover,
+                side,
+            ),
+            NodeState::Offered(_, _, proof) => proof.measured_tree().try_clone(),
         }
     }
 
@@ -87,8 +91,12 @@ impl Node {
         let Ok(handle) = Arc::try_clone(proof) else {
             return;
         };
-        self.growth = match mem::replace(&mut self.growth, Growth::Fresh) {
-            Growth::Expanded(focus, children) => Growth::Offered(focus.mover, children, handle),
+        self.node_state = match mem::replace(&mut self.node_state, NodeState::Fresh) {
+            NodeState::Expanded(focus, children) => NodeState::Offered(
+                focus.mover,
+                children,
+                handle,
+            ),
             kept => kept,
         };
     }
@@ -163,7 +171,7 @@ impl ChildNodes {
 #[cycle(measured_tree_of)]
 fn pick_tree(alloc: Global, side: Side, children: &ChildNodes) -> Result<MeasuredTree, NoMemory>
     requires whole { HasItsNodes children.now }
-    requires settled { least (numbers side (children_in children.now)) ≡ 0 }
+    requires settled { least (child_numbers side (children_in children.now)) ≡ 0 }
     ensures { IfOk result (λ p. p ≡ pick_at side (first_settled_index side (children_in children.now)) (edge_turns children.now.edges) (children_in children.now)) }
 {
     let (index, rank) = children.first_settled_index(side);
@@ -189,7 +197,7 @@ fn reply_tree(
     let mut answers = ReplyBuilder::with_capacity(alloc, edges.len())?;
     let mut rest = grown;
     for edge in edges {
-        let (child, behind) = Child::first_and_rest(*edge, rest);
+        let (child, behind) = Child::split_first_child(*edge, rest);
         let answer = child.measured_tree(alloc, side)?;
         answers.push(edge.turn(), answer)?;
         rest = behind;

@@ -5,7 +5,7 @@ use Rattle.std.proofs.lemmas.List.{length-append, length-take, drop_more, take-a
 use Rattle.std.specs.List.{AllByRecursion}
 use Rattle.tt_sgf.specs.Bytes.{open_tree}
 use Rattle.tt_sgf.specs.declared.nodes.Node.{Node}
-use Rattle.tt_sgf.proofs.GrammarLemmas.{one_tree}
+use Rattle.tt_sgf.proofs.GrammarLemmas.{tree_texts_are_prefix_free}
 use Rattle.tt_sgf.specs.declared.nodes.Property.{Property}
 use Rattle.tt_sgf.specs.Grammar.{AreProperties, AreNodes, AreTrees, GameTree, Trees, game, no_tree, more_trees, Spells, main_line, first_main_line, FirstTreeEndsAt, IsMainLine}
 use Rattle.tt_sgf.specs.inside.Reading.{Begins}
@@ -123,8 +123,8 @@ pub line_is : (bytes : List ℕ) (t : GameTree) (rest : List ℕ) (nodes : List 
 line_is bytes t rest nodes b e = subst IsMainLine (sym e) (main_is t b.text b.spells)
 
 -- the first bracket of the bytes begins one tree alone
-pub one_reading : (bytes : List ℕ) (n m : ℕ) (s t : GameTree) → FirstTreeEndsAt bytes n s → FirstTreeEndsAt bytes m t → (n ≡ m) × (s ≡ t)
-one_reading bytes n m s t h k =
+pub grammar_is_unambiguous : (bytes : List ℕ) (n m : ℕ) (s t : GameTree) → FirstTreeEndsAt bytes n s → FirstTreeEndsAt bytes m t → (n ≡ m) × (s ≡ t)
+grammar_is_unambiguous bytes n m s t h k =
     let i = starts s h.text h.spells in
     let j = starts t k.text k.spells in
     let is : h.skipped ++ (open_tree ∷ (i.0 ++ h.rest)) ≡ k.skipped ++ (open_tree ∷ (j.0 ++ k.rest)) =
@@ -132,5 +132,5 @@ one_reading bytes n m s t h k =
     let same = same_split h.skipped k.skipped (i.0 ++ h.rest) (j.0 ++ k.rest) h.no_open k.no_open is in
     let texts : h.text ++ h.rest ≡ k.text ++ k.rest =
     ap (λ (x : List ℕ). x ++ h.rest) i.1 ∙ ap (λ (x : List ℕ). open_tree ∷ x) same.1 ∙ ap (λ (x : List ℕ). x ++ k.rest) (sym j.1) in
-    let one = one_tree h.text k.text s t h.rest k.rest h.spells k.spells texts in
+    let one = tree_texts_are_prefix_free h.text k.text s t h.rest k.rest h.spells k.spells texts in
     (h.count_is ∙ ap (λ (x : List ℕ). length x + length h.text) same.0 ∙ ap (λ (x : List ℕ). length k.skipped + length x) one.0 ∙ sym k.count_is, one.1)

@@ -214,8 +214,8 @@ tree-same (game ns ts) (game ms us) x y h =
     (cc, inner.1)
 
 -- texts of trees at the front of the same bytes
-pub one_tree : (a b : List ℕ) (s t : GameTree) (x y : List ℕ) → Spells a s → Spells b t → a ++ x ≡ b ++ y → (a ≡ b) × (s ≡ t)
-one_tree a b s t x y h k e =
+pub tree_texts_are_prefix_free : (a b : List ℕ) (s t : GameTree) (x y : List ℕ) → Spells a s → Spells b t → a ++ x ≡ b ++ y → (a ≡ b) × (s ≡ t)
+tree_texts_are_prefix_free a b s t x y h k e =
     let one = spelled s a x h in
     let other : EventsAt (a ++ x) (tree_then t []) y = rw e (spelled t b y k) in
     elim (two_rows (a ++ x) (tree_then s []) (tree_then t []) x y one other) [

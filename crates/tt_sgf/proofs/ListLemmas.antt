@@ -7,7 +7,7 @@ use Rattle.std.proofs.lemmas.List.{length-append}
 use Rattle.tt_sgf.specs.Bytes.{close_value, open_value}
 use Rattle.tt_sgf.specs.declared.nodes.Property.{Property}
 use Rattle.tt_sgf.specs.Grammar.{is_blank, is_letter_or_digit, is_upper, is_kept_in_name, is_digit, is_lower, AreBlanks, IsRawValue, AreLettersOrDigits, IsIdent, AreValues, AreProperties}
-use Rattle.tt_sgf.specs.inside.Reading.{◌>>=◌, with_first, begins, behind, has_none, word_of, after_word, repeat, opens_value, value_at, values_at, property_at, opens_property}
+use Rattle.tt_sgf.specs.inside.Reading.{◌>>=◌, with_first, begins, behind, has_none, word_of, after_word, repeat, opens_value, value_at, values_at, property_at, property_follows}
 use Rattle.tt_sgf.specs.Values.{after_blanks}
 use Rattle.tt_sgf.proofs.TokenLemmas.{bind_some, after_blanks-other, after_blanks-again, blanks_take, raw_again, raw_takes, word_again, word_takes}
 use Rattle.tt_sgf.proofs.RepeatLemmas.{repeat_stop, repeat_bad, repeat_item, repeat_none, Shrinks, all_at, all_item}
@@ -102,7 +102,7 @@ values_again (v ∷ vs) text r h e =
 -- what follows a property, or all of them
 pub record Ends (r : List ℕ) : Type 0 where
   pub no_value : opens_value r ≡ false
-  pub no_property : opens_property r ≡ false
+  pub no_property : property_follows r ≡ false
 
 -- a property at the front, up to the rest, before which no value stands
 pub record IsPropertyAt (bytes : List ℕ) (p : Property) (r : List ℕ) : Type 0 where
@@ -194,7 +194,7 @@ ident_len [] e = absurd cc
 ident_len (b ∷ bs) e = omega arith
 
 -- each property takes something
-pub properties_shrink : Shrinks opens_property next_property
+pub properties_shrink : Shrinks property_follows next_property
 properties_shrink bytes x e f =
     let w = blanks_take bytes in
     let p = property_takes (after_blanks bytes) x.0 x.1 f in
@@ -205,7 +205,7 @@ pub record IsPropertiesAt (bytes : List ℕ) (ps : List Property) (r : List ℕ)
   pub text : List ℕ
   pub are : AreProperties text ps
   pub parts : bytes ≡ text ++ r
-  pub ends : opens_property r ≡ false
+  pub ends : property_follows r ≡ false
 
 IsPropertiesAt-moved : (bytes : List ℕ) (p q : List Property) (r s : List ℕ) → q ≡ p → s ≡ r → IsPropertiesAt bytes q s → IsPropertiesAt bytes p r
 IsPropertiesAt-moved bytes p q r s e f h = rw (← e, ← f) h
@@ -214,19 +214,19 @@ five : (w i v t r : List ℕ) → w ++ (i ++ (v ++ (t ++ r))) ≡ (w ++ (i ++ (v
 five w i v t r = simp append_assoc
 
 -- properties that were read are those of a text in the grammar, and no property follows
-pub properties_take : (n : ℕ) (bytes : List ℕ) (ps : List Property) (r : List ℕ) → repeat opens_property next_property n bytes ≡ Some (ps, r) → IsPropertiesAt bytes ps r
-properties_take zero bytes ps r e = absurd (let h = repeat_none opens_property next_property bytes in cc)
+pub properties_take : (n : ℕ) (bytes : List ℕ) (ps : List Property) (r : List ℕ) → repeat property_follows next_property n bytes ≡ Some (ps, r) → IsPropertiesAt bytes ps r
+properties_take zero bytes ps r e = absurd (let h = repeat_none property_follows next_property bytes in cc)
 properties_take (suc n) bytes ps r e =
-    elim (opens_property bytes) as (λ t. opens_property bytes ≡ t → IsPropertiesAt bytes ps r) [
+    elim (property_follows bytes) as (λ t. property_follows bytes ≡ t → IsPropertiesAt bytes ps r) [
       | false ↦ λ t.
-          let same = some_pair_parts [] ps bytes r (sym (repeat_stop opens_property next_property n bytes t) ∙ e) in
+          let same = some_pair_parts [] ps bytes r (sym (repeat_stop property_follows next_property n bytes t) ∙ e) in
           IsPropertiesAt-moved bytes ps [] r bytes same.0 same.1 (record { text = []; are = refl; parts = refl; ends = t })
       | true ↦ λ t. elim (next_property bytes) as (λ o. next_property bytes ≡ o → IsPropertiesAt bytes ps r) [
-        | None ↦ λ f. absurd (let h = repeat_bad opens_property next_property n bytes t f in cc)
+        | None ↦ λ f. absurd (let h = repeat_bad property_follows next_property n bytes t f in cc)
         | Some x ↦ λ f.
             let w = blanks_take bytes in
             let p = property_takes (after_blanks bytes) x.0 x.1 f in
-            let y = bind_some (repeat opens_property next_property n x.1) (with_first x.0) (ps, r) (sym (repeat_item opens_property next_property n bytes x t f) ∙ e) in
+            let y = bind_some (repeat property_follows next_property n x.1) (with_first x.0) (ps, r) (sym (repeat_item property_follows next_property n bytes x t f) ∙ e) in
             let i = properties_take n x.1 y.0.0 y.0.1 y.1 in
             let same = some_pair_parts (x.0 ∷ y.0.0) ps y.0.1 r y.2 in
             IsPropertiesAt-moved bytes ps (x.0 ∷ y.0.0) r y.0.1 same.0 same.1 (record {
@@ -247,7 +247,7 @@ unfolding is_letter_or_digit is_upper is_digit is_lower
 word_is_not_91 b e = grind arith
 
 -- before an identifier behind white space a property follows, and no value
-pub property_ahead : (w i r : List ℕ) → AreBlanks w → AreLettersOrDigits i → list_any is_upper i ≡ true → (after_blanks (w ++ (i ++ r)) ≡ i ++ r) × (opens_property (w ++ (i ++ r)) ≡ true)
+pub property_ahead : (w i r : List ℕ) → AreBlanks w → AreLettersOrDigits i → list_any is_upper i ≡ true → (after_blanks (w ++ (i ++ r)) ≡ i ++ r) × (property_follows (w ++ (i ++ r)) ≡ true)
     × (opens_value (w ++ (i ++ r)) ≡ false)
 property_ahead w [] r h k e = absurd cc
 property_ahead w (b ∷ bs) r h k e =
@@ -261,11 +261,11 @@ properties_no_value (p ∷ ps) text r h e =
     ap (λ (t : List ℕ). opens_value (t ++ r)) h.9 ∙ ap opens_value (sym (five h.0 h.1 h.2 h.3 r)) ∙ (property_ahead h.0 h.1 (h.2 ++ (h.3 ++ r)) h.4 h.5.0 h.5.1).2
 
 -- the properties of a text in the grammar are read where no value and no property follows
-pub properties_again : (ps : List Property) (text r : List ℕ) → AreProperties text ps → Ends r → all_at opens_property next_property (text ++ r) ≡ Some (ps, r)
-properties_again [] text r h e = rw h (repeat_stop opens_property next_property (length r) r e.no_property)
+pub properties_again : (ps : List Property) (text r : List ℕ) → AreProperties text ps → Ends r → all_at property_follows next_property (text ++ r) ≡ Some (ps, r)
+properties_again [] text r h e = rw h (repeat_stop property_follows next_property (length r) r e.no_property)
 properties_again (p ∷ ps) text r h e =
     let bytes = h.0 ++ (h.1 ++ (h.2 ++ (h.3 ++ r))) in
     let is : text ++ r ≡ bytes = ap (λ (t : List ℕ). t ++ r) h.9 ∙ sym (five h.0 h.1 h.2 h.3 r) in
     let a = property_ahead h.0 h.1 (h.2 ++ (h.3 ++ r)) h.4 h.5.0 h.5.1 in
     let one : next_property bytes ≡ Some (p, h.3 ++ r) = ap property_at a.0 ∙ property_again p h.1 h.2 (h.3 ++ r) h.5 h.6 h.7 (properties_no_value ps h.3 r h.8 e) in
-    rw is (all_item opens_property next_property properties_shrink bytes (p, h.3 ++ r) a.1 one ∙ rw (properties_again ps h.3 r h.8 e) refl)
+    rw is (all_item property_follows next_property properties_shrink bytes (p, h.3 ++ r) a.1 one ∙ rw (properties_again ps h.3 r h.8 e) refl)

@@ -5,7 +5,7 @@ use Rattle.tt_sgf.specs.Bytes.{open_value}
 use Rattle.tt_sgf.specs.declared.faults.SgfFault.{SgfFault}
 use Rattle.tt_sgf.specs.declared.faults.SgfFault.TheVariants as faults
 use Rattle.tt_sgf.specs.declared.nodes.Property.{Property}
-use Rattle.tt_sgf.specs.inside.Reading.{◌>>=◌, Fails, raw_at, opens_value, value_at, values_at, property_at, opens_property, properties_at}
+use Rattle.tt_sgf.specs.inside.Reading.{◌>>=◌, Fails, raw_at, opens_value, value_at, values_at, property_at, property_follows, properties_at}
 use Rattle.tt_sgf.specs.Values.{after_blanks}
 use Rattle.tt_sgf.proofs.TokenLemmas.{with_front}
 use Rattle.tt_sgf.proofs.RepeatLemmas.{repeat_stop, repeat_bad, all_more}
@@ -48,12 +48,12 @@ unfolding values_at
 values_end bytes front total e h =
     sym h ∙ rw (repeat_stop opens_value value_at (length bytes) bytes e) (ap (λ (xs : List (List ℕ)). Some (xs, bytes)) (append-nil front))
 
-module _ (bytes : List ℕ) (is : opens_property bytes ≡ true) where
+module _ (bytes : List ℕ) (is : property_follows bytes ≡ true) where
   -- one property more: it joins those read before, and the total stays
   pub properties_more : (front : List Property) (p : Property) (after : List ℕ) (total : Option (List Property × List ℕ)) → property_at (after_blanks bytes) ≡ Some (p, after)
       → (properties_at bytes >>= with_front front) ≡ total → (properties_at after >>= with_front (front ++ p ∷ [])) ≡ total
   unfolding properties_at
-  properties_more front p after total f h = all_more opens_property next_property properties_shrink front bytes (p, after) is f ∙ h
+  properties_more front p after total f h = all_more property_follows next_property properties_shrink front bytes (p, after) is f ∙ h
 
   -- less is left behind a property
   pub properties_shorter : (p : Property) (after : List ℕ) → property_at (after_blanks bytes) ≡ Some (p, after) → length after < length bytes
@@ -64,14 +64,14 @@ module _ (bytes : List ℕ) (is : opens_property bytes ≡ true) where
       → (properties_at bytes >>= with_front front) ≡ total → Fails e total
   unfolding properties_at
   properties_fail e front total f h =
-      fails_on e _ total (λ n. sym h ∙ ap (λ (o : Option (List Property × List ℕ)). o >>= with_front front) (repeat_bad opens_property next_property (length bytes) bytes is n)) f
+      fails_on e _ total (λ n. sym h ∙ ap (λ (o : Option (List Property × List ℕ)). o >>= with_front front) (repeat_bad property_follows next_property (length bytes) bytes is n)) f
 
 -- where no property follows, those read before are all
-pub properties_end : (bytes : List ℕ) (front : List Property) (total : Option (List Property × List ℕ)) → opens_property bytes ≡ false
+pub properties_end : (bytes : List ℕ) (front : List Property) (total : Option (List Property × List ℕ)) → property_follows bytes ≡ false
     → (properties_at bytes >>= with_front front) ≡ total → total ≡ Some (front, bytes)
 unfolding properties_at
 properties_end bytes front total e h =
-    sym h ∙ rw (repeat_stop opens_property next_property (length bytes) bytes e) (ap (λ (xs : List Property). Some (xs, bytes)) (append-nil front))
+    sym h ∙ rw (repeat_stop property_follows next_property (length bytes) bytes e) (ap (λ (xs : List Property). Some (xs, bytes)) (append-nil front))
 
 -- a fault of syntax says that nothing is read
 pub none_at : {A : Type 0} (e : SgfFault) (o : Option A) → Fails e o → e ≡ faults.Syntax → o ≡ None

@@ -4,7 +4,7 @@ use Rattle.std.proofs.lemmas.Bool.{eqb-true, le-leb, cases_Bool, cases_lt, lt-le
 use Rattle.std.proofs.lemmas.List.{append-nil, drop_more, drop_all}
 use Rattle.tt_sgf.specs.Bytes.{digit_0, plus}
 use Rattle.tt_sgf.specs.Grammar.{is_blank, is_digit, AreBlanks}
-use Rattle.tt_sgf.specs.Values.{after_blanks, StandsAloneIn, AreDigits, value_of_digits, IsNumeral, IsUnsignedNumber, prepend_unless_last_blank, without_end, trimmed, bounded_value_of_digits, value_of_some_digits, behind_plus, numeral_of, number_of}
+use Rattle.tt_sgf.specs.Values.{after_blanks, StandsAloneIn, AreDigits, value_of_digits, IsNumeral, IsUnsignedNumber, prepend_unless_last_blank, without_end, trimmed, bounded_value_of_digits, value_of_some_digits, without_plus, numeral_of, number_of}
 use Rattle.tt_sgf.proofs.TokenLemmas.{after_blanks-again, after_blanks-other, after_blanks-nil, blanks_take}
 
 -- ---- white space at the end
@@ -146,7 +146,7 @@ some_again [] ne d le = absurd (ne refl)
 some_again (b ∷ bs) ne d le = digits_again 0 (b ∷ bs) d le
 
 -- digits have no `+` before them to leave out
-plus_digits : (bs : List ℕ) → AreDigits bs → behind_plus bs ≡ bs
+plus_digits : (bs : List ℕ) → AreDigits bs → without_plus bs ≡ bs
 plus_digits [] d = refl
 plus_digits (b ∷ bs) d = rw (digit_is_no_plus b d.0) refl
 

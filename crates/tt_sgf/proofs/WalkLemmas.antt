@@ -8,8 +8,8 @@ use Rattle.tt_sgf.specs.Bytes.{open_tree}
 use Rattle.tt_sgf.specs.declared.nodes.Node.{Node}
 use Rattle.tt_sgf.specs.declared.trees.Event.{Event}
 use Rattle.tt_sgf.specs.declared.trees.Event.TheVariants.{Open, Close, Item}
-use Rattle.tt_sgf.specs.declared.trees.TreeProgress.{TreeProgress}
-use Rattle.tt_sgf.specs.declared.trees.TreeProgress.TheVariants.{Opened, Nodes, Trees as Behind}
+use Rattle.tt_sgf.specs.declared.trees.ParserState.{ParserState}
+use Rattle.tt_sgf.specs.declared.trees.ParserState.TheVariants.{Opened, Nodes, Trees as Behind}
 use Rattle.tt_sgf.specs.Grammar.{GameTree, Trees, game, no_tree, more_trees, Spells, AreTrees, main_line, first_main_line}
 use Rattle.tt_sgf.specs.inside.Reading.{Begins, event_at}
 use Rattle.tt_sgf.proofs.EventLemmas.{event_open, EventsAt, EventsAt-push, two_rows}
@@ -19,7 +19,7 @@ use Rattle.tt_sgf.proofs.GrammarLemmas.{items_then, tree_then, trees_then, spell
 
 -- at a place within so many trees around the innermost open one, at the end, or nowhere
 pub data State : Type 0 where
-  within : TreeProgress → ℕ → State
+  within : ParserState → ℕ → State
   done : State
   stuck : State
 
@@ -94,13 +94,13 @@ run-tree ns ts ne whole = run-inside ns ts 0 [] _ ne (run-nodes ts 0 [] whole)
 -- ---- what a finished walk went over
 
 -- what a tree still has of nodes: one or more right behind its bracket, any amid them, none behind sub-trees
-abbrev pub Begun : TreeProgress → List Node → Type 0
+abbrev pub Begun : ParserState → List Node → Type 0
 Begun Opened ns = ns ≢ []
 Begun Nodes ns = Unit {0}
 Begun Behind ns = ns ≡ []
 
 -- the ends of the innermost open tree and of those around it
-abbrev pub Closes : TreeProgress → ℕ → List Event → Type 0
+abbrev pub Closes : ParserState → ℕ → List Event → Type 0
 Closes p zero evs = (ns : List Node) × (ts : Trees) × Begun p ns × AreWhole ts × (evs ≡ items_then ns (trees_then ts (Close ∷ [])))
 Closes p (suc d) evs = (ns : List Node) × (ts : Trees) × (es : List Event) × Begun p ns × AreWhole ts × (evs ≡ items_then ns (trees_then ts (Close ∷ es))) × Closes Behind d es
 
@@ -114,7 +114,7 @@ only_end [] h = refl
 only_end (e ∷ es) h = absurd (not_done es h)
 
 -- an event before the end of the innermost tree
-closes_open : (p : TreeProgress) (d : ℕ) (es : List Event) → Begun p [] → Closes Opened (suc d) es → Closes p d (Open ∷ es)
+closes_open : (p : ParserState) (d : ℕ) (es : List Event) → Begun p [] → Closes Opened (suc d) es → Closes p d (Open ∷ es)
 closes_open p zero es b h =
     let o = h.6 in (
       [],
@@ -136,12 +136,12 @@ closes_open p (suc d) es b h =
     )
 
 -- a node before the ends of all open trees is the first of their nodes
-closes_item : (p : TreeProgress) (d : ℕ) (n : Node) (es : List Event) → ((ns : List Node) → Begun p (n ∷ ns)) → Closes Nodes d es → Closes p d (Item n ∷ es)
+closes_item : (p : ParserState) (d : ℕ) (n : Node) (es : List Event) → ((ns : List Node) → Begun p (n ∷ ns)) → Closes Nodes d es → Closes p d (Item n ∷ es)
 closes_item p zero n es b h = (n ∷ h.0, h.1, b h.0, h.3, ap (λ (x : List Event). Item n ∷ x) h.4)
 closes_item p (suc d) n es b h = (n ∷ h.0, h.1, h.2, b h.0, h.4, ap (λ (x : List Event). Item n ∷ x) h.5, h.6)
 
 -- what leads to the end is the ends of all trees that are open
-pub closes : (p : TreeProgress) (d : ℕ) (es : List Event) → run (within p d) es ≡ done → Closes p d es
+pub closes : (p : ParserState) (d : ℕ) (es : List Event) → run (within p d) es ≡ done → Closes p d es
 closes p d [] h = absurd cc
 closes Opened d (Open ∷ es) h = absurd (not_done es h)
 closes Nodes d (Open ∷ es) h = closes_open Nodes d es tt (closes Opened (suc d) es h)
@@ -217,39 +217,39 @@ has_close-stays (Item n ∷ es) fs h = has_close-stays es fs h
 -- ---- how far the reader has come
 
 -- an opening bracket leads one tree deeper, unless it stands right behind another
-step_open : (p : TreeProgress) (d : ℕ) → p ≢ Opened → step (within p d) Open ≡ within Opened (d + 1)
+step_open : (p : ParserState) (d : ℕ) → p ≢ Opened → step (within p d) Open ≡ within Opened (d + 1)
 step_open Opened d ne = absurd (ne refl)
 step_open Nodes d ne = ap (within Opened) (omega arith)
 step_open Behind d ne = ap (within Opened) (omega arith)
 
 -- a closing one leads out of the innermost of several trees, unless it stands right behind an opening one
-step_close : (p : TreeProgress) (d : ℕ) → p ≢ Opened → 0 < d → step (within p d) Close ≡ within Behind (d - 1)
+step_close : (p : ParserState) (d : ℕ) → p ≢ Opened → 0 < d → step (within p d) Close ≡ within Behind (d - 1)
 step_close p zero ne lt = absurd (omega arith)
 step_close Opened (suc d) ne lt = absurd (ne refl)
 step_close Nodes (suc d) ne lt = ap (within Behind) (omega arith)
 step_close Behind (suc d) ne lt = ap (within Behind) (omega arith)
 
 -- a node leads among nodes, unless it stands behind sub-trees
-step_item : (p : TreeProgress) (d : ℕ) (n : Node) → p ≢ Behind → step (within p d) (Item n) ≡ within Nodes d
+step_item : (p : ParserState) (d : ℕ) (n : Node) → p ≢ Behind → step (within p d) (Item n) ≡ within Nodes d
 step_item Opened d n ne = refl
 step_item Nodes d n ne = refl
 step_item Behind d n ne = absurd (ne refl)
 
 -- the bracket that closes the only tree leads to the end
-step_last : (p : TreeProgress) → p ≢ Opened → step (within p 0) Close ≡ done
+step_last : (p : ParserState) → p ≢ Opened → step (within p 0) Close ≡ done
 step_last Opened ne = absurd (ne refl)
 step_last Nodes ne = refl
 step_last Behind ne = refl
 
 -- events lead from the bytes to the rest and to the place; the nodes are their line, over once one closed
-pub record Far (bytes rest : List ℕ) (p : TreeProgress) (d : ℕ) (on_main : Bool) (nodes : List Node) : Type 0 where
+pub record Far (bytes rest : List ℕ) (p : ParserState) (d : ℕ) (on_main : Bool) (nodes : List Node) : Type 0 where
   pub events : List Event
   pub goes : EventsAt bytes events rest
   pub at : run (within Opened 0) events ≡ within p d
   pub so_far : line events ≡ nodes
   pub closed : has_close events ≡ not on_main
 
-module _ (bytes rest : List ℕ) (p : TreeProgress) (d : ℕ) (on_main : Bool) (nodes : List Node) (far : Far bytes rest p d on_main nodes) where
+module _ (bytes rest : List ℕ) (p : ParserState) (d : ℕ) (on_main : Bool) (nodes : List Node) (far : Far bytes rest p d on_main nodes) where
   -- one event more leads on from the place
   step_to : (e : Event) (s : State) → step (within p d) e ≡ s → run (within Opened 0) (far.events ++ e ∷ []) ≡ s
   step_to e s h = run-append (within Opened 0) far.events (e ∷ []) ∙ ap (λ (x : State). step x e) far.at ∙ h
@@ -362,10 +362,10 @@ module _ (bytes rest : List ℕ) (p : TreeProgress) (d : ℕ) (on_main : Bool) (
 
   -- brackets right behind an opening one, and nodes behind sub-trees, don't lead on
   pub far_refused_open : (after : List ℕ) → event_at rest ≡ Some (Open, after) → p ≡ Opened → (t : GameTree) (q : List ℕ) → Begins (open_tree ∷ bytes) t q → ⊥
-  far_refused_open after h e = refused Open after h (ap (λ (x : TreeProgress). step (within x d) Open) e)
+  far_refused_open after h e = refused Open after h (ap (λ (x : ParserState). step (within x d) Open) e)
 
   pub far_refused_close : (after : List ℕ) → event_at rest ≡ Some (Close, after) → p ≡ Opened → (t : GameTree) (q : List ℕ) → Begins (open_tree ∷ bytes) t q → ⊥
-  far_refused_close after h e = refused Close after h (ap (λ (x : TreeProgress). step (within x d) Close) e)
+  far_refused_close after h e = refused Close after h (ap (λ (x : ParserState). step (within x d) Close) e)
 
   pub far_refused_item : (n : Node) (after : List ℕ) → event_at rest ≡ Some (Item n, after) → p ≡ Behind → (t : GameTree) (q : List ℕ) → Begins (open_tree ∷ bytes) t q → ⊥
-  far_refused_item n after h e = refused (Item n) after h (ap (λ (x : TreeProgress). step (within x d) (Item n)) e)
+  far_refused_item n after h e = refused (Item n) after h (ap (λ (x : ParserState). step (within x d) (Item n)) e)

@@ -101,13 +101,13 @@ value_of_some_digits [] = None
 value_of_some_digits (b ∷ bs) = bounded_value_of_digits 0 (b ∷ bs)
 
 -- without a `+` at the front
-abbrev pub behind_plus : List ℕ → List ℕ
-behind_plus [] = []
-behind_plus (b ∷ bs) = cond (b == plus) bs (b ∷ bs)
+abbrev pub without_plus : List ℕ → List ℕ
+without_plus [] = []
+without_plus (b ∷ bs) = cond (b == plus) bs (b ∷ bs)
 
 -- the number that a text is
 abbrev pub numeral_of : List ℕ → Option ℕ
-numeral_of text = value_of_some_digits (behind_plus text)
+numeral_of text = value_of_some_digits (without_plus text)
 
 -- the number that a value is
 unfoldable pub number_of : List ℕ → Option ℕ

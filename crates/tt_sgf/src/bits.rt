@@ -78,7 +78,7 @@ impl Bits {
     }
 
     /// Makes the bit of a number 0.
-    pub fn clear(&mut self, n: usize)
+    pub fn clear_bit(&mut self, n: usize)
         requires { n < BITS }
         ensures same { bit_in self.new.words n ≡ false }
         ensures others { (q : ℕ) → q < BITS → (q ≡ n → ⊥) → bit_in self.new.words q ≡ bit_in self.old.words q }
@@ -87,7 +87,7 @@ impl Bits {
     }
 
     /// Makes the bit of a number 1 or 0.
-    pub fn put(&mut self, n: usize, on: bool)
+    pub fn write_bit(&mut self, n: usize, on: bool)
         requires { n < BITS }
         ensures same { bit_in self.new.words n ≡ on }
         ensures others { (q : ℕ) → q < BITS → (q ≡ n → ⊥) → bit_in self.new.words q ≡ bit_in self.old.words q }
@@ -95,7 +95,7 @@ impl Bits {
         if on {
             self.set(n);
         } else {
-            self.clear(n);
+            self.clear_bit(n);
         }
     }
 
@@ -119,7 +119,7 @@ impl Bits {
     }
 
     /// How many bits of points are 1.
-    pub(crate) fn count(&self) -> u16
+    pub(crate) fn count_points(&self) -> u16
         ensures { result ≡ set.len (points_of self.now.words) }
     {
         let mut count: u16 = 0;
@@ -132,7 +132,7 @@ impl Bits {
     }
 
     /// The bits of the numbers below `count`, with 0 for all others.
-    pub fn below(&self, count: usize) -> Bits
+    pub fn truncated_to(&self, count: usize) -> Bits
         ensures kept { (q : ℕ) → q < BITS → q < count → bit_in result.words q ≡ bit_in self.now.words q }
         ensures none { (q : ℕ) → q < BITS → count ≤ q → bit_in result.words q ≡ false }
     {

@@ -29,7 +29,7 @@ mod value_kinds;
 
 pub use bits::{BITS, Bits};
 pub use faults::{BadPoint, NoMemory, SgfFault};
-pub use nodes::items::Items;
+pub use nodes::items::ItemList;
 pub use nodes::small_bytes::SmallBytes;
 pub use nodes::values::Values;
 pub use nodes::{MainLine, Node, Property};

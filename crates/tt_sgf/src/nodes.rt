@@ -4,7 +4,7 @@ pub(crate) mod items;
 pub(crate) mod small_bytes;
 pub(crate) mod values;
 
-use crate::nodes::items::Items;
+use crate::nodes::items::ItemList;
 use crate::nodes::small_bytes::SmallBytes;
 use crate::nodes::values::Values;
 
@@ -21,12 +21,12 @@ pub struct Property {
 #[derive(Drop)]
 pub struct Node {
     /// The properties, as they stood.
-    pub properties: Items<Property>,
+    pub properties: ItemList<Property>,
 }
 
 /// The nodes of a game tree, followed by the main line of its first sub-tree where it has one.
 #[derive(Drop)]
 pub struct MainLine {
     /// The nodes from the root on, at least one where `read_tree` made it.
-    pub nodes: Items<Node>,
+    pub nodes: ItemList<Node>,
 }

@@ -1,7 +1,7 @@
 //! Properties: an identifier with its values, and the lists of both.
 
 ghost use Rattle.std.specs.Prelude.{◌≡◌};
-ghost use Rattle.tt_sgf.specs.inside.Reading.{values_at, property_at, opens_property, properties_at, Gives};
+ghost use Rattle.tt_sgf.specs.inside.Reading.{values_at, property_at, property_follows, properties_at, Gives};
 
 use crate::faults::SgfFault;
 use crate::nodes::Property;
@@ -45,8 +45,8 @@ fn read_property(alloc: Global, bytes: &[u8]) -> Result<(Property, &[u8]), SgfFa
 }
 
 /// Whether a letter or a digit follows.
-fn opens_property(bytes: &[u8]) -> bool
-    ensures { result ≡ opens_property bytes.now }
+fn property_follows(bytes: &[u8]) -> bool
+    ensures { result ≡ property_follows bytes.now }
 {
     match skip_blanks(bytes).first() {
         Some(b) => is_letter_or_digit(*b),
@@ -60,7 +60,7 @@ pub(crate) fn properties(alloc: Global, bytes: &[u8]) -> Result<(Vec<Property>, 
 {
     let mut properties = Vec::new(alloc);
     let mut rest = bytes;
-    while opens_property(rest) {
+    while property_follows(rest) {
         let (one, after) = read_property(alloc, skip_blanks(rest))?;
         add(&mut properties, one)?;
         rest = after;

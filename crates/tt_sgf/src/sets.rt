@@ -77,7 +77,7 @@ impl PointSet {
     pub fn count(&self) -> u16
         ensures { result ≡ set.len self.now }
     {
-        self.bits.count()
+        self.bits.count_points()
     }
 
     /// The point of the set with the least number: none exactly where the set is empty.
@@ -102,10 +102,10 @@ impl PointSet {
 
     /// The points of the set that a board of this size has, as bits: that of the point `p` is bit `p % 64` of word
     /// `p / 64`, and bits of no point are 0.
-    pub fn words_on(&self, size: Size) -> [u64; 6]
+    pub fn words_on_board(&self, size: Size) -> [u64; 6]
         ensures { AreBitsOf result (point_count size) (λ p. set.contains self.now p) }
     {
-        self.bits.below(size.point_count()).words()
+        self.bits.truncated_to(size.point_count()).words()
     }
 
     /// The points of the set as bits: that of the point `p` is bit `p % 64` of word `p / 64`, and bits of no point are 0.

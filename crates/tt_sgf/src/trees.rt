@@ -8,7 +8,7 @@ ghost use Rattle.tt_sgf.specs.Grammar.{GameTree, main_line, FirstTreeEndsAt, Has
 ghost use Rattle.tt_sgf.specs.inside.Reading.{event_at, Begins, Gives};
 
 use crate::faults::SgfFault;
-use crate::nodes::items::Items;
+use crate::nodes::items::ItemList;
 use crate::nodes::{MainLine, Node};
 use crate::properties::properties;
 use crate::tokens::skip_blanks;
@@ -34,7 +34,7 @@ fn next_event(alloc: Global, bytes: &[u8]) -> Result<(Event, &[u8]), SgfFault>
             let (properties, rest) = properties(alloc, after)?;
             Ok((
                 Event::Item(Node {
-                    properties: Items::from_vec(properties),
+                    properties: ItemList::from_vec(properties),
                 }),
                 rest,
             ))
@@ -45,7 +45,7 @@ fn next_event(alloc: Global, bytes: &[u8]) -> Result<(Event, &[u8]), SgfFault>
 
 /// Where a reader stands in the innermost open tree: right behind its bracket, among its nodes, or behind a sub-tree.
 #[derive(Clone, Copy)]
-enum TreeProgress {
+enum ParserState {
     Opened,
     Nodes,
     Trees,
@@ -59,7 +59,7 @@ fn tree(alloc: Global, bytes: &[u8]) -> Result<(Vec<Node>, &[u8]), SgfFault>
 {
     let mut nodes = Vec::new(alloc);
     let mut rest = bytes;
-    let mut in_tree = TreeProgress::Opened;
+    let mut in_tree = ParserState::Opened;
     let mut enclosing = 0usize;
     let mut on_main = true;
     loop {
@@ -67,31 +67,31 @@ fn tree(alloc: Global, bytes: &[u8]) -> Result<(Vec<Node>, &[u8]), SgfFault>
         rest = after;
         match event {
             Event::Open => {
-                if let TreeProgress::Opened = in_tree {
+                if let ParserState::Opened = in_tree {
                     return Err(SgfFault::Syntax);
                 }
                 enclosing += 1;
-                in_tree = TreeProgress::Opened;
+                in_tree = ParserState::Opened;
             }
             Event::Close => {
-                if let TreeProgress::Opened = in_tree {
+                if let ParserState::Opened = in_tree {
                     return Err(SgfFault::Syntax);
                 }
                 if enclosing == 0 {
                     return Ok((nodes, rest));
                 }
                 enclosing -= 1;
-                in_tree = TreeProgress::Trees;
+                in_tree = ParserState::Trees;
                 on_main = false;
             }
             Event::Item(node) => {
-                if let TreeProgress::Trees = in_tree {
+                if let ParserState::Trees = in_tree {
                     return Err(SgfFault::Syntax);
                 }
                 if on_main {
                     nodes.push(node)?;
                 }
-                in_tree = TreeProgress::Nodes;
+                in_tree = ParserState::Nodes;
             }
         }
     }
@@ -101,7 +101,7 @@ fn tree(alloc: Global, bytes: &[u8]) -> Result<(Vec<Node>, &[u8]), SgfFault>
 pub const MAX_BYTES: usize = 1_048_576;
 
 /// Where the first `(` stands.
-fn first_open(bytes: &[u8]) -> Option<usize>
+fn first_opening_parenthesis(bytes: &[u8]) -> Option<usize>
     ensures { MatchOption result (list_any (λ b. b == open_tree) bytes.now ≡ false)
         (λ i. (i < length bytes.now) × (list_any (λ b. b == open_tree) (take i bytes.now) ≡ false) × (slice_index bytes.now i ≡ open_tree)) }
 {
@@ -141,13 +141,13 @@ pub fn read_tree(alloc: Global, bytes: &[u8]) -> Result<(MainLine, usize), SgfFa
     if bytes.len() > MAX_BYTES {
         return Err(SgfFault::TooLong);
     }
-    let Some(start) = first_open(bytes) else {
+    let Some(start) = first_opening_parenthesis(bytes) else {
         return Err(SgfFault::Syntax);
     };
     let (nodes, rest) = tree(alloc, &bytes[start + 1..])?;
     Ok((
         MainLine {
-            nodes: Items::from_vec(nodes),
+            nodes: ItemList::from_vec(nodes),
         },
         bytes.len() - rest.len(),
     ))

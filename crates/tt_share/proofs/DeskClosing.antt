@@ -12,7 +12,7 @@ use lib.ListN.{get_elem?}
 use Rattle.tt_share.specs.declared.desk.rule.SeatKnowledge.{SeatKnowledge}
 use Rattle.tt_share.specs.declared.desk.rule.DeskSize.{DeskSize}
 use Rattle.tt_share.specs.Desk.{knowledge_of, no_knowledge, joined_knowledge, sum_below, overdraw_count, EachSeat, IsDesk}
-use Rattle.tt_share.specs.Seats.{DeskView, SeatView, EachOnce, OverdrawMeansAllDrawn, EndsInOverdraw, AreGrantsOfTotal}
+use Rattle.tt_share.specs.Seats.{DeskModel, SeatModel, EachNumberInOneSeat, OverdrawMeansAllDrawn, EndsInOverdraw, AreGrantsOfTotal}
 use Rattle.tt_share.specs.inside.Gathering.{Gathers}
 use Rattle.tt_share.proofs.DeskLists.{at_within, at_read, sum_set, sum_at, sum_le}
 use Rattle.tt_share.proofs.DeskMoves.{counts_room, each_set, right_true}
@@ -41,11 +41,11 @@ or_swap false true c e = e
 or_swap false false c e = e
 
 -- what the table's seat of a seat knows
-abbrev pub sat_as : SeatView → SeatKnowledge
+abbrev pub sat_as : SeatModel → SeatKnowledge
 sat_as s = knowledge_of 1 s.numbers s.grants s.flag s.saw_flag
 
 -- what one seat knows gathers that seat
-pub gathers_first : (s : SeatView) → Gathers (s ∷ []) (sat_as s)
+pub gathers_first : (s : SeatModel) → Gathers (s ∷ []) (sat_as s)
 gathers_first s = record {
   seat_count = refl;
   numbers = λ weight. zero-add (sum_by weight s.numbers);
@@ -55,17 +55,17 @@ gathers_first s = record {
 }
 
 -- joined with what one more seat knows, it gathers that seat too
-pub gathers_more : (s : SeatView) (taken : List SeatView) (v : SeatKnowledge) → Gathers taken v → Gathers (s ∷ taken) (joined_knowledge v (sat_as s))
+pub gathers_more : (s : SeatModel) (taken : List SeatModel) (v : SeatKnowledge) → Gathers taken v → Gathers (s ∷ taken) (joined_knowledge v (sat_as s))
 gathers_more s taken v h = record {
   seat_count = let p = h.seat_count in omega arith;
   numbers = λ weight.
       let was = h.numbers weight in
-      let c = sum_by-cons (λ (t : SeatView). sum_by weight t.numbers) s taken in
+      let c = sum_by-cons (λ (t : SeatModel). sum_by weight t.numbers) s taken in
       let a = sum_by-append weight v.numbers s.numbers in
       omega arith;
   grants = λ weight.
       let was = h.grants weight in
-      let c = sum_by-cons (λ (t : SeatView). sum_by weight t.grants) s taken in
+      let c = sum_by-cons (λ (t : SeatModel). sum_by weight t.grants) s taken in
       let a = sum_by-append weight v.grants s.grants in
       omega arith;
   marks = or_swap s.flag v.flag (list_any (λ t. t.flag) taken) h.marks;
@@ -120,9 +120,9 @@ least_below limit zero = omega arith
 least_below limit (suc n) = let e = least_below limit n in grind (arith, nat_tests)
 
 -- what the lists of all seats show, where however numbers are weighed they weigh as those below the count
-module _ (list : SeatView → List ℕ) (count : ℕ) (seats : List SeatView) (weights : (weight : ℕ → ℕ) → sum_by (λ (s : SeatView). sum_by weight (list s)) seats ≡ sum_below weight count) where
+module _ (list : SeatModel → List ℕ) (count : ℕ) (seats : List SeatModel) (weights : (weight : ℕ → ℕ) → sum_by (λ (s : SeatModel). sum_by weight (list s)) seats ≡ sum_below weight count) where
   -- the numbers in the lists are those below the count, each once
-  each_once : EachOnce list count seats
+  each_once : EachNumberInOneSeat list count seats
   each_once = record {
     count_is = sum_same (λ s. length (list s)) (λ s. sum_by (λ _. 1) (list s)) seats (λ s. sym (ones (list s))) ∙ (weights (λ _. 1) ∙ ones_below count);
     below = λ n lt. weights (λ k. cond (nat_eq k n) 1 0) ∙ once_below n count lt;
@@ -134,9 +134,9 @@ module _ (list : SeatView → List ℕ) (count : ℕ) (seats : List SeatView) (w
   spares limit = weights (λ k. cond (leb limit k) 1 0) ∙ spares_exact limit count
 
   -- where some list ends with a number that is not below the limit, the count is above it
-  beyond : (limit : ℕ) → 0 < limit → (s : SeatView) → Contains seats s → EndsInOverdraw limit (list s) → limit < count
+  beyond : (limit : ℕ) → 0 < limit → (s : SeatModel) → Contains seats s → EndsInOverdraw limit (list s) → limit < count
   beyond limit positive s has ends =
-      let overdraw : SeatView → ℕ = λ t. overdraw_count limit (list t) in
+      let overdraw : SeatModel → ℕ = λ t. overdraw_count limit (list t) in
       let one : overdraw s ≤ sum_by overdraw seats = All-contains (λ t. overdraw t ≤ sum_by overdraw seats) seats s (λ k d within. get_or-le-sum_by overdraw seats k d within) has in
       let mine : 1 ≤ overdraw s = ends_overdraw limit (list s) positive ends in
       let all = spares limit in
@@ -147,16 +147,16 @@ module _ (list : SeatView → List ℕ) (count : ℕ) (seats : List SeatView) (w
   uses limit positive s has ends number lt = each_once.below number (let b = beyond limit positive s has ends in omega arith)
 
   -- where each list ends with a overdraw number, the count is at least the limit and the number of seats, added up
-  all_overdraw : (limit : ℕ) → 0 < limit → 0 < length seats → All (λ (s : SeatView). EndsInOverdraw limit (list s)) seats → limit + length seats ≤ count
+  all_overdraw : (limit : ℕ) → 0 < limit → 0 < length seats → All (λ (s : SeatModel). EndsInOverdraw limit (list s)) seats → limit + length seats ≤ count
   all_overdraw limit positive some_seat all =
       let least = sum_le (λ _. 1) (λ s. overdraw_count limit (list s)) seats
-      (λ i s e. ends_overdraw limit (list s) positive (subst (λ (t : SeatView). EndsInOverdraw limit (list t)) (at_read seats i s s e) (all i s (at_within seats i s e)))) in
+      (λ i s e. ends_overdraw limit (list s) positive (subst (λ (t : SeatModel). EndsInOverdraw limit (list t)) (at_read seats i s s e) (all i s (at_within seats i s e)))) in
       let number = ones seats in
       let exact = spares limit in
       omega arith
 
 -- what the seats show of the grants of a total
-spends : (total word : ℕ) (seats : List SeatView) → 0 < total → ((weight : ℕ → ℕ) → sum_by (λ (s : SeatView). sum_by weight s.grants) seats ≡ sum_below weight word)
+spends : (total word : ℕ) (seats : List SeatModel) → 0 < total → ((weight : ℕ → ℕ) → sum_by (λ (s : SeatModel). sum_by weight s.grants) seats ≡ sum_below weight word)
     → AreGrantsOfTotal total (min word total) seats
 spends total word seats positive weights = record {
   asked = (word, each_once (λ s. s.grants) word seats weights, refl);
@@ -165,8 +165,8 @@ spends total word seats positive weights = record {
 }
 
 -- what seats of a closed desk show, where its words are known
-pub record End (desk : DeskView) (seats : List SeatView) (drawn asked : ℕ) : Type 0 where
-  pub draws : EachOnce (λ s. s.numbers) drawn seats
+pub record End (desk : DeskModel) (seats : List SeatModel) (drawn asked : ℕ) : Type 0 where
+  pub draws : EachNumberInOneSeat (λ s. s.numbers) drawn seats
   pub jobs_drawn : OverdrawMeansAllDrawn (λ s. s.numbers) desk.jobs seats
   pub draws_most : drawn ≤ desk.jobs + desk.seats
   pub draws_are : All (λ s. EndsInOverdraw desk.jobs s.numbers) seats → drawn ≡ desk.jobs + desk.seats
@@ -174,14 +174,14 @@ pub record End (desk : DeskView) (seats : List SeatView) (drawn asked : ℕ) : T
   pub grants : (total : ℕ) → 0 < total → AreGrantsOfTotal total (min asked total) seats
 
 -- where one gathers all seats and stands for all, they show what seats of a closed desk show
-pub closes : (desk : DeskView) (plan : DeskSize) (drawn flag asked : ℕ) (knowledge : List SeatKnowledge) (id : ℕ) (v : SeatKnowledge) (seats : List SeatView) → plan.jobs ≡ desk.jobs → plan.seats ≡ desk.seats
+pub closes : (desk : DeskModel) (plan : DeskSize) (drawn flag asked : ℕ) (knowledge : List SeatKnowledge) (id : ℕ) (v : SeatKnowledge) (seats : List SeatModel) → plan.jobs ≡ desk.jobs → plan.seats ≡ desk.seats
     → length seats ≡ desk.seats
     → 0 < desk.jobs → 0 < desk.seats → Gathers seats v → IsDesk plan drawn flag asked knowledge → get_elem? knowledge id ≡ some v → End desk seats drawn asked
 closes desk plan drawn flag asked knowledge id v seats same_jobs same_seats len some_job some_seat g h at =
     let all_parts : sum_by (λ u. u.seat_count) knowledge ≡ v.seat_count = let p = h.seat_count in let q = g.seat_count in omega arith in
-    let numbers : (weight : ℕ → ℕ) → sum_by (λ (s : SeatView). sum_by weight s.numbers) seats ≡ sum_below weight drawn = λ weight.
+    let numbers : (weight : ℕ → ℕ) → sum_by (λ (s : SeatModel). sum_by weight s.numbers) seats ≡ sum_below weight drawn = λ weight.
     g.numbers weight ∙ (sym (alone (λ u. sum_by weight u.numbers) knowledge id v at all_parts refl h.spent) ∙ h.draws.each_once weight) in
-    let grants : (weight : ℕ → ℕ) → sum_by (λ (s : SeatView). sum_by weight s.grants) seats ≡ sum_below weight asked = λ weight.
+    let grants : (weight : ℕ → ℕ) → sum_by (λ (s : SeatModel). sum_by weight s.grants) seats ≡ sum_below weight asked = λ weight.
     g.grants weight ∙ (sym (alone (λ u. sum_by weight u.grants) knowledge id v at all_parts refl h.spent) ∙ h.grants.each_once weight) in record {
       draws = each_once (λ s. s.numbers) drawn seats numbers;
       jobs_drawn = uses (λ s. s.numbers) drawn seats numbers desk.jobs some_job;
@@ -201,7 +201,7 @@ closes desk plan drawn flag asked knowledge id v seats same_jobs same_seats len 
     }
 
 -- what is known of the grants, where there is a total and where there is none
-pub grants_by : (total : Option ℕ) (key granted asked : ℕ) (seats : List SeatView) → MatchOption total (granted ≡ 0) (λ n. granted ≡ min asked n) → IfSome total (λ n. (key ≡ n) × (0 < n))
+pub grants_by : (total : Option ℕ) (key granted asked : ℕ) (seats : List SeatModel) → MatchOption total (granted ≡ 0) (λ n. granted ≡ min asked n) → IfSome total (λ n. (key ≡ n) × (0 < n))
     → ((n : ℕ) → 0 < n → AreGrantsOfTotal n (min asked n) seats) → MatchOption total (granted ≡ 0) (λ n. AreGrantsOfTotal n granted seats)
 grants_by None key granted asked seats is positive all = is
 grants_by (Some n) key granted asked seats is positive all = subst (λ (g : ℕ). AreGrantsOfTotal n g seats) (sym is) (all n positive.1)

@@ -13,8 +13,8 @@ use Rattle.atomic_table.specs.Table.{keeps, Allows, Splits, Joins}
 use Rattle.tt_share.specs.declared.desk.rule.SeatKnowledge.{SeatKnowledge}
 use Rattle.tt_share.specs.declared.desk.rule.DeskSize.{DeskSize}
 use Rattle.tt_share.specs.Desk.{fresh_knowledge, new_seat_knowledge, no_knowledge, knowledge_less_one_seat, joined_knowledge, knowledge_with_draw, knowledge_with_grant}
-use Rattle.tt_share.specs.Desk.{with_flag_raised, with_look, overdraw_count, EachSeat, SomeSeat, AreDealtNumbers, IsFlagOfSeats, IsDesk}
-use Rattle.tt_share.specs.Desk.{IsDeskInvariant, SeatState, CanFollow, DrawsNumber, AsksGrant, RaisesFlag, LooksAtFlag}
+use Rattle.tt_share.specs.Desk.{knowledge_with_flag_raised, knowledge_with_look, overdraw_count, EachSeat, SomeSeat, AreDealtNumbers, IsFlagOfSeats, IsDesk}
+use Rattle.tt_share.specs.Desk.{IsDeskInvariant, SeatState, CanBeNextNumber, IsSeatAfterDraw, IsSeatAfterGrant, IsSeatAfterRaise, IsSeatAfterLook}
 use Rattle.tt_share.specs.Seats.{last_number}
 use Rattle.tt_share.proofs.DeskLists.{at_within, sum_set, sum_at, sum_le, overdraw_below, none_below, below_by_weight, rising_push, rising_short, no_spares}
 
@@ -156,14 +156,14 @@ no_wrap n m le small = omega arith
 
 -- the number that a step finds is the seat's next one
 next_one : (numbers : SeatKnowledge → List ℕ) (limit count : ℕ) (knowledge : List SeatKnowledge) (id : ℕ) (v : SeatKnowledge) → AreDealtNumbers numbers limit count knowledge → get_elem? knowledge id ≡ some v
-    → v.seat_count ≡ 1 → CanFollow (numbers v) count
+    → v.seat_count ≡ 1 → CanBeNextNumber (numbers v) count
 next_one numbers limit count knowledge id v h at one =
     let up = h.rising id v at one in
     let below = counts_below numbers limit count knowledge id v h at in (rising_push (numbers v) count up below, rising_short (numbers v) count up below)
 
 -- a draw keeps the rule, and finds the seat's next number
 pub draws : (plan : DeskSize) (slots id : ℕ) (me : SeatState) → plan.jobs + plan.seats + 1 < 2 ^ 64 → me.1 ≡ [] → me.0.seat_count ≡ 1 → last_number me.0.numbers < plan.jobs
-    → Allows (IsDeskInvariant plan) slots id me 0 (λ n. (n + 1) % 2 ^ 64) (λ n after. DrawsNumber me n after)
+    → Allows (IsDeskInvariant plan) slots id me 0 (λ n. (n + 1) % 2 ^ 64) (λ n after. IsSeatAfterDraw me n after)
 draws plan slots id me small empty one job s h homes at fits =
     let v : SeatKnowledge = me.0 in
     let here : slice_index s.words 0 ≡ h.0 = ap (λ (l : List ℕ). slice_index l 0) h.3 in
@@ -181,12 +181,12 @@ draws plan slots id me small empty one job s h homes at fits =
       keeps,
       tt,
       (h.0 + 1, h.1, h.2, (λ k. set (h.3 k) 0 (next k)), subst (λ (n : ℕ). IsDesk plan (h.0 + 1) h.1 h.2 (set s.views id (knowledge_with_draw v n))) (sym here) desk),
-      (refl, subst (λ (n : ℕ). CanFollow v.numbers n) (sym here) (next_one (λ u. u.numbers) plan.jobs h.0 s.views id v h.4.draws at one)),
+      (refl, subst (λ (n : ℕ). CanBeNextNumber v.numbers n) (sym here) (next_one (λ u. u.numbers) plan.jobs h.0 s.views id v h.4.draws at one)),
     )
 
 -- an ask for a grant keeps the rule, and finds the seat's next number
 pub grants : (plan : DeskSize) (slots id : ℕ) (me : SeatState) → plan.total + plan.seats + 1 < 2 ^ 64 → me.1 ≡ [] → me.0.seat_count ≡ 1 → last_number me.0.grants < plan.total
-    → Allows (IsDeskInvariant plan) slots id me 2 (λ n. (n + 1) % 2 ^ 64) (λ n after. AsksGrant me n after)
+    → Allows (IsDeskInvariant plan) slots id me 2 (λ n. (n + 1) % 2 ^ 64) (λ n after. IsSeatAfterGrant me n after)
 grants plan slots id me small empty one left s h homes at fits =
     let v : SeatKnowledge = me.0 in
     let here : slice_index s.words 2 ≡ h.2 = ap (λ (l : List ℕ). slice_index l 2) h.3 in
@@ -204,14 +204,14 @@ grants plan slots id me small empty one left s h homes at fits =
       keeps,
       tt,
       (h.0, h.1, h.2 + 1, (λ k. set (h.3 k) 2 (next k)), subst (λ (n : ℕ). IsDesk plan h.0 h.1 (h.2 + 1) (set s.views id (knowledge_with_grant v n))) (sym here) desk),
-      (refl, subst (λ (n : ℕ). CanFollow v.grants n) (sym here) (next_one (λ u. u.grants) plan.total h.2 s.views id v h.4.grants at one)),
+      (refl, subst (λ (n : ℕ). CanBeNextNumber v.grants n) (sym here) (next_one (λ u. u.grants) plan.total h.2 s.views id v h.4.grants at one)),
     )
 
 -- raising the flag keeps the rule
-pub raises : (plan : DeskSize) (slots id : ℕ) (me : SeatState) → me.1 ≡ [] → me.0.seat_count ≡ 1 → Allows (IsDeskInvariant plan) slots id me 1 (λ n. max n 1) (λ _ after. RaisesFlag me after)
+pub raises : (plan : DeskSize) (slots id : ℕ) (me : SeatState) → me.1 ≡ [] → me.0.seat_count ≡ 1 → Allows (IsDeskInvariant plan) slots id me 1 (λ n. max n 1) (λ _ after. IsSeatAfterRaise me after)
 raises plan slots id me empty one s h homes at fits =
     let v : SeatKnowledge = me.0 in
-    let w : SeatKnowledge = with_flag_raised v in
+    let w : SeatKnowledge = knowledge_with_flag_raised v in
     let here : slice_index s.words 1 ≡ h.1 = ap (λ (l : List ℕ). slice_index l 1) h.3 in
     let next : max (slice_index s.words 1) 1 ≡ 1 = let b = h.4.marked.bit in omega arith in (
       w,
@@ -245,8 +245,8 @@ seen_now false false c φ p old new = new p
 
 -- a seat that looks at the flag leaves a desk a desk
 desk_looks : (plan : DeskSize) (drawn flag asked : ℕ) (knowledge : List SeatKnowledge) (id : ℕ) (v : SeatKnowledge) → IsDesk plan drawn flag asked knowledge → get_elem? knowledge id ≡ some v → v.seat_count ≡ 1
-    → IsDesk plan drawn flag asked (set knowledge id (with_look v (nat_eq flag 1)))
-desk_looks plan drawn flag asked knowledge id v h at one = let w : SeatKnowledge = with_look v (nat_eq flag 1) in record {
+    → IsDesk plan drawn flag asked (set knowledge id (knowledge_with_look v (nat_eq flag 1)))
+desk_looks plan drawn flag asked knowledge id v h at one = let w : SeatKnowledge = knowledge_with_look v (nat_eq flag 1) in record {
   seat_count = parts_same knowledge id v w at refl ∙ h.seat_count;
   spent = spent_same knowledge id w one h.spent;
   draws = counts_same (λ u. u.numbers) plan.jobs drawn knowledge id v w h.draws at refl refl;
@@ -260,11 +260,11 @@ desk_looks plan drawn flag asked knowledge id v h at one = let w : SeatKnowledge
 }
 
 -- looking at the flag keeps the rule
-pub looks : (plan : DeskSize) (slots id : ℕ) (me : SeatState) → me.1 ≡ [] → me.0.seat_count ≡ 1 → Allows (IsDeskInvariant plan) slots id me 1 (λ n. n) (λ n after. LooksAtFlag me n after)
+pub looks : (plan : DeskSize) (slots id : ℕ) (me : SeatState) → me.1 ≡ [] → me.0.seat_count ≡ 1 → Allows (IsDeskInvariant plan) slots id me 1 (λ n. n) (λ n after. IsSeatAfterLook me n after)
 looks plan slots id me empty one s h homes at fits =
     let v : SeatKnowledge = me.0 in
     let here : slice_index s.words 1 ≡ h.1 = ap (λ (l : List ℕ). slice_index l 1) h.3 in (
-      with_look v (nat_eq (slice_index s.words 1) 1),
+      knowledge_with_look v (nat_eq (slice_index s.words 1) 1),
       keeps,
       tt,
       (
@@ -272,7 +272,7 @@ looks plan slots id me empty one s h homes at fits =
         h.1,
         h.2,
         (λ k. set (h.3 k) 1 (here k)),
-        subst (λ (n : ℕ). IsDesk plan h.0 h.1 h.2 (set s.views id (with_look v (nat_eq n 1)))) (sym here) (desk_looks plan h.0 h.1 h.2 s.views id v h.4 at one),
+        subst (λ (n : ℕ). IsDesk plan h.0 h.1 h.2 (set s.views id (knowledge_with_look v (nat_eq n 1)))) (sym here) (desk_looks plan h.0 h.1 h.2 s.views id v h.4 at one),
       ),
       (refl, λ p. here ∙ h.4.marked.known id v at p),
     )

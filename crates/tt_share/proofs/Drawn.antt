@@ -2,7 +2,7 @@
 use Rattle.std.proofs.Common.{◌≡◌, ℕ, Bool, List, [], ◌∷◌, ◌++◌, sym, ap, ◌∙◌, append_assoc}
 use Rattle.std.proofs.lemmas.List.{map-append}
 use Rattle.atomic_table.specs.Seated.{TableId}
-use Rattle.tt_share.specs.Seats.{SeatView, seat_of}
+use Rattle.tt_share.specs.Seats.{SeatModel, seat_of}
 use Rattle.tt_share.specs.inside.Workers.{AddsOverdraw, jobs_of}
 use Rattle.tt_share.specs.declared.jobs.SearchedJob.{SearchedJob}
 
@@ -18,5 +18,5 @@ pub drawn_all : (jobs : ℕ) (first old new : List ℕ) (found more : List Searc
     → more ≡ found → AddsOverdraw jobs old new → AddsOverdraw jobs (first ++ jobs_of more) new
 drawn_all jobs first old new found more was same overdraw = (overdraw.0, overdraw.1 ∙ ap (λ ns. ns ++ overdraw.0) (was ∙ ap (λ fs. first ++ jobs_of fs) (sym same)), overdraw.2)
 
-pub numbers_of : (s : SeatView) (desk : TableId) (numbers grants : List ℕ) (flag saw_flag : Bool) → s ≡ seat_of desk numbers grants flag saw_flag → s.numbers ≡ numbers
-numbers_of s desk numbers grants flag saw_flag is = ap (λ (t : SeatView). t.numbers) is
+pub numbers_of : (s : SeatModel) (desk : TableId) (numbers grants : List ℕ) (flag saw_flag : Bool) → s ≡ seat_of desk numbers grants flag saw_flag → s.numbers ≡ numbers
+numbers_of s desk numbers grants flag saw_flag is = ap (λ (t : SeatModel). t.numbers) is

@@ -4,7 +4,7 @@ use Rattle.std.proofs.Common.{refl, ap, subst, sym, ◌∙◌, arith}
 use Rattle.std.proofs.lemmas.Option.{slice_get_within}
 use Rattle.tt_game.specs.declared.frame.Side.{Side}
 use Rattle.atomic_table.specs.Seated.{TableId}
-use Rattle.tt_share.specs.Seats.{SeatView, seat_of}
+use Rattle.tt_share.specs.Seats.{SeatModel, seat_of}
 use Rattle.tt_share.specs.inside.Jobs.{IsDropped, IsStuck, IsWinFor, kept_of}
 use Rattle.tt_share.specs.inside.Workers.{KeepsFirstStuck, SomeStuck, SomeWin, WinsAreLast}
 use Rattle.tt_share.specs.declared.jobs.JobResult.{JobResult}
@@ -28,8 +28,8 @@ marked flag false won is down = (λ up. sym is ∙ up, λ up. is ∙ up)
 pub marks_again : (before after : Bool) → after ≡ before → IsTrue before → IsTrue after
 marks_again before after same up = same ∙ up
 
-pub flag_of : (s : SeatView) (desk : TableId) (numbers grants : List ℕ) (flag saw_flag : Bool) → s ≡ seat_of desk numbers grants flag saw_flag → s.flag ≡ flag
-flag_of s desk numbers grants flag saw_flag is = ap (λ (t : SeatView). t.flag) is
+pub flag_of : (s : SeatModel) (desk : TableId) (numbers grants : List ℕ) (flag saw_flag : Bool) → s ≡ seat_of desk numbers grants flag saw_flag → s.flag ≡ flag
+flag_of s desk numbers grants flag saw_flag is = ap (λ (t : SeatModel). t.flag) is
 
 -- what is read of a longer list was there, or is the last
 pub read_more : {X : Type 0} (xs : List X) (x : X) (i : ℕ) (y : X) → slice_get (xs ++ x ∷ []) i ≡ Some y → (slice_get xs i ≡ Some y) ⊎ ((i ≡ length xs) × (x ≡ y))

@@ -12,7 +12,7 @@ use Rattle.tt_game.specs.Turns.{legal_turns, turn_number, IsRising}
 use Rattle.tt_game.specs.laws.TurnLaws.{contains-legal_turns, rising-legal_turns}
 use Rattle.tt_proof.proofs.ForcesLemmas.{win_forces}
 use Rattle.tt_proof.specs.Strategy.{depth, depth_of_entries, entries_of}
-use Rattle.tt_proof.specs.ProofClaim.{ProofClaim, AreChildren, trees_by_turn, turns_of}
+use Rattle.tt_proof.specs.ProofClaim.{ProofClaim, AreReplyChildren, trees_by_turn, turns_of}
 use Rattle.tt_search.specs.declared.limits.Limits.{Limits}
 use Rattle.tt_share.specs.Answers.{LesserTurnsLose}
 use Rattle.tt_share.specs.inside.Jobs.{IsJob}
@@ -26,7 +26,7 @@ pub rest_of_all : {X : Type 0} (P : X → Type 0) (x : X) (xs : List X) → All 
 rest_of_all P x xs all k d short = all (suc k) d (omega arith)
 
 -- they are children of a reply
-pub are_children : (line : LineWithUndo) (limits : Limits) (cs : List (Turn × ProofClaim)) → limits.depth ≤ 512 → All (IsLost line limits) cs → AreChildren line.frame line.state cs
+pub are_children : (line : LineWithUndo) (limits : Limits) (cs : List (Turn × ProofClaim)) → limits.depth ≤ 512 → All (IsLost line limits) cs → AreReplyChildren line.frame line.state cs
 are_children line limits [] most all = tt
 are_children line limits (c ∷ cs) most all =
     let lost = first_of_all (IsLost line limits) c cs all in

@@ -14,8 +14,8 @@ use Rattle.tt_game.specs.Line.{LineWithUndo}
 use Rattle.tt_proof.specs.ProofClaim.{ProofClaim}
 use Rattle.tt_search.specs.Stores.{HasKeyAndSide, IsNewest}
 use Rattle.tt_game.specs.SameKey.{same_key}
-use Rattle.tt_share.specs.Table.{slots_from, slots_of}
-use Rattle.tt_game.specs.laws.KeyLaws.{same_key_is_reflexive}
+use Rattle.tt_share.specs.Table.{slots_passing_from, slots_with_key}
+use Rattle.tt_game.specs.laws.KeyLaws.{equal_implies_same_key}
 use Rattle.tt_share.proofs.SlotLemmas.{slot_low}
 
 -- ---- the newest proof, by its slot in the list
@@ -81,10 +81,10 @@ later true n i slots h = (suc h.0, omega (arith, h.1), h.2 ∙ omega arith)
 later false n i slots h = (h.0, h.1, h.2 ∙ omega arith)
 
 -- what passes the test has its slot
-placed : {X : Type 0} (t : X → Bool) (n : ℕ) (xs : List X) (x : X) (i : ℕ) → slice_get xs i ≡ Some x → t x ≡ true → Stands (n + i) (slots_from t n xs)
+placed : {X : Type 0} (t : X → Bool) (n : ℕ) (xs : List X) (x : X) (i : ℕ) → slice_get xs i ≡ Some x → t x ≡ true → Stands (n + i) (slots_passing_from t n xs)
 placed t n [] x i at is = absurd (some_none x (sym at))
-placed t n (y ∷ ys) x zero at is = let same : x ≡ y = cc in here (t y) n (slots_from t (n + 1) ys) (subst (λ z. t z ≡ true) same is)
-placed t n (y ∷ ys) x (suc i) at is = later (t y) n i (slots_from t (n + 1) ys) (placed t (n + 1) ys x i at is)
+placed t n (y ∷ ys) x zero at is = let same : x ≡ y = cc in here (t y) n (slots_passing_from t (n + 1) ys) (subst (λ z. t z ≡ true) same is)
+placed t n (y ∷ ys) x (suc i) at is = later (t y) n i (slots_passing_from t (n + 1) ys) (placed t (n + 1) ys x i at is)
 
 -- slots rise with the first one in front or without it
 rise_step : (b : Bool) (n : ℕ) (slots : List ℕ) (j k : ℕ) → ((l : ℕ) → l < length slots → n + 1 ≤ get_or slots l 0)
@@ -97,9 +97,9 @@ rise_step true n slots (suc j) (suc k) low rest le h = rest j k (omega (arith, l
 rise_step false n slots j k low rest le h = rest j k le h
 
 -- slots rise
-rise : {X : Type 0} (t : X → Bool) (n : ℕ) (xs : List X) (j k : ℕ) → j ≤ k → k < length (slots_from t n xs) → get_or (slots_from t n xs) j 0 ≤ get_or (slots_from t n xs) k 0
+rise : {X : Type 0} (t : X → Bool) (n : ℕ) (xs : List X) (j k : ℕ) → j ≤ k → k < length (slots_passing_from t n xs) → get_or (slots_passing_from t n xs) j 0 ≤ get_or (slots_passing_from t n xs) k 0
 rise t n [] j k le h = absurd (omega (arith, h))
-rise t n (y ∷ ys) j k le h = rise_step (t y) n (slots_from t (n + 1) ys) j k (slot_low t (n + 1) ys) (rise t (n + 1) ys) le h
+rise t n (y ∷ ys) j k le h = rise_step (t y) n (slots_passing_from t (n + 1) ys) j k (slot_low t (n + 1) ys) (rise t (n + 1) ys) le h
 
 -- ---- from the last slot of the key down
 
@@ -108,11 +108,11 @@ abbrev pub AmongFirst : LineWithUndo → Side → List ProofClaim → List ℕ �
 AmongFirst line side ps slots left = (i : ℕ) (p : ProofClaim) → slice_get ps i ≡ Some p → HasKeyAndSide line side p → (j : ℕ) × (j < left) × (get_or slots j 0 ≡ i)
 
 -- each of them stands at one of the key's slots
-pub among_all : (line : LineWithUndo) (side : Side) (ps : List ProofClaim) (slots : List ℕ) → slots ≡ slots_of (key_of line.frame line.state) ps → AmongFirst line side ps slots (length slots)
+pub among_all : (line : LineWithUndo) (side : Side) (ps : List ProofClaim) (slots : List ℕ) → slots ≡ slots_with_key (key_of line.frame line.state) ps → AmongFirst line side ps slots (length slots)
 among_all line side ps slots are i p at is =
     let all =
     placed (λ (d : ProofClaim). same_key (key_of line.frame line.state) (key_of d.frame d.state)) 0 ps p i at
-    (same_key_is_reflexive (key_of line.frame line.state) (key_of p.frame p.state) (sym is.same_key)) in
+    (equal_implies_same_key (key_of line.frame line.state) (key_of p.frame p.state) (sym is.same_key)) in
     subst (λ (l : List ℕ). (j : ℕ) × (j < length l) × (get_or l j 0 ≡ i)) (sym are) (all.0, all.1, all.2 ∙ zero-add i)
 
 -- where the value at a slot is p, what stands there has the value p
@@ -149,7 +149,7 @@ none_is_newest line side ps slots left done among =
 
 -- a proof for the side at the last of the slots that are left is the newest one
 pub found_is_newest : {A : Type 0} (value : A → ProofClaim) (line : LineWithUndo) (side : Side) (xs : List A) (ps : List ProofClaim) (x : A) (slots : List ℕ) (left : ℕ)
-    → map value xs ≡ ps → slots ≡ slots_of (key_of line.frame line.state) ps
+    → map value xs ≡ ps → slots ≡ slots_with_key (key_of line.frame line.state) ps
     → left - 1 < length slots → get_or slots (left - 1) 0 < length xs → x ≡ get_or xs (get_or slots (left - 1) 0) x → HasKeyAndSide line side (value x) → AmongFirst line side ps slots left
     → IsNewest line side (reverse ps) (Some (value x))
 found_is_newest value line side xs ps x slots left all are h inside is answers among =

@@ -13,13 +13,13 @@ use Rattle.tt_game.specs.Line.{LineWithUndo}
 use Rattle.tt_search.specs.Grants.{GrantTally}
 use Rattle.tt_search.specs.declared.limits.Limits.{Limits}
 use Rattle.tt_share.specs.declared.jobs.JobResult.{JobResult}
-use Rattle.tt_share.specs.declared.desk.Closed.{Closed}
+use Rattle.tt_share.specs.declared.desk.DeskCounts.{DeskCounts}
 use Rattle.tt_share.specs.declared.jobs.SearchedJob.{SearchedJob}
 use Rattle.tt_share.specs.declared.workers.HandedBack.{HandedBack}
 use Rattle.tt_share.specs.Answers.{spent_in_all}
 use Rattle.tt_share.specs.inside.Jobs.{IsForTotal, end_of}
 use Rattle.tt_share.specs.inside.Results.{ResultsSoFar, HasTotal, IsAllSpent, SpendsTotal, AskedFor}
-use Rattle.tt_share.specs.Seats.{DeskView, SeatView, EndsInOverdraw, EachOnce, AreGrantsOfTotal, IsClosedWith, granted_among, last_number, occurrences_in_seats}
+use Rattle.tt_share.specs.Seats.{DeskModel, SeatModel, EndsInOverdraw, EachNumberInOneSeat, AreGrantsOfTotal, AreDeskCounts, granted_among, last_number, occurrences_in_seats}
 use Rattle.tt_share.specs.inside.Tallies.{IsGranted, Tallies}
 use Rattle.tt_share.specs.inside.Workers.{times, spent_on, spent_by_all, held, held_in, AllApart, OnlyHandedBack, SomeTotal, IsWork}
 use Rattle.tt_share.proofs.Apart.{none_times, held_most}
@@ -67,13 +67,13 @@ nothing {A} (x ∷ xs) = let e = nothing xs in omega (arith, e, sum_by-cons (λ 
 -- ---- seats that were refused
 
 -- 1 where the numbers end with one that is no grant
-abbrev refusal : ℕ → SeatView → ℕ
+abbrev refusal : ℕ → SeatModel → ℕ
 refusal total s = cond (leb total (last_number s.grants)) 1 0
 
-refused_weighs : (total : ℕ) (s : SeatView) → EndsInOverdraw total s.grants → refusal total s ≡ 1
+refused_weighs : (total : ℕ) (s : SeatModel) → EndsInOverdraw total s.grants → refusal total s ≡ 1
 refused_weighs total s e = grind (arith, nat_tests, e)
 
-weighs_refused : (total : ℕ) (s : SeatView) → 0 < refusal total s → EndsInOverdraw total s.grants
+weighs_refused : (total : ℕ) (s : SeatModel) → 0 < refusal total s → EndsInOverdraw total s.grants
 weighs_refused total s e = grind (arith, nat_tests, e)
 
 -- a count that says that one was refused says so of a total
@@ -89,7 +89,7 @@ refused_more found more f before after is this still was (i, g, at, stuck) = eli
   | inr h ↦ this (subst (λ (x : SearchedJob). IsForTotal (end_of x.end)) (sym h.1) stuck)
 ]
 
-most_one : (list : SeatView → List ℕ) (drawn : ℕ) (seats : List SeatView) → EachOnce list drawn seats → (job : ℕ) → occurrences_in_seats list job seats ≤ 1
+most_one : (list : SeatModel → List ℕ) (drawn : ℕ) (seats : List SeatModel) → EachNumberInOneSeat list drawn seats → (job : ℕ) → occurrences_in_seats list job seats ≤ 1
 most_one list drawn seats once job = elim (cases_lt job drawn) [
   | inl h ↦ let e = once.below job h in omega (arith, e)
   | inr h ↦ let e = once.above job (omega arith) in omega (arith, e)
@@ -110,15 +110,15 @@ own_spent n first last before after total blank unspent unasked granted h asked 
 
 -- ---- all workers and the caller
 
-module _ (line : LineWithUndo) (limits : Limits) (desk : DeskView) (closed : Closed) (work : List HandedBack) (seats : List SeatView) (own : SeatView)
+module _ (line : LineWithUndo) (limits : Limits) (desk : DeskModel) (closed : DeskCounts) (work : List HandedBack) (seats : List SeatModel) (own : SeatModel)
     (works : All (IsWork line limits desk) work)
-    (backs : (weight : SeatView → ℕ) → sum_by weight seats ≡ sum_by (λ (b : HandedBack). weight b.seat) work)
-    (closes : IsClosedWith desk (seats ++ own ∷ []) closed) where
+    (backs : (weight : SeatModel → ℕ) → sum_by weight seats ≡ sum_by (λ (b : HandedBack). weight b.seat) work)
+    (closes : AreDeskCounts desk (seats ++ own ∷ []) closed) where
   -- no job comes twice, as the desk gave out no number twice
   pub all_apart : (ends : List (Option JobResult)) → ends ≡ replicate desk.jobs None → AllApart ends work
   all_apart ends blank job = elim (cases_lt job desk.jobs) [
     | inl h ↦
-        let weight = λ (s : SeatView). count_by (λ n. nat_eq n job) s.numbers in
+        let weight = λ (s : SeatModel). count_by (λ n. nat_eq n job) s.numbers in
         let free : held ends job ≡ 0 = ap held_in (ap (λ (l : List (Option JobResult)). slice_get l job) blank ∙ blank_at None desk.jobs job h) in
         let drawn = sum_most (IsWork line limits desk) (λ (b : HandedBack). times job b.searched.items) (λ (b : HandedBack). weight b.seat) work (λ b w. w.drawn job) works in
         let once = most_one (λ s. s.numbers) closed.draws (seats ++ own ∷ []) closes.draws_each_once job in
@@ -131,9 +131,9 @@ module _ (line : LineWithUndo) (limits : Limits) (desk : DeskView) (closed : Clo
   ]
 
   -- what all searches expanded is what all seats were granted
-  spent_granted : (total : ℕ) → desk.total ≡ Some total → spent_by_all work ≡ sum_by (λ (s : SeatView). granted_among total s.grants) seats
+  spent_granted : (total : ℕ) → desk.total ≡ Some total → spent_by_all work ≡ sum_by (λ (s : SeatModel). granted_among total s.grants) seats
   spent_granted total is =
-      let weight = λ (s : SeatView). granted_among total s.grants in
+      let weight = λ (s : SeatModel). granted_among total s.grants in
       let less = sum_most (IsWork line limits desk) (λ (b : HandedBack). spent_on b.searched.items) (λ (b : HandedBack). weight b.seat) work
       (λ b w. let e = w.spent total is in omega (arith, e)) works in
       let more = sum_most (IsWork line limits desk) (λ (b : HandedBack). weight b.seat) (λ (b : HandedBack). spent_on b.searched.items) work
@@ -142,7 +142,7 @@ module _ (line : LineWithUndo) (limits : Limits) (desk : DeskView) (closed : Clo
 
   -- a worker's seat that was refused is among the seats
   refused_there : (i : ℕ) (b : HandedBack) (total : ℕ) → slice_get work i ≡ Some b → EndsInOverdraw total b.seat.grants
-      → (s : SeatView) × Contains (seats ++ own ∷ []) s × EndsInOverdraw total s.grants
+      → (s : SeatModel) × Contains (seats ++ own ∷ []) s × EndsInOverdraw total s.grants
   refused_there i b total at overdraw =
       let one = weighs (λ (c : HandedBack). refusal total c.seat) work i b at in
       let some_seat = some_weighs (refusal total) (seats ++ own ∷ [])
@@ -154,7 +154,7 @@ module _ (line : LineWithUndo) (limits : Limits) (desk : DeskView) (closed : Clo
       (gathered : AllApart first.ends work → spent_in_all mid.spent ≡ spent_in_all first.spent + spent_by_all work) (given : OnlyHandedBack first.ends mid.ends work)
       (asked : AskedFor mid before last (record { granted = count; refused = refused })) (tally : Tallies desk.total own.grants count refused) where
     -- some seat was refused where a job is stuck for the total
-    some_refused : HasTotal last.ends → (total : ℕ) × (desk.total ≡ Some total) × ((s : SeatView) × Contains (seats ++ own ∷ []) s × EndsInOverdraw total s.grants)
+    some_refused : HasTotal last.ends → (total : ℕ) × (desk.total ≡ Some total) × ((s : SeatModel) × Contains (seats ++ own ∷ []) s × EndsInOverdraw total s.grants)
     some_refused h = elim (asked.refused h) [
       | inr up ↦ let t = refused_total desk.total own.grants count refused tally up in (t.0, t.1, (own, Contains-push seats own, t.2))
       | inl was ↦ elim (given was.0 was.1 was.2) [
@@ -176,7 +176,7 @@ module _ (line : LineWithUndo) (limits : Limits) (desk : DeskView) (closed : Clo
     spent_is total is =
         let granted = (spends total is).granted_is in
         let caller = (tally.1 total is).0 in
-        let seats_and_own = sum_by_push (λ (s : SeatView). granted_among total s.grants) seats own in
+        let seats_and_own = sum_by_push (λ (s : SeatModel). granted_among total s.grants) seats own in
         omega (arith, none, granted, caller, seats_and_own, spent_granted total is, gathered (all_apart first.ends blank), unspent, asked.spent)
 
     -- no more than the total is spent, and all of it where some job is stuck for it

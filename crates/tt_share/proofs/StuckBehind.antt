@@ -9,8 +9,8 @@ use Rattle.tt_search.specs.declared.limits.Reason.{Reason}
 use Rattle.tt_search.specs.declared.limits.Reason.TheVariants.{Budget, Depth, Total, Memory}
 use Rattle.tt_search.specs.declared.search.End.TheVariants.{Stuck}
 use Rattle.tt_share.specs.declared.answer.Stuck as answer
-use Rattle.tt_search.specs.Growing.{IsGrown}
-use Rattle.tt_share.specs.Answers.{IsSearchAfter, LesserTurnsLose, IsTotalSpent, spent_if_total_of, IsUnsettledAnswer}
+use Rattle.tt_search.specs.Growing.{IsGrownFromRoot}
+use Rattle.tt_share.specs.Answers.{IsSearchAfter, LesserTurnsLose, IsTotalSpent, counts_if_total_spent_of, IsUnsettledAnswer}
 use Rattle.tt_share.specs.inside.Jobs.{EndsBehind}
 
 none_held : (search : SearchState) → None ≡ Some search → ⊥
@@ -18,23 +18,23 @@ none_held search e = cc
 
 -- what is known of a search is known of the one that is held
 held_behind : (line : LineWithUndo) (limits : Limits) (t : Turn) (search held : SearchState) → IsSearchAfter line limits t search
-    → IsGrown search.limits search.line.frame search.line.state search.tree → Some search ≡ Some held → IsSearchAfter line limits t held × IsGrown held.limits held.line.frame held.line.state held.tree
+    → IsGrownFromRoot search.limits search.line.frame search.line.state search.tree → Some search ≡ Some held → IsSearchAfter line limits t held × IsGrownFromRoot held.limits held.line.frame held.line.state held.tree
 held_behind line limits t search held behind grown e =
     let same : search ≡ held = cc in
-    subst (λ (x : SearchState). IsSearchAfter line limits t x × IsGrown x.limits x.line.frame x.line.state x.tree) same (behind, grown)
+    subst (λ (x : SearchState). IsSearchAfter line limits t x × IsGrownFromRoot x.limits x.line.frame x.line.state x.tree) same (behind, grown)
 
 -- it says what is stuck, where the turn's counts are all of the total if that is why
 module _ (line : LineWithUndo) (limits : Limits) (total : Option ℕ) (stuck : answer.Stuck) (legal : IsLegal line.frame line.state stuck.turn)
     (lesser : LesserTurnsLose line.frame line.state stuck.turn)
     (spent : List (Turn × ℕ)) where
-  pub says : (reason : Reason) (o : Option SearchState) → stuck.search ≡ o → EndsBehind line limits stuck.turn (Stuck reason o) → stuck.spent.items ≡ spent_if_total_of reason spent
+  pub says : (reason : Reason) (o : Option SearchState) → stuck.search ≡ o → EndsBehind line limits stuck.turn (Stuck reason o) → stuck.spent.items ≡ counts_if_total_spent_of reason spent
       → ((held : SearchState) → reason ≡ Total → o ≡ Some held → (n : ℕ) × (total ≡ Some n) × IsTotalSpent line limits n stuck.turn held spent) → IsUnsettledAnswer line limits total reason stuck
-  says Budget None is behind spent_if_total all = absurd behind
-  says Budget (Some held) is behind spent_if_total all = (held, is, record { legal = legal; behind = behind.0; grown = behind.1; stuck_for = behind.2; lesser_lose = lesser }, spent_if_total)
-  says Depth None is behind spent_if_total all = absurd behind
-  says Depth (Some held) is behind spent_if_total all = (held, is, record { legal = legal; behind = behind.0; grown = behind.1; stuck_for = behind.2; lesser_lose = lesser }, spent_if_total)
-  says Total None is behind spent_if_total all = absurd behind
-  says Total (Some held) is behind spent_if_total all =
+  says Budget None is behind counts_if_total_spent all = absurd behind
+  says Budget (Some held) is behind counts_if_total_spent all = (held, is, record { legal = legal; behind = behind.0; grown = behind.1; stuck_for = behind.2; lesser_lose = lesser }, counts_if_total_spent)
+  says Depth None is behind counts_if_total_spent all = absurd behind
+  says Depth (Some held) is behind counts_if_total_spent all = (held, is, record { legal = legal; behind = behind.0; grown = behind.1; stuck_for = behind.2; lesser_lose = lesser }, counts_if_total_spent)
+  says Total None is behind counts_if_total_spent all = absurd behind
+  says Total (Some held) is behind counts_if_total_spent all =
       let h = all held refl refl in (
         h.0,
         h.1,
@@ -42,8 +42,8 @@ module _ (line : LineWithUndo) (limits : Limits) (total : Option ℕ) (stuck : a
         is,
         record { legal = legal; behind = behind.0; grown = behind.1; stuck_for = behind.2; lesser_lose = lesser },
         subst
-            (IsTotalSpent line limits h.0 stuck.turn held) (sym spent_if_total) h.2,
+            (IsTotalSpent line limits h.0 stuck.turn held) (sym counts_if_total_spent) h.2,
       )
-  says Memory None is behind spent_if_total all = (record { turn = inr (legal, lesser); behind = λ other held. absurd (none_held other (sym is ∙ held)) }, spent_if_total)
-  says Memory (Some held) is behind spent_if_total all =
-      (record { turn = inr (legal, lesser); behind = λ other at. held_behind line limits stuck.turn held other behind.0 behind.1 (sym is ∙ at) }, spent_if_total)
+  says Memory None is behind counts_if_total_spent all = (record { turn = inr (legal, lesser); behind = λ other held. absurd (none_held other (sym is ∙ held)) }, counts_if_total_spent)
+  says Memory (Some held) is behind counts_if_total_spent all =
+      (record { turn = inr (legal, lesser); behind = λ other at. held_behind line limits stuck.turn held other behind.0 behind.1 (sym is ∙ at) }, counts_if_total_spent)

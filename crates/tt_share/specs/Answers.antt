@@ -13,7 +13,7 @@ use Rattle.tt_search.specs.declared.limits.Limits.{Limits}
 use Rattle.tt_search.specs.declared.limits.Reason.{Reason}
 use Rattle.tt_search.specs.declared.limits.Reason.TheVariants.{Budget, Depth, Total, Memory}
 use Rattle.tt_search.specs.Numbers.{count}
-use Rattle.tt_search.specs.Growing.{IsGrown}
+use Rattle.tt_search.specs.Growing.{IsGrownFromRoot}
 use Rattle.tt_search.specs.SearchState.{SearchState, IsStuckFor}
 use Rattle.tt_share.specs.declared.answer.Answer.{Answer}
 use Rattle.tt_share.specs.declared.answer.Answer.TheVariants.{Settled, Unsettled}
@@ -34,9 +34,9 @@ pub record IsSearchAfter (line : LineWithUndo) (limits : Limits) (t : Turn) (sea
   pub depth_is : search.limits.depth + 1 ≡ limits.depth
 
 -- some search behind the turn is grown from there and has so many expanded nodes
-abbrev pub IsCountAfter : LineWithUndo → Limits → Turn → ℕ → Type 0
-IsCountAfter line limits t n =
-    (search : SearchState) × IsSearchAfter line limits t search × IsGrown search.limits search.line.frame search.line.state search.tree × (count search.tree ≡ n)
+abbrev pub IsSearchCountAfter : LineWithUndo → Limits → Turn → ℕ → Type 0
+IsSearchCountAfter line limits t n =
+    (search : SearchState) × IsSearchAfter line limits t search × IsGrownFromRoot search.limits search.line.frame search.line.state search.tree × (count search.tree ≡ n)
 
 -- how many nodes are expanded in all
 abbrev pub spent_in_all : List (Turn × ℕ) → ℕ
@@ -47,18 +47,18 @@ pub record IsTotalSpent (line : LineWithUndo) (limits : Limits) (total : ℕ) (t
   -- each legal turn is there, in rising order
   pub turns : map (λ (e : Turn × ℕ). e.0) spent ≡ legal_turns line.frame line.state
   -- each with the count of a grown search behind it, under the same budget and a depth one less
-  pub counts : All (λ (e : Turn × ℕ). IsCountAfter line limits e.0 e.1) spent
+  pub counts : All (λ (e : Turn × ℕ). IsSearchCountAfter line limits e.0 e.1) spent
   -- the search's own count is there
   pub own : Contains spent (t, count search.tree)
   -- the counts add up to the total
   pub in_all : spent_in_all spent ≡ total
 
 -- what is told of the counts: all of them where the total is spent, and else nothing
-abbrev pub spent_if_total_of : Reason → List (Turn × ℕ) → List (Turn × ℕ)
-spent_if_total_of Budget spent = []
-spent_if_total_of Depth spent = []
-spent_if_total_of Total spent = spent
-spent_if_total_of Memory spent = []
+abbrev pub counts_if_total_spent_of : Reason → List (Turn × ℕ) → List (Turn × ℕ)
+counts_if_total_spent_of Budget spent = []
+counts_if_total_spent_of Depth spent = []
+counts_if_total_spent_of Total spent = spent
+counts_if_total_spent_of Memory spent = []
 
 -- after each legal turn of a lesser number the side that is not to move can force its win
 abbrev pub LesserTurnsLose : Frame → State → Turn → Type 0
@@ -69,7 +69,7 @@ LesserTurnsLose f s t =
 pub record IsStuckAfter (line : LineWithUndo) (limits : Limits) (reason : Reason) (t : Turn) (search : SearchState) : Type 0 where
   pub legal : IsLegal line.frame line.state t
   pub behind : IsSearchAfter line limits t search
-  pub grown : IsGrown search.limits search.line.frame search.line.state search.tree
+  pub grown : IsGrownFromRoot search.limits search.line.frame search.line.state search.tree
   pub stuck_for : IsStuckFor reason search
   pub lesser_lose : LesserTurnsLose line.frame line.state t
 
@@ -77,7 +77,7 @@ pub record IsStuckAfter (line : LineWithUndo) (limits : Limits) (reason : Reason
 -- turns lose; a search that is held is behind that turn
 pub record IsStuckForMemory (line : LineWithUndo) (limits : Limits) (stuck : Stuck) : Type 0 where
   pub turn : ((stuck.turn ≡ Pass) × (stuck.search ≡ None)) ⊎ (IsLegal line.frame line.state stuck.turn × LesserTurnsLose line.frame line.state stuck.turn)
-  pub behind : (search : SearchState) → stuck.search ≡ Some search → IsSearchAfter line limits stuck.turn search × IsGrown search.limits search.line.frame search.line.state search.tree
+  pub behind : (search : SearchState) → stuck.search ≡ Some search → IsSearchAfter line limits stuck.turn search × IsGrownFromRoot search.limits search.line.frame search.line.state search.tree
 
 -- the search that is held is stuck behind the turn, or memory was refused; it is stuck for the total only where there is one, and
 -- then all of it is spent

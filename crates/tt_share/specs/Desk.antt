@@ -40,11 +40,11 @@ knowledge_with_draw v n = knowledge_of v.seat_count (v.numbers ++ n ∷ []) v.gr
 abbrev pub knowledge_with_grant : SeatKnowledge → ℕ → SeatKnowledge
 knowledge_with_grant v n = knowledge_of v.seat_count v.numbers (v.grants ++ n ∷ []) v.flag v.saw_flag
 
-abbrev pub with_flag_raised : SeatKnowledge → SeatKnowledge
-with_flag_raised v = knowledge_of v.seat_count v.numbers v.grants true v.saw_flag
+abbrev pub knowledge_with_flag_raised : SeatKnowledge → SeatKnowledge
+knowledge_with_flag_raised v = knowledge_of v.seat_count v.numbers v.grants true v.saw_flag
 
-abbrev pub with_look : SeatKnowledge → Bool → SeatKnowledge
-with_look v seen = knowledge_of v.seat_count v.numbers v.grants v.flag (v.saw_flag || seen)
+abbrev pub knowledge_with_look : SeatKnowledge → Bool → SeatKnowledge
+knowledge_with_look v seen = knowledge_of v.seat_count v.numbers v.grants v.flag (v.saw_flag || seen)
 
 -- the weights of the numbers below n, added up
 abbrev pub sum_below : (ℕ → ℕ) → ℕ → ℕ
@@ -92,19 +92,19 @@ abbrev pub SeatState : Type 0
 SeatState = Me (Unit {0}) SeatKnowledge
 
 -- n can follow the numbers of a seat: they go on rising, and as each desk number is found once, n is no less than their count
-abbrev pub CanFollow : List ℕ → ℕ → Type 0
-CanFollow numbers n = IsStrictlyIncreasing (numbers ++ n ∷ []) × (length numbers ≤ n)
+abbrev pub CanBeNextNumber : List ℕ → ℕ → Type 0
+CanBeNextNumber numbers n = IsStrictlyIncreasing (numbers ++ n ∷ []) × (length numbers ≤ n)
 
-abbrev pub DrawsNumber : SeatState → ℕ → SeatState → Type 0
-DrawsNumber before found after = (after ≡ (knowledge_with_draw before.0 found, before.1)) × CanFollow before.0.numbers found
+abbrev pub IsSeatAfterDraw : SeatState → ℕ → SeatState → Type 0
+IsSeatAfterDraw before found after = (after ≡ (knowledge_with_draw before.0 found, before.1)) × CanBeNextNumber before.0.numbers found
 
-abbrev pub AsksGrant : SeatState → ℕ → SeatState → Type 0
-AsksGrant before found after = (after ≡ (knowledge_with_grant before.0 found, before.1)) × CanFollow before.0.grants found
+abbrev pub IsSeatAfterGrant : SeatState → ℕ → SeatState → Type 0
+IsSeatAfterGrant before found after = (after ≡ (knowledge_with_grant before.0 found, before.1)) × CanBeNextNumber before.0.grants found
 
-abbrev pub RaisesFlag : SeatState → SeatState → Type 0
-RaisesFlag before after = after ≡ (with_flag_raised before.0, before.1)
+abbrev pub IsSeatAfterRaise : SeatState → SeatState → Type 0
+IsSeatAfterRaise before after = after ≡ (knowledge_with_flag_raised before.0, before.1)
 
 -- what was found is seen, and where this seat raised or saw the flag before, it was found
-abbrev pub LooksAtFlag : SeatState → ℕ → SeatState → Type 0
-LooksAtFlag before found after =
-    (after ≡ (with_look before.0 (nat_eq found 1), before.1)) × ((before.0.flag || before.0.saw_flag) ≡ true → found ≡ 1)
+abbrev pub IsSeatAfterLook : SeatState → ℕ → SeatState → Type 0
+IsSeatAfterLook before found after =
+    (after ≡ (knowledge_with_look before.0 (nat_eq found 1), before.1)) × ((before.0.flag || before.0.saw_flag) ≡ true → found ≡ 1)

@@ -28,12 +28,12 @@ abbrev pub proofs_of : List TokenState → List ProofClaim
 proofs_of tokens = map (λ (t : TokenState). t.proof) tokens
 
 -- and the last token's first
-abbrev pub newest_first : List TokenState → List ProofClaim
-newest_first tokens = reverse (proofs_of tokens)
+abbrev pub proofs_newest_first : List TokenState → List ProofClaim
+proofs_newest_first tokens = reverse (proofs_of tokens)
 
 -- among the tokens is one of the line's key for the side: a last one
-abbrev pub HasNewest : LineWithUndo → Side → List TokenState → Type 0
-HasNewest line side tokens = (p : ProofClaim) × IsNewest line side (newest_first tokens) (Some p)
+abbrev pub HasTokenOfKeyAndSide : LineWithUndo → Side → List TokenState → Type 0
+HasTokenOfKeyAndSide line side tokens = (p : ProofClaim) × IsNewest line side (proofs_newest_first tokens) (Some p)
 
 -- the later tokens are the earlier ones with none or more behind them
 abbrev pub Extends : List TokenState → List TokenState → Type 0

@@ -7,14 +7,14 @@ use Rattle.tt_proof.specs.ProofClaim.{ProofClaim}
 use Rattle.tt_proof.specs.Nodes.{nodes}
 
 -- the rising slots, counted from n on, of what passes the test
-abbrev pub slots_from : {X : Type 0} → (X → Bool) → ℕ → List X → List ℕ
-slots_from test n [] = []
-slots_from test n (x ∷ xs) = cond (test x) (n ∷ slots_from test (n + 1) xs) (slots_from test (n + 1) xs)
+abbrev pub slots_passing_from : {X : Type 0} → (X → Bool) → ℕ → List X → List ℕ
+slots_passing_from test n [] = []
+slots_passing_from test n (x ∷ xs) = cond (test x) (n ∷ slots_passing_from test (n + 1) xs) (slots_passing_from test (n + 1) xs)
 
 -- the rising slots of the proofs whose position has the key
-abbrev pub slots_of : Key → List ProofClaim → List ℕ
-slots_of k ps = slots_from (λ (p : ProofClaim). same_key k (key_of p.frame p.state)) 0 ps
+abbrev pub slots_with_key : Key → List ProofClaim → List ℕ
+slots_with_key k ps = slots_passing_from (λ (p : ProofClaim). same_key k (key_of p.frame p.state)) 0 ps
 
 -- the nodes of all trees, or the greatest number of 64 bits where they are more
-abbrev pub nodes_of : List ProofClaim → ℕ
-nodes_of ps = min (sum_by (λ (p : ProofClaim). nodes p.tree) ps) (2 ^ 64 - 1)
+abbrev pub total_node_count : List ProofClaim → ℕ
+total_node_count ps = min (sum_by (λ (p : ProofClaim). nodes p.tree) ps) (2 ^ 64 - 1)

@@ -77,7 +77,7 @@ impl Grants for OwnGrants {
 }
 
 /// The results of the line's jobs, none of them known yet; or the answer, where the store has one or memory was refused.
-pub(crate) fn results_or_answer<'a, S: Store>(
+pub(crate) fn new_results_or_answer<'a, S: Store>(
     alloc: Global,
     line: &'a Line,
     limits: &Limits,
@@ -102,7 +102,11 @@ pub(crate) fn results_or_answer<'a, S: Store>(
 }
 
 /// The answer that the results make. Its proof is offered to the store.
-pub(crate) fn finish<S: Store>(alloc: Global, results: Results<'_>, store: &mut S) -> Answer
+pub(crate) fn conclude_and_offer<S: Store>(
+    alloc: Global,
+    results: Results<'_>,
+    store: &mut S,
+) -> Answer
     requires ready { IsReady results.line.state.to_move results.ends }
     ensures { (total : Option ℕ) → IsAllSpent total results.entry → IsAnswer results.entry.line results.entry.limits total result }
 {
@@ -130,11 +134,11 @@ pub fn solve_one<S: Store>(
     requires open { winner_of line.now.frame line.now.state ≡ None }
     ensures { IsAnswer line.now limits.now total result }
 {
-    match results_or_answer(alloc, line, limits, store) {
+    match new_results_or_answer(alloc, line, limits, store) {
         Ok(mut results) => {
             let mut grants = OwnGrants::new(total);
             results.search_missing_until_win(store, &mut grants);
-            finish(alloc, results, store)
+            conclude_and_offer(alloc, results, store)
         }
         Err(answer) => answer,
     }

@@ -4,7 +4,7 @@
 pub const MOST_WORKERS: usize = 64;
 
 /// How many proofs may be kept through one handle of a table, and through one view of a log.
-pub const MOST_KEPT: usize = 4096;
+pub const MOST_KEPT_PROOFS: usize = 4096;
 
 /// For how many more entries a log has room before each push: more than twice as many as there may be workers. So a push
 /// finds room for its entry, whatever other workers push meanwhile.

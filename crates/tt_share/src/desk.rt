@@ -8,7 +8,7 @@ ghost use Rattle.std.specs.Prelude.{IfOk, IfSome, IfNone, MatchOption, MatchResu
 ghost use Rattle.tt_game.specs.declared.turns.TheConstants.{MOST_LEGAL};
 ghost use Rattle.tt_share.specs.declared.capacity.TheConstants.{MOST_WORKERS};
 ghost use Rattle.tt_share.specs.Desk.{fresh_knowledge, knowledge_of};
-ghost use Rattle.tt_share.specs.Seats.{seat_of, fresh_seat, EndsInOverdraw, SeatDraws, SeatAsksGrant, granted_among, IsClosedWith};
+ghost use Rattle.tt_share.specs.Seats.{seat_of, fresh_seat, EndsInOverdraw, SeatDraws, SeatAsksGrant, granted_among, AreDeskCounts};
 ghost use Rattle.tt_share.specs.inside.Gathering.{Gathers};
 
 use crate::desk::rule::{
@@ -24,7 +24,7 @@ type Words = Table<(), SeatKnowledge, DeskSize, DeskRule, Global>;
 /// What a closed desk counted: the steps that all draws made, and the grants that it gave of its total, or 0 where it had
 /// none.
 #[derive(Debug, Drop, PartialEq, Eq)]
-pub struct Closed {
+pub struct DeskCounts {
     pub draws: u64,
     pub granted: u64,
 }
@@ -43,9 +43,9 @@ impl Model for Desk {
     ghost use Rattle.std.specs.Prelude.{◌≡◌, ◌+◌, ◌^◌, ◌<◌, ◌≤◌, IfSome};
     ghost use Rattle.tt_game.specs.declared.turns.TheConstants.{MOST_LEGAL};
     ghost use Rattle.tt_share.specs.declared.capacity.TheConstants.{MOST_WORKERS};
-    ghost use Rattle.tt_share.specs.Seats.{DeskView};
+    ghost use Rattle.tt_share.specs.Seats.{DeskModel};
 
-    ghost Value = { DeskView };
+    ghost Value = { DeskModel };
 
     ghost view = { λ d. record { id = d.table.shared.table_id; jobs = d.jobs; seats = d.seats; total = d.total } };
 
@@ -71,9 +71,9 @@ pub struct Seat {
 
 impl Model for Seat {
     ghost use Rattle.std.specs.Prelude.{◌≡◌, []};
-    ghost use Rattle.tt_share.specs.Seats.{SeatView, seat_of, last_number};
+    ghost use Rattle.tt_share.specs.Seats.{SeatModel, seat_of, last_number};
 
-    ghost Value = { SeatView };
+    ghost Value = { SeatModel };
 
     ghost view = { λ s. seat_of s.seat.table_id s.seat.me.0.numbers s.seat.me.0.grants s.seat.me.0.flag s.seat.me.0.saw_flag };
 
@@ -86,7 +86,7 @@ impl Model for Seat {
 }
 
 impl Seat {
-    fn into_inner(self) -> atomic_table::Seat<(), SeatKnowledge>
+    fn into_kit_seat(self) -> atomic_table::Seat<(), SeatKnowledge>
         ensures desk { result.table_id ≡ self.desk }
         ensures me { result.me ≡ (knowledge_of 1 self.numbers self.grants self.flag self.saw_flag, []) }
     {
@@ -94,7 +94,7 @@ impl Seat {
         seat
     }
 
-    fn from_inner(seat: atomic_table::Seat<(), SeatKnowledge>) -> Seat
+    fn of_kit_seat(seat: atomic_table::Seat<(), SeatKnowledge>) -> Seat
         requires { seat.me ≡ (fresh_knowledge 1, []) }
         ensures { result ≡ fresh_seat seat.table_id }
     {
@@ -121,9 +121,9 @@ fn split_seats(
 {
     for _ in 1..seats {
         let seat = table.shared.split_seat::<SeatSplit>(&mut first);
-        all.push_reserved(Seat::from_inner(seat));
+        all.push_reserved(Seat::of_kit_seat(seat));
     }
-    all.push_reserved(Seat::from_inner(first));
+    all.push_reserved(Seat::of_kit_seat(first));
     all
 }
 
@@ -139,11 +139,11 @@ fn join_all_seats(
     ensures table { (result.table_id ≡ table.now.shared.table_id) × (result.me.1 ≡ []) }
     ensures knowledge { Gathers (seats.items ++ last ∷ []) result.me.0 }
 {
-    let mut whole = last.into_inner();
+    let mut whole = last.into_kit_seat();
     while let Some(other) = seats.pop() {
         table
             .shared
-            .join_seat::<SeatJoin>(&mut whole, other.into_inner());
+            .join_seat::<SeatJoin>(&mut whole, other.into_kit_seat());
     }
     whole
 }
@@ -265,9 +265,9 @@ impl Desk {
     /// How many steps all draws made, those that found no job among them, and how many grants the desk gave of its total,
     /// exactly where as many seats come back as the desk has, so all of them; else the desk and the seats, unchanged. The
     /// seats are this desk's.
-    pub fn close(self, mut seats: Vec<Seat>) -> Result<Closed, (Desk, Vec<Seat>)>
+    pub fn close(self, mut seats: Vec<Seat>) -> Result<DeskCounts, (Desk, Vec<Seat>)>
         requires { All (λ s. s.desk ≡ self.id) seats.items }
-        ensures { MatchResult result (λ closed. IsClosedWith self seats.items closed) (λ back. (length seats.items ≢ self.seats) × (back.0 ≡ self) × (back.1.items ≡ seats.items)) }
+        ensures { MatchResult result (λ closed. AreDeskCounts self seats.items closed) (λ back. (length seats.items ≢ self.seats) × (back.0 ≡ self) × (back.1.items ≡ seats.items)) }
     {
         if seats.len() != self.seats {
             return Err((self, seats));
@@ -281,6 +281,6 @@ impl Desk {
         let draws = words.word(0);
         let granted = granted_of_total(words.word(2), total);
         words.free();
-        Ok(Closed { draws, granted })
+        Ok(DeskCounts { draws, granted })
     }
 }

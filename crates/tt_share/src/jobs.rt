@@ -71,7 +71,7 @@ pub(crate) fn is_stuck(end: &JobResult) -> bool
 
 /// A result as it is kept. A stuck search holds its whole tree, and only that of the least stuck turn is answered: so it
 /// is dropped where a lesser job is stuck.
-pub(crate) fn dropped_if_past_stuck(past_stuck: bool, end: JobResult) -> JobResult
+pub(crate) fn dropped_if_lesser_stuck(past_stuck: bool, end: JobResult) -> JobResult
     ensures { result ≡ kept_of past_stuck end }
 {
     if past_stuck && is_stuck(&end) {

@@ -13,6 +13,6 @@ pub fn desk_law()
 {}
 
 /// The equality by which a table compares keys holds exactly where two keys are equal.
-pub fn keys_are_exact()
+pub fn key_equality_is_exact()
     ensures { (a b : _) → Decides (same_key a b) (a ≡ b) }
 {}

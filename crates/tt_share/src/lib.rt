@@ -20,8 +20,8 @@ mod workers;
 
 pub use alone::solve_one;
 pub use answer::{Answer, Stuck};
-pub use capacity::{MOST_KEPT, MOST_WORKERS};
-pub use desk::{Closed, Desk, Seat};
+pub use capacity::{MOST_KEPT_PROOFS, MOST_WORKERS};
+pub use desk::{Desk, DeskCounts, Seat};
 pub use gate::{Gate, NoGate};
 pub use log::log_store::LogStore;
 pub use log::view::View;

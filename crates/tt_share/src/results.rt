@@ -11,7 +11,7 @@ ghost use Rattle.tt_share.specs.Answers.{spent_in_all};
 ghost use Rattle.tt_share.specs.inside.Jobs.{IsResult, IsWinFor};
 ghost use Rattle.tt_share.specs.inside.Results.{Notes, AskedFor, HasEnd, HasResult, HasWonIn, AllStuckOrWon, IsPastStuck, IsStuckIn, IsWinIn, IsWinAt, NoWin, IsLeastWin, IsReady, StopsAtWin, KeepsEnds, Puts};
 
-use crate::jobs::{JobResult, Jobs, SearchedJob, dropped_if_past_stuck, is_stuck, is_win};
+use crate::jobs::{JobResult, Jobs, SearchedJob, dropped_if_lesser_stuck, is_stuck, is_win};
 use std::alloc::Global;
 use std::marker::Model;
 use tt_game::{Line, Side, Turn};
@@ -122,7 +122,7 @@ fn zero_counts(alloc: Global, turns: &[Turn]) -> Result<Vec<(Turn, u32)>, NoMemo
 }
 
 /// Whether the search of a lesser job is stuck.
-fn is_past_stuck(ends: &[Option<JobResult>], job: usize) -> bool
+fn is_some_lesser_stuck(ends: &[Option<JobResult>], job: usize) -> bool
     ensures { IsTrue result ↔ IsPastStuck ends.now job }
 {
     for (lesser, end) in ends.iter().enumerate() {
@@ -189,8 +189,12 @@ impl<'a> Results<'a> {
     {
         let SearchedJob { job, end, spent } = searched;
         if self.is_missing(job) {
-            let past_stuck = is_past_stuck(self.ends.as_slice(), job);
-            write_result(&mut self.ends, job, dropped_if_past_stuck(past_stuck, end));
+            let past_stuck = is_some_lesser_stuck(self.ends.as_slice(), job);
+            write_result(
+                &mut self.ends,
+                job,
+                dropped_if_lesser_stuck(past_stuck, end),
+            );
             note_spent(&mut self.spent, job, spent);
         }
     }

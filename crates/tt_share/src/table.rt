@@ -9,7 +9,7 @@ ghost use Rattle.tt_search.specs.Stores.{HasKeyAndSide, IsNewest};
 ghost use Rattle.tt_game.specs.Keys.{key_of};
 ghost use Rattle.tt_proof.specs.Nodes.{nodes};
 ghost use Rattle.tt_share.specs.inside.Slots.{slots_at};
-ghost use Rattle.tt_share.specs.Table.{slots_of, nodes_of};
+ghost use Rattle.tt_share.specs.Table.{slots_with_key, total_node_count};
 
 use std::alloc::Global;
 use std::collections::HashMap;
@@ -37,7 +37,7 @@ impl Model for TableState {
     ghost use Rattle.tt_proof.specs.ProofClaim.{ProofClaim};
     ghost use Rattle.tt_proof.specs.laws.StrategyCode.{strategy_code};
     ghost use Rattle.tt_share.specs.inside.Slots.{IsIndexOf};
-    ghost use Rattle.tt_share.specs.Table.{nodes_of};
+    ghost use Rattle.tt_share.specs.Table.{total_node_count};
 
     ghost Value = { List ProofClaim };
 
@@ -45,11 +45,11 @@ impl Model for TableState {
 
     ghost view = { λ t. map arc_value t.proofs.items };
 
-    ghost invariant = { λ t. IsIndexOf t.index (map arc_value t.proofs.items) × (t.total ≡ nodes_of (map arc_value t.proofs.items)) };
+    ghost invariant = { λ t. IsIndexOf t.index (map arc_value t.proofs.items) × (t.total ≡ total_node_count (map arc_value t.proofs.items)) };
 }
 
 /// Adds a slot at the key.
-fn note_slot<K: Copy + Drop + Eq + Hash>(
+fn add_slot_to_index<K: Copy + Drop + Eq + Hash>(
     alloc: Global,
     index: &mut HashMap<K, Vec<usize>>,
     key: &K,
@@ -92,7 +92,7 @@ impl TableState {
     {
         self.proofs.reserve(1)?;
         let slot = self.proofs.len();
-        note_slot(self.alloc, &mut self.index, key, slot)?;
+        add_slot_to_index(self.alloc, &mut self.index, key, slot)?;
         self.total = self.total.saturating_add(size);
         self.proofs.push_reserved(p);
         Ok(slot)
@@ -110,7 +110,7 @@ impl TableState {
 
     /// The rising slots of the proofs of the key.
     pub fn slots(&self, k: &Key) -> &[usize]
-        ensures { result.now ≡ slots_of k.now self.now }
+        ensures { result.now ≡ slots_with_key k.now self.now }
     {
         match self.index.get(k) {
             Some(slots) => slots.as_slice(),
@@ -120,7 +120,7 @@ impl TableState {
 
     /// The nodes of all trees, or the greatest `u64` where they are more.
     pub fn nodes(&self) -> u64
-        ensures { result ≡ nodes_of self.now }
+        ensures { result ≡ total_node_count self.now }
     {
         self.total
     }

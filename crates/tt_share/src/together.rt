@@ -6,7 +6,7 @@ ghost use Rattle.tt_share.specs.declared.capacity.TheConstants.{MOST_WORKERS};
 ghost use Rattle.tt_share.specs.Answers.{IsAnswer};
 ghost use Rattle.tt_share.specs.inside.Results.{KnowsNothing, IsReady, SpendsTotal};
 
-use crate::alone::{finish, results_or_answer};
+use crate::alone::{conclude_and_offer, new_results_or_answer};
 use crate::answer::Answer;
 use crate::answer::conclude::no_memory_answer;
 use crate::desk::Desk;
@@ -16,7 +16,7 @@ use crate::log::CertLog;
 use crate::log::log_store::LogStore;
 use crate::log::view::View;
 use crate::results::Results;
-use crate::workers::{gather, run_workers};
+use crate::workers::{gather_results, run_workers};
 use std::alloc::Global;
 use std::sync::Wait;
 use std::thread::Threads;
@@ -49,7 +49,7 @@ pub(crate) fn search_together<R: Threads + Wait + Sync, G: Gate, S: Store>(
     let (desk, mut all) = Desk::new(alloc, count, workers + 1, total)?;
     let Some(own) = all.pop() else { unreachable!() };
     let work = run_workers(rt, &results.jobs, &desk, log, gate, all)?;
-    let mut seats = gather(&desk, results, work, seats);
+    let mut seats = gather_results(&desk, results, work, seats);
     let mut grants = SeatGrants::new(&desk, own);
     results.search_missing_until_win(store, &mut grants);
     seats.push_reserved(grants.into_seat());
@@ -85,10 +85,10 @@ pub fn solve<R: Threads + Wait + Sync, G: Gate>(
         return no_memory_answer(alloc);
     };
     let mut store = LogStore::new(rt, view);
-    match results_or_answer(alloc, line, limits, &mut store) {
+    match new_results_or_answer(alloc, line, limits, &mut store) {
         Ok(mut results) => {
             match search_together(rt, &mut results, total, workers, log, gate, &mut store) {
-                Ok(()) => finish(alloc, results, &mut store),
+                Ok(()) => conclude_and_offer(alloc, results, &mut store),
                 Err(_) => no_memory_answer(alloc),
             }
         }

@@ -4,14 +4,14 @@ ghost use Rattle.std.specs.Prelude.{◌≡◌, ◌≤◌, ◌<◌, ◌+◌, ◌�
 ghost use Rattle.tt_share.specs.inside.Jobs.{IsResult, IsStuck};
 ghost use Rattle.tt_share.specs.inside.Results.{KeepsEnds};
 ghost use Rattle.tt_share.specs.Answers.{spent_in_all};
-ghost use Rattle.tt_share.specs.Seats.{SeatView, seat_of};
+ghost use Rattle.tt_share.specs.Seats.{SeatModel, seat_of};
 ghost use Rattle.tt_share.specs.declared.workers.HandedBack.{HandedBack};
 ghost use Rattle.tt_share.specs.inside.Workers.{SomeWin, IsWork, held, times, spent_on, spent_by_all, AreApart, AllApart, IsPlaced, AllPlaced, AddsOverdraw, AllDrawn, KeepsFirstStuck, jobs_of, AreGiven, OnlyHandedBack};
 
 use crate::desk::grants::SeatGrants;
 use crate::desk::{Desk, Seat};
 use crate::gate::Gate;
-use crate::jobs::{JobResult, Jobs, SearchedJob, dropped_if_past_stuck, is_stuck};
+use crate::jobs::{JobResult, Jobs, SearchedJob, dropped_if_lesser_stuck, is_stuck};
 use crate::log::CertLog;
 use crate::log::log_store::LogStore;
 use crate::log::view::View;
@@ -80,7 +80,7 @@ pub(crate) fn work<S: Store, G: Gate>(
         let SearchedJob { job, end, spent } = jobs.search(job, store, &mut grants);
         gate.end(job);
         grants.raise_flag_if(jobs.is_win_for_mover(&end));
-        let end = dropped_if_past_stuck(stuck, end);
+        let end = dropped_if_lesser_stuck(stuck, end);
         stuck = was_or_is_stuck(stuck, &end);
         searched.push_reserved(SearchedJob { job, end, spent });
     }
@@ -154,7 +154,7 @@ fn gather_one_worker(results: &mut Results<'_>, mut searched: Vec<SearchedJob>)
 }
 
 /// Puts the results of all workers into the list of all, and their seats into one that has room for one more.
-pub(crate) fn gather(
+pub(crate) fn gather_results(
     desk: &Desk,
     results: &mut Results<'_>,
     mut work: Vec<HandedBack>,
@@ -164,7 +164,7 @@ pub(crate) fn gather(
     requires room { (seats.items ≡ []) × (vec_len work < vec_capacity seats) }
     ensures same { results.new ≡ record results.old { ends = results.new.ends; spent = results.new.spent } }
     ensures spent { AllApart results.old.ends work.items → spent_in_all results.new.spent ≡ spent_in_all results.old.spent + spent_by_all work.items }
-    ensures backs { (weight : SeatView → ℕ) → sum_by weight result.items ≡ sum_by (λ (b : HandedBack). weight b.seat) work.items }
+    ensures backs { (weight : SeatModel → ℕ) → sum_by weight result.items ≡ sum_by (λ (b : HandedBack). weight b.seat) work.items }
     ensures room { vec_len result < vec_capacity result }
     ensures kept { KeepsEnds results.old.ends results.new.ends }
     ensures placed { All (AllPlaced results.new.ends) work.items }

@@ -114,7 +114,7 @@ fn set_up_holds(line: &[u8]) -> bool {
 fn tells(board: &Board, no_capture: &[u8]) -> bool {
     let size = board.size();
     let empty = board.empty_among(&PointSet::whole(size));
-    let told = CountedBoard::of(board).no_capture_among(Colour::Black, &empty);
+    let told = CountedBoard::of(board).some_noncapturing_plays(Colour::Black, &empty);
     told.same(holders(size, no_capture, b'Q').bits())
 }
 

@@ -1,12 +1,12 @@
 //! Problems and their legal turns, with what they come to by a program written from the rules alone.
 
-ghost use Rattle.tt_game.specs.Turns.{IsOnBoard};
+ghost use Rattle.tt_game.specs.Turns.{IsTurnOnBoardOfSize};
 
 use crate::rows::{Table, cut, holding, short_number};
 use crate::text_tables::PROBLEMS;
 use std::alloc::Global;
 use tt_game::{Line, Turn, problem};
-use tt_sgf::{Items, MainLine, NoMemory, Node, Property, Size, SmallBytes, Values, read_tree};
+use tt_sgf::{ItemList, MainLine, NoMemory, Node, Property, Size, SmallBytes, Values, read_tree};
 
 /// The problem that a main line is, or the number of the refusal.
 fn posed_by(alloc: Global, line: &MainLine) -> Result<Line, u8> {
@@ -54,7 +54,7 @@ fn own_node(alloc: Global, node: Node) -> Result<Node, NoMemory> {
         made.push(own_property(alloc, property)?)?;
     }
     Ok(Node {
-        properties: Items::from_vec(made),
+        properties: ItemList::from_vec(made),
     })
 }
 
@@ -65,7 +65,7 @@ fn own_line(alloc: Global, line: MainLine) -> Result<MainLine, NoMemory> {
         made.push(own_node(alloc, node)?)?;
     }
     Ok(MainLine {
-        nodes: Items::from_vec(made),
+        nodes: ItemList::from_vec(made),
     })
 }
 
@@ -83,7 +83,7 @@ fn posed_anew(alloc: Global, text: &[u8]) -> Result<Line, u8> {
 
 /// The turn of this number on boards of this size.
 pub(crate) fn turn(size: Size, number: u16) -> Turn
-    ensures { IsOnBoard size result }
+    ensures { IsTurnOnBoardOfSize size result }
 {
     match size.point(number) {
         Some(p) => Turn::Play(p),

@@ -3,7 +3,7 @@
 ghost use Rattle.std.specs.Prelude.{◌≡◌, ◌↔◌, IsTrue};
 ghost use Rattle.tt_game.specs.Game.{IsLegal};
 ghost use Rattle.tt_game.specs.Turns.{IsTurnOnBoard};
-ghost use Rattle.tt_proof.specs.ProofClaim.{IsChild, AreChildren, turns_of};
+ghost use Rattle.tt_proof.specs.ProofClaim.{IsChild, AreReplyChildren, turns_of};
 
 use crate::problem_tests::{posed, turn};
 use crate::rows::{Table, cut, holding, short_number};
@@ -137,7 +137,7 @@ fn picked(alloc: Global, line: &mut Line, turn: &Turn, child: Proof) -> Option<P
 /// Whether there is one child for each turn.
 fn are_children(line: &mut Line, turns: &[Turn], children: &[(Turn, Proof)]) -> bool
     ensures turns { IsTrue result → turns_of children.now ≡ turns.now }
-    ensures children { IsTrue result → AreChildren line.old.frame line.old.state children.now }
+    ensures children { IsTrue result → AreReplyChildren line.old.frame line.old.state children.now }
     ensures same { line.new ≡ line.old }
 {
     if children.len() != turns.len() {

@@ -11,7 +11,7 @@ use Rattle.tt_game.specs.Turns.{IsTurnOnBoard, legal_turns}
 use Rattle.tt_game.specs.laws.TurnLaws.{contains-legal_turns}
 use Rattle.tt_search.specs.declared.limits.Limits.{Limits}
 use Rattle.tt_search.specs.declared.limits.Reason.{Reason}
-use Rattle.tt_text.specs.Solving.{AreTurnLines, IsValueOrReason, IsAnswerText, TurnLinesFollow, IsVerdict, line_after, value_line}
+use Rattle.tt_text.specs.Solving.{AreTurnLines, IsValueOrReason, IsAnswerText, TurnLinesFollowIfAsked, IsVerdict, line_after, turn_value_line}
 use Rattle.tt_text.specs.declared.options.Options.{Options}
 
 -- a turn in the list of legal turns is legal
@@ -28,25 +28,25 @@ legal_turn_is_on_board p Pass l = tt
 module _ (p : LineWithUndo) (limits : Limits) (total : Option ℕ) where
   -- one more line behind the lines
   one_more : (ts : List Turn) (t : Turn) (lines : List ℕ) (value : Result Side Reason) → AreTurnLines p limits total ts lines
-      → IsValueOrReason (line_after p t) limits total value → AreTurnLines p limits total (ts ++ t ∷ []) (lines ++ value_line p.frame.size t value)
+      → IsValueOrReason (line_after p t) limits total value → AreTurnLines p limits total (ts ++ t ∷ []) (lines ++ turn_value_line p.frame.size t value)
   one_more [] t lines value h v =
-      (value, [], v, ap (λ (x : List ℕ). x ++ value_line p.frame.size t value) h ∙ sym (append-nil (value_line p.frame.size t value)), refl)
+      (value, [], v, ap (λ (x : List ℕ). x ++ turn_value_line p.frame.size t value) h ∙ sym (append-nil (turn_value_line p.frame.size t value)), refl)
   one_more (u ∷ us) t lines value h v = (
     h.0,
-    h.1 ++ value_line p.frame.size t value,
+    h.1 ++ turn_value_line p.frame.size t value,
     h.2,
-    ap (λ (x : List ℕ). x ++ value_line p.frame.size t value) h.3 ∙ append_assoc (value_line p.frame.size u h.0) h.1 (value_line p.frame.size t value),
+    ap (λ (x : List ℕ). x ++ turn_value_line p.frame.size t value) h.3 ∙ append_assoc (turn_value_line p.frame.size u h.0) h.1 (turn_value_line p.frame.size t value),
     one_more us t h.1 value h.4 v,
   )
 
   -- the line of the next turn in the list
   pub next_line : (ts : List Turn) (n : ℕ) (t : Turn) (lines after : List ℕ) (value : Result Side Reason) → n < length ts → t ≡ get_or ts n t
       → AreTurnLines p limits total (take n ts) lines → IsValueOrReason (line_after p t) limits total value
-      → after ≡ lines ++ value_line p.frame.size t value → AreTurnLines p limits total (take (n + 1) ts) after
+      → after ≡ lines ++ turn_value_line p.frame.size t value → AreTurnLines p limits total (take (n + 1) ts) after
   next_line ts n t lines after value lt is h v e =
       let more : take n ts ++ t ∷ [] ≡ take (n + 1) ts = ap (λ (u : Turn). take n ts ++ u ∷ []) is ∙ sym (take_more ts n t lt) in
       subst (λ (x : List ℕ). AreTurnLines p limits total (take (n + 1) ts) x) (sym e)
-      (subst (λ (us : List Turn). AreTurnLines p limits total us (lines ++ value_line p.frame.size t value)) more (one_more (take n ts) t lines value h v))
+      (subst (λ (us : List Turn). AreTurnLines p limits total us (lines ++ turn_value_line p.frame.size t value)) more (one_more (take n ts) t lines value h v))
 
 -- the lines of the whole list
 pub all_lines : (p : LineWithUndo) (limits : Limits) (total : Option ℕ) (ts : List Turn) (n : ℕ) (lines : List ℕ) → length ts ≤ n → ts ≡ legal_turns p.frame p.state
@@ -55,5 +55,5 @@ all_lines p limits total ts n lines whole all h = subst (λ (us : List Turn). Ar
 
 -- a verdict, and what follows it
 pub problem_text : (options : Options) (p : LineWithUndo) (verdict lines text : List ℕ) → IsVerdict p options.limits options.total options.cert verdict
-    → TurnLinesFollow p options.limits options.total options.turns lines → text ≡ verdict ++ lines → IsAnswerText options p text
+    → TurnLinesFollowIfAsked p options.limits options.total options.turns lines → text ≡ verdict ++ lines → IsAnswerText options p text
 problem_text options p verdict lines text v h e = (verdict, lines, e, v, h)

@@ -8,15 +8,15 @@ use Rattle.tt_game.specs.declared.frame.Side.{Side}
 use Rattle.tt_game.specs.declared.frame.Side.TheVariants.{Attacker, Defender}
 use Rattle.tt_game.specs.declared.turns.Turn.{Turn}
 use Rattle.tt_game.specs.declared.turns.Turn.TheVariants.{Play, Pass}
-use Rattle.tt_game.specs.Game.{HasValue, value_for}
+use Rattle.tt_game.specs.Game.{HasValue, value_won_by}
 use Rattle.tt_game.specs.Line.{LineWithUndo}
-use Rattle.tt_game.specs.laws.SideLaws.{verdict_words_are_apart}
+use Rattle.tt_game.specs.laws.SideLaws.{verdict_word_is_prefix_free}
 use Rattle.tt_game.specs.Sides.{verdict_word}
 use Rattle.tt_proof.specs.CertificateText.{readable_turn_text}
 use Rattle.tt_search.specs.declared.limits.Limits.{Limits}
 use Rattle.tt_text.specs.declared.options.CertKind.{CertKind}
 use Rattle.tt_text.specs.Laws.{VerdictsAreValues}
-use Rattle.tt_text.specs.Solving.{IsFirstTurn, IsVerdict, decided, decided_text, first_turn_text, unsettled}
+use Rattle.tt_text.specs.Solving.{IsFirstTurnOfWinner, IsVerdict, decided, decided_text, first_turn_text, unsettled}
 
 -- the byte in a place, or 0
 abbrev byte : ℕ → List ℕ → ℕ
@@ -51,8 +51,8 @@ firsts_same size (Some t) (Some u) x y e = ap Some (turns_same size t u x y (app
 record Says (p : LineWithUndo) (side : Side) (rest : List ℕ) : Type 0 where
   first : Option Turn
   lines : List ℕ
-  valued : HasValue p.frame p.state (value_for side)
-  first_is : IsFirstTurn p side first
+  valued : HasValue p.frame p.state (value_won_by side)
+  first_is : IsFirstTurnOfWinner p side first
   text : first_turn_text p.frame.size first ++ newline ∷ lines ≡ rest
 
 -- a verdict that begins with a side's word says so
@@ -61,12 +61,12 @@ says p limits total cert side rest text (decided s first lines valued keeps more
     let size = p.frame.size in
     let parts : decided_text size s first ++ lines ≡ verdict_word s ++ (first_turn_text size first ++ newline ∷ lines) =
     append_assoc (verdict_word s) (first_turn_text size first ++ newline ∷ []) lines ∙ ap (λ (x : List ℕ). verdict_word s ++ x) (append_assoc (first_turn_text size first) (newline ∷ []) lines) in
-    let same = verdict_words_are_apart s side (first_turn_text size first ++ newline ∷ lines) rest (sym parts ∙ e) in
+    let same = verdict_word_is_prefix_free s side (first_turn_text size first ++ newline ∷ lines) rest (sym parts ∙ e) in
     record {
       first = first;
       lines = lines;
-      valued = subst (λ (x : Side). HasValue p.frame p.state (value_for x)) same.0 valued;
-      first_is = subst (λ (x : Side). IsFirstTurn p x first) same.0 keeps;
+      valued = subst (λ (x : Side). HasValue p.frame p.state (value_won_by x)) same.0 valued;
+      first_is = subst (λ (x : Side). IsFirstTurnOfWinner p x first) same.0 keeps;
       text = same.1;
     }
 says p limits total cert Attacker rest text (unsettled reason h) e = let bad : 117 ≡ 107 = ap (byte 0) e in absurd (omega (arith, bad))
@@ -76,4 +76,4 @@ says p limits total cert Defender rest text (unsettled reason h) e = let bad : 1
 pub are_values : VerdictsAreValues
 are_values p limits total cert side rest v =
     let said = says p limits total cert side rest (verdict_word side ++ rest) v refl in
-    (said.valued, λ first lines e. subst (λ (o : Option Turn). IsFirstTurn p side o) (firsts_same p.frame.size said.first first said.lines lines (said.text ∙ e)) said.first_is)
+    (said.valued, λ first lines e. subst (λ (o : Option Turn). IsFirstTurnOfWinner p side o) (firsts_same p.frame.size said.first first said.lines lines (said.text ∙ e)) said.first_is)

@@ -3,8 +3,8 @@ use Rattle.std.proofs.Common.{◌≡◌, ◌≤◌, ℕ, true, false, List, [], 
 use Rattle.tt_game.specs.declared.frame.Frame.{Frame}
 use Rattle.tt_game.specs.declared.frame.Side.{Side}
 use Rattle.tt_game.specs.declared.turns.Turn.{Turn}
-use Rattle.tt_game.specs.Game.{HasValue, State, after, value_for, winner_of}
-use Rattle.tt_game.specs.GameLaws.{IsState}
+use Rattle.tt_game.specs.Game.{HasValue, State, after, value_won_by, winner_of}
+use Rattle.tt_game.specs.GameLaws.{IsWellFormedState}
 use Rattle.tt_game.specs.Line.{LineWithUndo}
 use Rattle.tt_game.proofs.SomeSide.{state_after, values_forced}
 use Rattle.tt_proof.specs.CertificateText.{certificate_text}
@@ -23,10 +23,10 @@ use Rattle.tt_share.specs.Answers as answer
 use Rattle.tt_sgf.specs.Bytes.{newline}
 use Rattle.tt_text.specs.declared.options.CertKind.{CertKind}
 use Rattle.tt_text.specs.declared.options.CertKind.TheVariants.{Plain, Shared}
-use Rattle.tt_text.specs.Solving.{CertificateFollows, IsFirstTurn, IsDecidedText, IsUnsettledFor, IsVerdict, decided, decided_text, unsettled, unsettled_text}
+use Rattle.tt_text.specs.Solving.{CertificateFollowsIfAsked, IsFirstTurnOfWinner, IsDecidedText, IsUnsettledFor, IsVerdict, decided, decided_text, unsettled, unsettled_text}
 
 -- a strategy that wins says the value
-won_value : (side : Side) (f : Frame) (u : Strategy) (s : State) → IsState f s → Wins side f u s → HasValue f s (value_for side)
+won_value : (side : Side) (f : Frame) (u : Strategy) (s : State) → IsWellFormedState f s → Wins side f u s → HasValue f s (value_won_by side)
 won_value side f u s is w = (values_forced f s side is).1 (depth u) (win_forces side f u s w)
 
 -- a proof that stands at the problem wins there
@@ -51,25 +51,25 @@ plain_shared p f s most text at won low e =
 -- and as a line it follows the verdict
 pub plain_follows : (p : ProofClaim) (line : LineWithUndo) (limits : Limits) (text lines : List ℕ) → StandsAt p line.frame line.state
     → IsWinningTree p.side p.frame p.state p.tree → depth p.tree ≤ limits.depth → text ≡ certificate_text line.frame.size p.side p.tree
-    → lines ≡ text ++ newline ∷ [] → CertificateFollows line limits p.side (first_turn_of p.tree) Plain lines
+    → lines ≡ text ++ newline ∷ [] → CertificateFollowsIfAsked line limits p.side (first_turn_of p.tree) Plain lines
 plain_follows p line limits text lines at won low e f =
     let w = won_there p line.frame line.state at won in
     (text, record { strategy = p.tree; is = record { in_order = w.in_order; shallow = w.shallow; text = e }; wins = w.wins; shallow = low; begins = refl }, f)
 
 pub shared_follows : (line : LineWithUndo) (limits : Limits) (side : Side) (first : Option Turn) (most : ℕ) (text lines : List ℕ) → most ≡ limits.depth
-    → IsWinningSharedCertificate line.frame line.state side first most text → lines ≡ text ++ newline ∷ [] → CertificateFollows line limits side first Shared lines
+    → IsWinningSharedCertificate line.frame line.state side first most text → lines ≡ text ++ newline ∷ [] → CertificateFollowsIfAsked line limits side first Shared lines
 shared_follows line limits side first most text lines same w e =
     (text, subst (λ (n : ℕ). IsWinningSharedCertificate line.frame line.state side first n text) same w, e)
 
 -- the line of a verdict, and what follows it
 pub said : (line : LineWithUndo) (limits : Limits) (p : ProofClaim) (first : Option Turn) (cert : CertKind) (lines text : List ℕ) → first ≡ first_turn_of p.tree
-    → CertificateFollows line limits p.side (first_turn_of p.tree) cert lines → text ≡ decided_text line.frame.size p.side first ++ lines
+    → CertificateFollowsIfAsked line limits p.side (first_turn_of p.tree) cert lines → text ≡ decided_text line.frame.size p.side first ++ lines
     → IsDecidedText line limits p.side first cert text
-said line limits p first cert lines text e h at = (lines, subst (λ (o : Option Turn). CertificateFollows line limits p.side o cert lines) (sym e) h, at)
+said line limits p first cert lines text e h at = (lines, subst (λ (o : Option Turn). CertificateFollowsIfAsked line limits p.side o cert lines) (sym e) h, at)
 
-module _ (line : LineWithUndo) (is : IsState line.frame line.state) where
+module _ (line : LineWithUndo) (is : IsWellFormedState line.frame line.state) where
   -- the first turn of a winning strategy keeps the value
-  first_keeps : (side : Side) (u : Strategy) → Wins side line.frame u line.state → (side ≡ line.state.to_move → IsSome (first_turn_of u)) → IsFirstTurn line side (first_turn_of u)
+  first_keeps : (side : Side) (u : Strategy) → Wins side line.frame u line.state → (side ≡ line.state.to_move → IsSome (first_turn_of u)) → IsFirstTurnOfWinner line side (first_turn_of u)
   first_keeps side done w shown = λ e. let bad : false ≡ true = shown (sym e) in cc
   first_keeps side (pick t u) w shown =
       (w.1, w.2, won_value side line.frame u (after line.frame line.state t) (state_after line.frame line.state t is w.2) w.3)
@@ -95,11 +95,11 @@ module _ (line : LineWithUndo) (is : IsState line.frame line.state) where
 
   -- its side is the value
   pub settled_value : (limits : Limits) (p : ProofClaim) (first : Option Turn) → IsSettledAnswer line limits p first → IsWinningTree p.side p.frame p.state p.tree
-      → HasValue line.frame line.state (value_for p.side)
+      → HasValue line.frame line.state (value_won_by p.side)
   settled_value limits p first h w = won_value p.side line.frame p.tree line.state is (settled_won limits p first h w).wins
 
   -- and so is a side that has won
-  pub winner_value : (side : Side) → winner_of line.frame line.state ≡ Some side → HasValue line.frame line.state (value_for side)
+  pub winner_value : (side : Side) → winner_of line.frame line.state ≡ Some side → HasValue line.frame line.state (value_won_by side)
   winner_value side w = (values_forced line.frame line.state side is).1 0 w
 
 -- what a stuck turn says is what the verdict says for the reason

@@ -8,7 +8,7 @@ use Rattle.tt_game.specs.declared.faults.GameFault.{GameFault}
 use Rattle.tt_game.specs.declared.frame.Side.{Side}
 use Rattle.tt_game.specs.declared.turns.Turn.{Turn}
 use Rattle.tt_game.specs.Faults.{code_of}
-use Rattle.tt_game.specs.Game.{HasValue, IsLegal, after, value_for}
+use Rattle.tt_game.specs.Game.{HasValue, IsLegal, after, value_won_by}
 use Rattle.tt_game.specs.Line.{LineWithUndo}
 use Rattle.tt_game.specs.Problems.{problem_of}
 use Rattle.tt_game.specs.Sides.{verdict_word}
@@ -56,16 +56,16 @@ value_text (Ok side) = verdict_word side ++ newline ∷ []
 value_text (Err reason) = unsettled_text reason
 
 -- the line on a turn, behind two blanks
-abbrev pub value_line : Size → Turn → Result Side Reason → List ℕ
-value_line size t value = space ∷ space ∷ (readable_turn_text size t ++ space ∷ value_text value)
+abbrev pub turn_value_line : Size → Turn → Result Side Reason → List ℕ
+turn_value_line size t value = space ∷ space ∷ (readable_turn_text size t ++ space ∷ value_text value)
 
 -- ---- what they say
 
 -- the first turn is shown exactly where the winner is to move; it is legal, and keeps the value
-abbrev pub IsFirstTurn : LineWithUndo → Side → Option Turn → Type 0
-IsFirstTurn p side None = p.state.to_move ≢ side
-IsFirstTurn p side (Some t) =
-    (p.state.to_move ≡ side) × IsLegal p.frame p.state t × HasValue p.frame (after p.frame p.state t) (value_for side)
+abbrev pub IsFirstTurnOfWinner : LineWithUndo → Side → Option Turn → Type 0
+IsFirstTurnOfWinner p side None = p.state.to_move ≢ side
+IsFirstTurnOfWinner p side (Some t) =
+    (p.state.to_move ≡ side) × IsLegal p.frame p.state t × HasValue p.frame (after p.frame p.state t) (value_won_by side)
 
 -- the bytes are the certificate of a strategy that wins for the side, within the limit on depth, and begins with that turn
 pub record IsWinningCertificate (p : LineWithUndo) (limits : Limits) (side : Side) (first : Option Turn) (bytes : List ℕ) : Type 0 where
@@ -76,16 +76,16 @@ pub record IsWinningCertificate (p : LineWithUndo) (limits : Limits) (side : Sid
   pub begins : first ≡ first_turn_of strategy
 
 -- nothing follows, or a certificate on a line of its own where it is asked for
-abbrev pub CertificateFollows : LineWithUndo → Limits → Side → Option Turn → CertKind → List ℕ → Type 0
-CertificateFollows p limits side first Unasked lines = lines ≡ []
-CertificateFollows p limits side first Plain lines = (bytes : List ℕ) × IsWinningCertificate p limits side first bytes × (lines ≡ bytes ++ newline ∷ [])
-CertificateFollows p limits side first Shared lines =
+abbrev pub CertificateFollowsIfAsked : LineWithUndo → Limits → Side → Option Turn → CertKind → List ℕ → Type 0
+CertificateFollowsIfAsked p limits side first Unasked lines = lines ≡ []
+CertificateFollowsIfAsked p limits side first Plain lines = (bytes : List ℕ) × IsWinningCertificate p limits side first bytes × (lines ≡ bytes ++ newline ∷ [])
+CertificateFollowsIfAsked p limits side first Shared lines =
     (bytes : List ℕ) × IsWinningSharedCertificate p.frame p.state side first limits.depth bytes × (lines ≡ bytes ++ newline ∷ [])
 
 -- the text of a decided problem, with what follows it
 abbrev pub IsDecidedText : LineWithUndo → Limits → Side → Option Turn → CertKind → List ℕ → Type 0
 IsDecidedText p limits side first cert text =
-    (lines : List ℕ) × CertificateFollows p limits side first cert lines × (text ≡ decided_text p.frame.size side first ++ lines)
+    (lines : List ℕ) × CertificateFollowsIfAsked p limits side first cert lines × (text ≡ decided_text p.frame.size side first ++ lines)
 
 -- behind some legal turn the search is stuck for the reason, and the lesser turns lose; for the total only where there is one, and
 -- then the count of this search and those of grown searches behind the other legal turns add up to it; of memory nothing is said
@@ -98,13 +98,13 @@ IsUnsettledFor p limits total Memory = Unit {0}
 
 -- The text is a verdict on the problem: its value, killed or lives; or that no win was found, for a reason.
 pub data IsVerdict (p : LineWithUndo) (limits : Limits) (total : Option ℕ) (cert : CertKind) : List ℕ → Type 0 where
-  decided : (side : Side) (first : Option Turn) (lines : List ℕ) → HasValue p.frame p.state (value_for side) → IsFirstTurn p side first
-      → CertificateFollows p limits side first cert lines → IsVerdict p limits total cert (decided_text p.frame.size side first ++ lines)
+  decided : (side : Side) (first : Option Turn) (lines : List ℕ) → HasValue p.frame p.state (value_won_by side) → IsFirstTurnOfWinner p side first
+      → CertificateFollowsIfAsked p limits side first cert lines → IsVerdict p limits total cert (decided_text p.frame.size side first ++ lines)
   unsettled : (reason : Reason) → IsUnsettledFor p limits total reason → IsVerdict p limits total cert (unsettled_text reason)
 
 -- the side has the value, or a search is stuck for the reason
 abbrev pub IsValueOrReason : LineWithUndo → Limits → Option ℕ → Result Side Reason → Type 0
-IsValueOrReason p limits total (Ok side) = HasValue p.frame p.state (value_for side)
+IsValueOrReason p limits total (Ok side) = HasValue p.frame p.state (value_won_by side)
 IsValueOrReason p limits total (Err reason) = IsUnsettledFor p limits total reason
 
 -- the problem behind a turn, which alone may be undone
@@ -115,17 +115,17 @@ line_after p t = record { frame = p.frame; state = after p.frame p.state t; befo
 abbrev pub AreTurnLines : LineWithUndo → Limits → Option ℕ → List Turn → List ℕ → Type 0
 AreTurnLines p limits total [] lines = lines ≡ []
 AreTurnLines p limits total (t ∷ ts) lines = (value : Result Side Reason) × (rest : List ℕ) × IsValueOrReason (line_after p t) limits total value
-    × (lines ≡ value_line p.frame.size t value ++ rest) × AreTurnLines p limits total ts rest
+    × (lines ≡ turn_value_line p.frame.size t value ++ rest) × AreTurnLines p limits total ts rest
 
 -- nothing follows, or a line for each legal turn, in rising order, where they are asked for
-abbrev pub TurnLinesFollow : LineWithUndo → Limits → Option ℕ → Bool → List ℕ → Type 0
-TurnLinesFollow p limits total false lines = lines ≡ []
-TurnLinesFollow p limits total true lines = AreTurnLines p limits total (legal_turns p.frame p.state) lines
+abbrev pub TurnLinesFollowIfAsked : LineWithUndo → Limits → Option ℕ → Bool → List ℕ → Type 0
+TurnLinesFollowIfAsked p limits total false lines = lines ≡ []
+TurnLinesFollowIfAsked p limits total true lines = AreTurnLines p limits total (legal_turns p.frame p.state) lines
 
 -- a verdict on the problem, and what follows of its turns
 abbrev pub IsAnswerText : Options → LineWithUndo → List ℕ → Type 0
 IsAnswerText options p text = (verdict lines : List ℕ) × (text ≡ verdict ++ lines)
-    × IsVerdict p options.limits options.total options.cert verdict × TurnLinesFollow p options.limits options.total options.turns lines
+    × IsVerdict p options.limits options.total options.cert verdict × TurnLinesFollowIfAsked p options.limits options.total options.turns lines
 
 -- what is said of the problem, or the number of its refusal
 abbrev pub SolvesProblemAs : Options → Result LineWithUndo GameFault → TreeOutcome → Type 0

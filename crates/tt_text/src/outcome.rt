@@ -5,7 +5,7 @@ ghost use Rattle.tt_text.specs.Trees.{is_refused, outcome_line};
 
 use std::alloc::{AllocError, Global};
 use tt_game::{GameFault, Record, play_record};
-use tt_sgf::{Items, MainLine, NoMemory};
+use tt_sgf::{ItemList, MainLine, NoMemory};
 
 /// What becomes of one game tree.
 #[derive(Drop)]
@@ -13,7 +13,7 @@ pub enum TreeOutcome {
     /// A record was scored.
     Scored(Record),
     /// A problem was answered, by this text behind the tree's number.
-    Answered(Items<u8>),
+    Answered(ItemList<u8>),
     /// The tree was refused, with this number.
     Refused(u8),
 }

@@ -2,17 +2,17 @@
 ghost use Rattle.std.specs.Prelude.{◌≡◌, ◌≤◌, ◌+◌, IfOk, IfSome, None, length, true};
 ghost use Rattle.tt_sgf.specs.declared.trees.TheConstants.{MAX_BYTES};
 ghost use Rattle.tt_game.specs.Game.{IsLegal, winner_of};
-ghost use Rattle.tt_game.specs.GameLaws.{IsState};
+ghost use Rattle.tt_game.specs.GameLaws.{IsWellFormedState};
 ghost use Rattle.tt_game.specs.Turns.{legal_turns};
 ghost use Rattle.tt_proof.specs.CertificateText.{certificate_text};
 ghost use Rattle.tt_proof.specs.declared.tree.TheConstants.{MOST_DEPTH};
 ghost use Rattle.tt_proof.specs.ProofClaim.{StandsAt};
 ghost use Rattle.tt_share.specs.Answers.{IsAnswer};
-ghost use Rattle.tt_text.specs.Solving.{AreTurnLines, IsValueOrReason, IsAnswerText, Solves, TurnLinesFollow, IsVerdict, line_after};
+ghost use Rattle.tt_text.specs.Solving.{AreTurnLines, IsValueOrReason, IsAnswerText, Solves, TurnLinesFollowIfAsked, IsVerdict, line_after};
 
 use crate::options::{CertKind, Options};
 use crate::outcome::TreeOutcome;
-use crate::verdict::{put_value_line, value_of_answer, verdict_text};
+use crate::verdict::{put_turn_value_line, value_of_answer, verdict_text};
 use std::alloc::Global;
 use std::sync::{Arc, Wait};
 use std::thread::Threads;
@@ -20,7 +20,7 @@ use tt_dfpn::{VisitsLeft, find_proof};
 use tt_game::{GameFault, Line, Side, Turn, problem};
 use tt_proof::{Proof, write_cert, write_shared_cert};
 use tt_search::Reason;
-use tt_sgf::{Items, MAX_BYTES, MainLine, NoMemory, Size};
+use tt_sgf::{ItemList, MAX_BYTES, MainLine, NoMemory, Size};
 use tt_share::{Answer, CertLog, Gate, NoGate, View};
 
 /// Whether `check` reads the certificate of a proof behind a problem's text, with the ends of two lines.
@@ -104,7 +104,7 @@ fn proof_by_dfpn(
 
 /// What df-pn finds at a line, where it is asked for. A proof whose certificate is to be written, and can't be checked behind the
 /// problem's text, is left.
-pub fn usable_dfpn_proof(
+pub fn checkable_dfpn_proof(
     alloc: Global,
     line: &Line,
     options: Options,
@@ -148,7 +148,7 @@ fn solve_problem<X: Threads + Wait + Sync, G: Gate>(
     ensures { IfOk result (λ answer. IsAnswer line.now options.limits options.total answer) }
 {
     let log = CertLog::new(alloc)?;
-    if let Ok(Some(proof)) = usable_dfpn_proof(alloc, line, options, bytes) {
+    if let Ok(Some(proof)) = checkable_dfpn_proof(alloc, line, options, bytes) {
         let _ = keep_proof(rt, alloc, &log, proof);
     }
     Ok(tt_share::solve(
@@ -173,7 +173,7 @@ fn verdict_at<X: Threads + Wait + Sync, G: Gate>(
     gate: &G,
 ) -> Result<Vec<u8>, NoMemory>
     requires open { winner_of line.now.frame line.now.state ≡ None }
-    requires state { IsState line.now.frame line.now.state }
+    requires state { IsWellFormedState line.now.frame line.now.state }
     ensures { IfOk result (λ text. IsVerdict line.now options.limits options.total options.cert text.items) }
 {
     let answer = solve_problem(rt, alloc, line, options, bytes, gate)?;
@@ -194,7 +194,7 @@ fn value_at<X: Threads + Wait + Sync>(
     line: &Line,
     options: Options,
 ) -> Result<Side, Reason>
-    requires { IsState line.now.frame line.now.state }
+    requires { IsWellFormedState line.now.frame line.now.state }
     ensures { IsValueOrReason line.now options.limits options.total result }
 {
     if let Some(side) = line.winner() {
@@ -224,7 +224,7 @@ fn value_after_turn<X: Threads + Wait + Sync>(
     options: Options,
     turn: Turn,
 ) -> Result<Side, Reason>
-    requires state { IsState line.now.frame line.now.state }
+    requires state { IsWellFormedState line.now.frame line.now.state }
     requires legal { IsLegal line.now.frame line.now.state turn }
     ensures { IsValueOrReason (line_after line.now turn) options.limits options.total result }
 {
@@ -241,14 +241,14 @@ fn turn_lines<X: Threads + Wait + Sync>(
     line: &Line,
     options: Options,
 ) -> Result<Vec<u8>, NoMemory>
-    requires { IsState line.now.frame line.now.state }
+    requires { IsWellFormedState line.now.frame line.now.state }
     ensures { IfOk result (λ lines. AreTurnLines line.now options.limits options.total (legal_turns line.now.frame line.now.state) lines.items) }
 {
     let turns = line.turns();
     let mut lines = Vec::new(alloc);
     for turn in turns.as_slice() {
         let value = value_after_turn(rt, alloc, line, options, *turn);
-        put_value_line(&mut lines, line, *turn, value)?;
+        put_turn_value_line(&mut lines, line, *turn, value)?;
     }
     Ok(lines)
 }
@@ -260,8 +260,8 @@ fn turn_lines_if_asked<X: Threads + Wait + Sync>(
     line: &Line,
     options: Options,
 ) -> Result<Vec<u8>, NoMemory>
-    requires { IsState line.now.frame line.now.state }
-    ensures { IfOk result (λ lines. TurnLinesFollow line.now options.limits options.total options.turns lines.items) }
+    requires { IsWellFormedState line.now.frame line.now.state }
+    ensures { IfOk result (λ lines. TurnLinesFollowIfAsked line.now options.limits options.total options.turns lines.items) }
 {
     if options.turns {
         turn_lines(rt, alloc, line, options)
@@ -279,15 +279,15 @@ fn solve_to_text<X: Threads + Wait + Sync, G: Gate>(
     options: Options,
     bytes: usize,
     gate: &G,
-) -> Result<Items<u8>, NoMemory>
+) -> Result<ItemList<u8>, NoMemory>
     requires open { winner_of line.now.frame line.now.state ≡ None }
-    requires state { IsState line.now.frame line.now.state }
+    requires state { IsWellFormedState line.now.frame line.now.state }
     ensures { IfOk result (λ text. IsAnswerText options line.now text) }
 {
     let mut text = verdict_at(rt, alloc, line, options, bytes, gate)?;
     let lines = turn_lines_if_asked(rt, alloc, line, options)?;
     text.extend_from_slice(lines.as_slice())?;
-    Ok(Items::from_vec(text))
+    Ok(ItemList::from_vec(text))
 }
 
 /// What is said of the problem that a main line is, or its refusal. The problem's text has so many bytes. The gate is told of the

@@ -1,14 +1,14 @@
 //! The text of the verdict on a problem, as it stands behind the problem's number.
 ghost use Rattle.std.specs.Prelude.{◌≡◌, ◌≤◌, ◌∷◌, ◌++◌, [], IfOk, IfSome, OnOk};
 ghost use Rattle.tt_sgf.specs.Bytes.{newline};
-ghost use Rattle.tt_game.specs.GameLaws.{IsState};
+ghost use Rattle.tt_game.specs.GameLaws.{IsWellFormedState};
 ghost use Rattle.tt_proof.specs.declared.tree.TheConstants.{MOST_DEPTH};
 ghost use Rattle.tt_proof.specs.CertificateText.{certificate_text};
 ghost use Rattle.tt_proof.specs.ProofClaim.{IsWinningTree, StandsAt, first_turn_of};
 ghost use Rattle.tt_proof.specs.SharedWins.{IsWinningSharedCertificate};
-ghost use Rattle.tt_proof.specs.Strategy.{IsOnBoard, depth};
+ghost use Rattle.tt_proof.specs.Strategy.{IsTurnOnBoardOfSize, depth};
 ghost use Rattle.tt_share.specs.Answers.{IsAnswer, IsSettledAnswer};
-ghost use Rattle.tt_text.specs.Solving.{CertificateFollows, IsDecidedText, IsValueOrReason, IsVerdict, decided_text, first_turn_text, reason_word, unsettled_text, value_line, value_text};
+ghost use Rattle.tt_text.specs.Solving.{CertificateFollowsIfAsked, IsDecidedText, IsValueOrReason, IsVerdict, decided_text, first_turn_text, reason_word, unsettled_text, turn_value_line, value_text};
 
 use crate::options::CertKind;
 use std::alloc::Global;
@@ -32,7 +32,7 @@ fn reason_word(reason: Reason) -> &'static [u8]
 
 /// Writes a blank and the first turn behind the bytes, where there is one.
 fn put_first_turn_text(out: &mut Vec<u8>, first: &Option<Turn>, size: Size) -> Result<(), NoMemory>
-    requires { IfSome first.now (IsOnBoard size) }
+    requires { IfSome first.now (IsTurnOnBoardOfSize size) }
     ensures { OnOk result (out.new.items ≡ out.old.items ++ first_turn_text size first.now) }
 {
     match first {
@@ -102,7 +102,7 @@ fn certificate_lines(
 ) -> Result<Vec<u8>, NoMemory>
     requires stands { StandsAt proof.now line.now.frame line.now.state }
     requires shallow { depth proof.now.tree ≤ limits.now.depth }
-    ensures { IfOk result (λ lines. CertificateFollows line.now limits.now proof.now.side (first_turn_of proof.now.tree) cert lines.items) }
+    ensures { IfOk result (λ lines. CertificateFollowsIfAsked line.now limits.now proof.now.side (first_turn_of proof.now.tree) cert lines.items) }
 {
     match cert {
         CertKind::Unasked => Ok(Vec::new(alloc)),
@@ -185,14 +185,14 @@ fn unsettled_verdict_text(alloc: Global, reason: Reason) -> Result<Vec<u8>, NoMe
 }
 
 /// Writes the line on a turn behind the bytes.
-pub fn put_value_line(
+pub fn put_turn_value_line(
     out: &mut Vec<u8>,
     line: &Line,
     turn: Turn,
     value: Result<Side, Reason>,
 ) -> Result<(), NoMemory>
-    requires { IsOnBoard line.now.frame.size turn }
-    ensures { OnOk result (out.new.items ≡ out.old.items ++ value_line line.now.frame.size turn value) }
+    requires { IsTurnOnBoardOfSize line.now.frame.size turn }
+    ensures { OnOk result (out.new.items ≡ out.old.items ++ turn_value_line line.now.frame.size turn value) }
 {
     out.extend_from_slice(b"  ")?;
     put_readable_turn(out, turn, line.frame().size)?;
@@ -209,7 +209,7 @@ pub fn verdict_text(
     answer: &Answer,
     cert: CertKind,
 ) -> Result<Vec<u8>, NoMemory>
-    requires state { IsState line.now.frame line.now.state }
+    requires state { IsWellFormedState line.now.frame line.now.state }
     requires answer { IsAnswer line.now limits.now total answer.now }
     ensures { IfOk result (λ text. IsVerdict line.now limits.now total cert text.items) }
 {
@@ -228,7 +228,7 @@ pub fn value_of_answer(
     total: Option<u32>,
     answer: &Answer,
 ) -> Result<Side, Reason>
-    requires state { IsState line.now.frame line.now.state }
+    requires state { IsWellFormedState line.now.frame line.now.state }
     requires answer { IsAnswer line.now limits.now total answer.now }
     ensures { IsValueOrReason line.now limits.now total result }
 {

@@ -8,7 +8,7 @@ use Rattle.tt_sgf.specs.declared.size.Size.{Size}
 use Rattle.tt_sgf.specs.declared.size.TheConstants.{MOST_POINTS}
 use Rattle.tt_sgf.specs.Sizes.{point_count}
 use Rattle.tt_board.specs.declared.counted.play_kind.NeighbourNames.{NeighbourNames}
-use Rattle.tt_board.specs.declared.counted.play_kind.TheConstants.{NO_POINT_NAME}
+use Rattle.tt_board.specs.declared.counted.play_kind.TheConstants.{OFF_BOARD_NAME}
 use Rattle.tt_board.specs.Near.{IsNeighbour}
 use Rattle.tt_board.specs.Position.{Colouring}
 use Rattle.tt_board.specs.Reach.{entry_at}
@@ -135,9 +135,9 @@ count_there test (Some q) = if test q then 1 else 0
 abbrev pub bare_one : ℕ → ℕ
 bare_one m = if m == 0 then 1 else 0
 
--- the names on the four neighbours of p; NO_POINT_NAME where the board has no such point
+-- the names on the four neighbours of p; OFF_BOARD_NAME where the board has no such point
 pub record AreNear (s : Size) (ns : List ℕ) (p : ℕ) (near : NeighbourNames) : Type 0 where
-  pub touching : (m : ℕ) → m ≢ NO_POINT_NAME → IsOneName near.above near.left near.right near.below m ↔ Touches s ns m p
+  pub touching : (m : ℕ) → m ≢ OFF_BOARD_NAME → IsOneName near.above near.left near.right near.below m ↔ Touches s ns m p
   pub bare : near.empty ≡ count_beside s (λ q. name_at ns q == 0) p
 
 -- each chain but one has its root

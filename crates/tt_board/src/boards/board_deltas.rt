@@ -70,10 +70,10 @@ impl BoardDeltas {
     }
 
     /// Whether the others are kept alike, which are then the same boards. No board is made for it, and it takes no memory.
-    pub fn same(&self, other: &BoardDeltas) -> bool
+    pub fn is_kept_alike(&self, other: &BoardDeltas) -> bool
         ensures { IsTrue result → self.now ≡ other.now }
     {
-        self.base.same(&*other.base) && self.steps.same(&other.steps)
+        self.base.same(&*other.base) && self.steps.same_edits(&other.steps)
     }
 
     /// Whether the board is one of them. It takes no memory.

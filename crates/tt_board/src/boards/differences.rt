@@ -5,7 +5,7 @@ ghost use Rattle.tt_sgf.specs.declared.size.TheConstants.{MOST_POINTS};
 ghost use Rattle.tt_board.specs.Position.{Colouring as Entries};
 ghost use Rattle.tt_board.specs.inside.Differences.{edited, colourings_from};
 ghost use Rattle.tt_board.specs.inside.Boards.{edit_at, edit_of, led, IsLed, IsHalf, AreAlikeBy, FinishesNext, IsLast};
-ghost use Rattle.tt_board.specs.declared.boards.differences.TheConstants.{EDIT_STRIDE};
+ghost use Rattle.tt_board.specs.declared.boards.differences.TheConstants.{EDIT_KIND_STRIDE};
 
 use crate::Colour;
 use crate::colouring::Colouring;
@@ -24,39 +24,39 @@ enum Edit {
 }
 
 /// How many numbers there are for the points of each kind of edit.
-const EDIT_STRIDE: u16 = 512;
+const EDIT_KIND_STRIDE: u16 = 512;
 
-/// An edit in two bytes: its kind so many times `EDIT_STRIDE`, and its point. Contracts see the edit.
+/// An edit in two bytes: its kind so many times `EDIT_KIND_STRIDE`, and its point. Contracts see the edit.
 #[derive(Drop)]
 struct EditWord(u16);
 
 impl Model for EditWord {
     ghost use Rattle.std.specs.Prelude.{◌/◌, ◌%◌};
     ghost use Rattle.tt_board.specs.declared.boards.differences.Edit.{Edit};
-    ghost use Rattle.tt_board.specs.declared.boards.differences.TheConstants.{EDIT_STRIDE};
+    ghost use Rattle.tt_board.specs.declared.boards.differences.TheConstants.{EDIT_KIND_STRIDE};
     ghost use Rattle.tt_board.specs.inside.Boards.{edit_at};
 
     ghost Value = { Edit };
 
-    ghost view = { λ s. edit_at (s.0 / EDIT_STRIDE) (s.0 % EDIT_STRIDE) };
+    ghost view = { λ s. edit_at (s.0 / EDIT_KIND_STRIDE) (s.0 % EDIT_KIND_STRIDE) };
 }
 
 impl EditWord {
     /// The step of this kind at a point.
     fn new(kind: u16, p: u16) -> EditWord
         requires kind { kind < 4 }
-        requires point { p < EDIT_STRIDE }
+        requires point { p < EDIT_KIND_STRIDE }
         ensures { result ≡ edit_at kind p }
     {
-        EditWord(kind * EDIT_STRIDE + p)
+        EditWord(kind * EDIT_KIND_STRIDE + p)
     }
 
     /// The edit that it stands for.
     fn edit(&self) -> Edit
         ensures { result ≡ self.now }
     {
-        let p = self.0 % EDIT_STRIDE;
-        match self.0 / EDIT_STRIDE {
+        let p = self.0 % EDIT_KIND_STRIDE;
+        match self.0 / EDIT_KIND_STRIDE {
             0 => Edit::Black(p),
             1 => Edit::White(p),
             2 => Edit::Empty(p),
@@ -65,7 +65,7 @@ impl EditWord {
     }
 
     /// Whether it is the same word, where those before were alike.
-    fn same_and_before(&self, other: &EditWord, before: bool) -> bool
+    fn same_and_all_before(&self, other: &EditWord, before: bool) -> bool
         ensures words { IsTrue result → self.now ≡ other.now }
         ensures before { IsTrue result → IsTrue before }
     {
@@ -92,7 +92,7 @@ impl Model for Differences {
 
 /// The edit that puts an entry on a point.
 fn edit_of(p: u16, entry: Option<Colour>) -> EditWord
-    requires { p < EDIT_STRIDE }
+    requires { p < EDIT_KIND_STRIDE }
     ensures { result ≡ edit_of p entry }
 {
     match entry {
@@ -219,7 +219,7 @@ impl Differences {
     }
 
     /// Whether these are the same edits. No colouring is made for it.
-    pub(crate) fn same(&self, other: &Differences) -> bool
+    pub(crate) fn same_edits(&self, other: &Differences) -> bool
         ensures { IsTrue result → self.now ≡ other.now }
     {
         if self.edits.len() != other.edits.len() {
@@ -227,7 +227,7 @@ impl Differences {
         }
         let mut same = true;
         for k in 0..self.edits.len() {
-            same = self.edits[k].same_and_before(&other.edits[k], same);
+            same = self.edits[k].same_and_all_before(&other.edits[k], same);
         }
         same
     }

@@ -9,11 +9,11 @@ use crate::board::Board;
 use tt_sgf::{Bits, PointSet};
 
 impl Board {
-    ghost use Rattle.tt_board.specs.Stones.{LiesOn, any_empty, all_stones_of, IsEmptyIn};
+    ghost use Rattle.tt_board.specs.Stones.{IsSetOnBoard, any_empty, all_stones_of, IsEmptyPointOfSet};
 
     /// Whether some of these points of the board is empty.
     pub fn has_some_empty(&self, points: &PointSet) -> bool
-        requires { LiesOn self.now.size points.now }
+        requires { IsSetOnBoard self.now.size points.now }
         ensures { result ≡ any_empty points.now self.now.points }
     {
         let black = self.bits(Colour::Black);
@@ -23,7 +23,7 @@ impl Board {
 
     /// Whether stones of this colour stand on all of these points of the board.
     pub fn has_stones_on_all(&self, points: &PointSet, colour: Colour) -> bool
-        requires { LiesOn self.now.size points.now }
+        requires { IsSetOnBoard self.now.size points.now }
         ensures { result ≡ all_stones_of points.now self.now.points colour }
     {
         let stones = self.bits(colour);
@@ -32,7 +32,7 @@ impl Board {
 
     /// The empty points of the board among these, as bits; numbers past the board may have theirs too.
     pub fn empty_among(&self, points: &PointSet) -> Bits
-        ensures { (p : ℕ) → p < point_count self.now.size → (bit_in result.words p ≡ true) ↔ IsEmptyIn self.now.size points.now self.now.points p }
+        ensures { (p : ℕ) → p < point_count self.now.size → (bit_in result.words p ≡ true) ↔ IsEmptyPointOfSet self.now.size points.now self.now.points p }
     {
         let left = points.bits().minus(self.bits(Colour::Black));
         left.minus(self.bits(Colour::White))

@@ -86,7 +86,13 @@ pub(crate) fn remove_chain(
 }
 
 /// Takes the stones of the chain `name`, so many, off a colouring: a pass over the names that ends with the last of them.
-fn lift_named(size: Size, points: &mut Colouring, names: &[u16], name: u16, stones: u16)
+fn lift_stones_off_colouring(
+    size: Size,
+    points: &mut Colouring,
+    names: &[u16],
+    name: u16,
+    stones: u16,
+)
     requires fits { length points.old ≡ point_count size }
     requires chain { IsChainOf size names.now name stones }
     ensures { HasLost names.now name points.old points.new }
@@ -104,7 +110,13 @@ fn lift_named(size: Size, points: &mut Colouring, names: &[u16], name: u16, ston
 }
 
 /// Takes the stones of the chain `name`, so many, off a colouring.
-pub(crate) fn lift_chain(size: Size, points: &mut Colouring, names: &[u16], name: u16, stones: u16)
+pub(crate) fn lift_chain_off_colouring(
+    size: Size,
+    points: &mut Colouring,
+    names: &[u16],
+    name: u16,
+    stones: u16,
+)
     requires fits { length points.old ≡ point_count size }
     requires chain { IsChainOf size names.now name stones }
     ensures { HasLost names.now name points.old points.new }
@@ -112,6 +124,6 @@ pub(crate) fn lift_chain(size: Size, points: &mut Colouring, names: &[u16], name
     if stones == 1 {
         points.set(root_of(name), None);
     } else {
-        lift_named(size, points, names, name, stones);
+        lift_stones_off_colouring(size, points, names, name, stones);
     }
 }

@@ -28,7 +28,7 @@ pub(crate) fn copy_first(entries: &mut [u16], from: &[u16], count: usize)
 
 /// Whether the board has a point, and this name stands there.
 #[inline]
-fn has_name(names: &[u16], index: Option<usize>, name: u16) -> bool
+fn point_has_name(names: &[u16], index: Option<usize>, name: u16) -> bool
     requires { (q : ℕ) → index ≡ Some q → q < length names.now }
     ensures { IsTrue result ↔ ((q : ℕ) × (index ≡ Some q) × (name_at names.now q ≡ name)) }
 {
@@ -45,21 +45,21 @@ fn touches(size: Size, names: &[u16], name: u16, p: usize) -> bool
     ensures { IsTrue result ↔ Touches size names.now name p }
 {
     let near = neighbours_of(size, p);
-    if has_name(names, near.above, name) {
+    if point_has_name(names, near.above, name) {
         return true;
     }
-    if has_name(names, near.left, name) {
+    if point_has_name(names, near.left, name) {
         return true;
     }
-    if has_name(names, near.right, name) {
+    if point_has_name(names, near.right, name) {
         return true;
     }
-    has_name(names, near.below, name)
+    point_has_name(names, near.below, name)
 }
 
 /// 1 for a point that is empty and that no stone of the chain is beside, 0 for another one or none.
 #[inline]
-fn new_liberty_at(size: Size, names: &[u16], name: u16, index: Option<usize>) -> u16
+fn one_if_new_liberty(size: Size, names: &[u16], name: u16, index: Option<usize>) -> u16
     requires wide { point_count size ≤ length names.now }
     requires on_board { (q : ℕ) → index ≡ Some q → q < point_count size }
     ensures value { result ≡ count_there (is_new size names.now name) index }
@@ -78,21 +78,21 @@ fn new_liberty_at(size: Size, names: &[u16], name: u16, index: Option<usize>) ->
 }
 
 /// How many liberties a stone on `p` brings the chain: empty points beside `p` that no stone of the chain is beside.
-pub(crate) fn new_liberties(size: Size, names: &[u16], name: u16, p: usize) -> u16
+pub(crate) fn count_new_liberties(size: Size, names: &[u16], name: u16, p: usize) -> u16
     requires wide { point_count size ≤ length names.now }
     requires on_board { p < point_count size }
     ensures { result ≡ count_beside size (is_new size names.now name) p }
 {
     let near = neighbours_of(size, p);
-    new_liberty_at(size, names, name, near.above)
-        + new_liberty_at(size, names, name, near.left)
-        + new_liberty_at(size, names, name, near.right)
-        + new_liberty_at(size, names, name, near.below)
+    one_if_new_liberty(size, names, name, near.above)
+        + one_if_new_liberty(size, names, name, near.left)
+        + one_if_new_liberty(size, names, name, near.right)
+        + one_if_new_liberty(size, names, name, near.below)
 }
 
 /// Whether a name is not among those found. Mostly none is found yet.
 #[inline]
-pub(crate) fn is_fresh(found: &ArrayVec<u16, 4>, name: u16) -> bool
+pub(crate) fn is_not_yet_found(found: &ArrayVec<u16, 4>, name: u16) -> bool
     ensures fresh { IsTrue result → Contains found.now.items name → ⊥ }
     ensures contained { result ≡ false → Contains found.now.items name }
 {
@@ -112,7 +112,7 @@ fn push_chain_at(found: &mut ArrayVec<u16, 4>, names: &[u16], index: Option<usiz
 {
     if let Some(q) = index {
         let name = names[q];
-        if name != 0 && name != but && is_fresh(found, name) {
+        if name != 0 && name != but && is_not_yet_found(found, name) {
             found.push(name);
         }
     }

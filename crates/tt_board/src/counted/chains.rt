@@ -15,7 +15,7 @@ ghost use Rattle.tt_board.specs.inside.Chains.{name_at, root_of, colour_number, 
 use crate::Colour;
 use crate::colouring::Colouring;
 use crate::colouring::around::{adjacent_points, first_column};
-use crate::counted::captures::{lift_chain, remove_chain};
+use crate::counted::captures::{lift_chain_off_colouring, remove_chain};
 use crate::counted::chain_names::{copy_first, root_of};
 use crate::counted::joins::{join_beside, start_chain};
 use crate::counted::play_effects::{PlayEffect, chains_in_atari};
@@ -24,7 +24,7 @@ use std::marker::Model;
 use tt_sgf::{BITS, Bits, Size};
 
 /// Of so many points the names and the counts are copied in three parts; of more in one, with those behind them.
-const FEW_POINTS: usize = 180;
+const MOST_COPIED_IN_PARTS: usize = 180;
 
 /// The name of the chain on each point, 0 where it is empty, and each chain's counts of stones and of liberties at its root. They lie
 /// side by side, so that a large board takes them over from another one in one move.
@@ -63,7 +63,7 @@ fn zeros() -> [u16; 361]
 
 /// The greater of two ends.
 #[inline]
-fn later_end(one: usize, other: usize) -> usize
+fn greater_end(one: usize, other: usize) -> usize
     ensures one { one ≤ result }
     ensures other { other ≤ result }
 {
@@ -156,7 +156,7 @@ impl Chains {
             p,
             near,
         );
-        self.end = later_end(self.end, p + 1);
+        self.end = greater_end(self.end, p + 1);
     }
 
     /// Takes the chain of this name off the board.
@@ -195,7 +195,7 @@ impl Chains {
     }
 
     /// What four names tell of a play of `colour` on the empty point `p`, where no chain of the opponent's has `p` as its one liberty.
-    /// It takes no stone off where the stone has a liberty or joins a chain that has another one, and it is in vain where the opponent's
+    /// It takes no stone off where the stone has a liberty or joins a chain that has another one, and it is a suicide of one stone where the opponent's
     /// stones are all that is beside `p`.
     #[inline(always)]
     pub(crate) fn play_kind(&self, colour: Colour, p: usize) -> PlayKind
@@ -221,7 +221,7 @@ impl Chains {
         if near.has_empty_or_not_in_atari(&self.counts.liberties, colour_number(colour)) {
             return PlayKind::NoCapture;
         }
-        if near.has_own_colour(colour_number(colour)) {
+        if near.has_colour(colour_number(colour)) {
             return PlayKind::NeedsBoard;
         }
         PlayKind::SingleStoneSuicide
@@ -245,14 +245,14 @@ impl Chains {
 
     /// Some of these empty points on which a play of `colour` puts a stone and takes none off: those beside another of them, and
     /// beside no stone of the opponent's whose chain has one liberty.
-    pub(crate) fn no_capture_among(&self, colour: Colour, points: &Bits) -> Bits
+    pub(crate) fn some_noncapturing_plays(&self, colour: Colour, points: &Bits) -> Bits
         requires { (q : ℕ) → q < point_count self.now.size → bit_in points.now.words q ≡ true → entry_at self.now.points q ≡ None }
         ensures fits { length self.now.points ≡ point_count self.now.size }
         ensures no_capture { (p : ℕ) → p < BITS → bit_in result.words p ≡ true → (bit_in points.now.words p ≡ true)
             × (play_of self.now.size self.now.points colour p ≡ slice_set self.now.points p (Some colour)) }
     {
         let first = first_column(self.size);
-        let points = points.below(self.size.point_count());
+        let points = points.truncated_to(self.size.point_count());
         let near = adjacent_points(self.size, &first, &points);
         let last = self.stones_in_atari(&near.and(self.points.bits(colour.other())));
         points
@@ -312,7 +312,7 @@ impl Chains {
 
     /// Plays `colour` on the empty point `p`: the stone is put, then the other colour is cleared, then `colour` (the Tromp-Taylor
     /// rules of Go).
-    pub(crate) fn play_stone(&mut self, colour: Colour, p: usize)
+    pub(crate) fn play_and_clear(&mut self, colour: Colour, p: usize)
         requires on_board { p < point_count self.old.size }
         requires free { entry_at self.old.points p ≡ None }
         ensures size { self.new.size ≡ self.old.size }
@@ -328,13 +328,13 @@ impl Chains {
     }
 
     /// Takes the stones of the chain of this name off a colouring of the board's points.
-    fn lift(&self, name: u16, points: &mut Colouring)
+    fn lift_off_colouring(&self, name: u16, points: &mut Colouring)
         requires fits { length points.old ≡ point_count self.now.size }
         requires living { (name ≢ 0) × (name_at self.now.names (root_of name) ≡ name) }
         ensures { HasLost self.now.names name points.old points.new }
     {
         let stones = self.counts.stones[root_of(name)];
-        lift_chain(self.size, points, &self.counts.names, name, stones);
+        lift_chain_off_colouring(self.size, points, &self.counts.names, name, stones);
     }
 
     /// The colouring after a play by which stones may go.
@@ -346,7 +346,7 @@ impl Chains {
         let look = self.play_effect(colour, p);
         let mut points = self.points.copy();
         for name in look.goes.as_slice() {
-            self.lift(*name, &mut points);
+            self.lift_off_colouring(*name, &mut points);
         }
         if !look.suicide {
             points.set(p, Some(colour));
@@ -377,8 +377,8 @@ impl Chains {
         ensures size { self.new.size ≡ other.now.size }
         ensures points { self.new.points ≡ other.now.points }
     {
-        let end = later_end(self.end, other.end);
-        if end <= FEW_POINTS {
+        let end = greater_end(self.end, other.end);
+        if end <= MOST_COPIED_IN_PARTS {
             copy_first(&mut self.counts.names, &other.counts.names, end);
             copy_first(&mut self.counts.stones, &other.counts.stones, end);
             copy_first(&mut self.counts.liberties, &other.counts.liberties, end);

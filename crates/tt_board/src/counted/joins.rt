@@ -3,25 +3,25 @@
 ghost use Rattle.std.specs.Prelude.{◌≡◌, ◌≢◌, ℕ, ◌+◌, ◌/◌, ◌<◌, ◌≤◌, ◌⊎◌, length, map, slice_set};
 ghost use Rattle.tt_sgf.specs.declared.size.TheConstants.{MOST_POINTS};
 ghost use Rattle.tt_sgf.specs.Sizes.{point_count};
-ghost use Rattle.tt_board.specs.declared.counted.play_kind.TheConstants.{NO_POINT_NAME};
+ghost use Rattle.tt_board.specs.declared.counted.play_kind.TheConstants.{OFF_BOARD_NAME};
 ghost use Rattle.tt_board.specs.Position.{Colouring};
 ghost use Rattle.tt_board.specs.Reach.{entry_at};
 ghost use Rattle.tt_board.specs.inside.Chains.{name_at, root_of, renamed, liberty_count, AreCounted, AreNames, AreNamesBut, AreNear, AreGathered, Touches, IsOneName, IsNewName};
 ghost use Rattle.tt_board.specs.inside.Chains.{IsChainOf, AreBoardCounts, AreTwoChains};
 
-use crate::counted::chain_names::{new_liberties, root_of};
-use crate::counted::play_kind::{NO_POINT_NAME, NeighbourNames};
+use crate::counted::chain_names::{count_new_liberties, root_of};
+use crate::counted::play_kind::{NeighbourNames, OFF_BOARD_NAME};
 use tt_sgf::Size;
 
 /// Takes a liberty from the chain of this name, if it is one and not one of three others.
 #[inline]
 fn take_liberty_from(liberties: &mut [u16], name: u16, one: u16, two: u16, three: u16)
     requires in_range { root_of name < length liberties.old }
-    requires some { IsNewName NO_POINT_NAME name one two three → 0 < name_at liberties.old (root_of name) }
-    ensures fewer { IsNewName NO_POINT_NAME name one two three → name_at liberties.new (root_of name) + 1 ≡ name_at liberties.old (root_of name) }
-    ensures same { (r : ℕ) → (IsNewName NO_POINT_NAME name one two three → root_of name ≢ r) → name_at liberties.new r ≡ name_at liberties.old r }
+    requires some { IsNewName OFF_BOARD_NAME name one two three → 0 < name_at liberties.old (root_of name) }
+    ensures fewer { IsNewName OFF_BOARD_NAME name one two three → name_at liberties.new (root_of name) + 1 ≡ name_at liberties.old (root_of name) }
+    ensures same { (r : ℕ) → (IsNewName OFF_BOARD_NAME name one two three → root_of name ≢ r) → name_at liberties.new r ≡ name_at liberties.old r }
 {
-    if name != 0 && name != NO_POINT_NAME && name != one && name != two && name != three {
+    if name != 0 && name != OFF_BOARD_NAME && name != one && name != two && name != three {
         liberties[root_of(name)] -= 1;
     }
 }
@@ -31,11 +31,11 @@ fn take_liberty_from(liberties: &mut [u16], name: u16, one: u16, two: u16, three
 fn take_liberty_beside(liberties: &mut [u16], near: &NeighbourNames)
     requires in_range { (m : ℕ) → IsOneName near.now.above near.now.left near.now.right near.now.below m → root_of m < length liberties.old }
     requires apart { (m k : ℕ) → IsOneName near.now.above near.now.left near.now.right near.now.below m → IsOneName near.now.above near.now.left near.now.right near.now.below k
-        → m ≢ 0 → m ≢ NO_POINT_NAME → k ≢ 0 → k ≢ NO_POINT_NAME → m ≢ k → root_of m ≢ root_of k }
-    requires some { (m : ℕ) → IsOneName near.now.above near.now.left near.now.right near.now.below m → m ≢ 0 → m ≢ NO_POINT_NAME → 0 < name_at liberties.old (root_of m) }
-    ensures fewer { (m : ℕ) → IsOneName near.now.above near.now.left near.now.right near.now.below m → m ≢ 0 → m ≢ NO_POINT_NAME
+        → m ≢ 0 → m ≢ OFF_BOARD_NAME → k ≢ 0 → k ≢ OFF_BOARD_NAME → m ≢ k → root_of m ≢ root_of k }
+    requires some { (m : ℕ) → IsOneName near.now.above near.now.left near.now.right near.now.below m → m ≢ 0 → m ≢ OFF_BOARD_NAME → 0 < name_at liberties.old (root_of m) }
+    ensures fewer { (m : ℕ) → IsOneName near.now.above near.now.left near.now.right near.now.below m → m ≢ 0 → m ≢ OFF_BOARD_NAME
         → name_at liberties.new (root_of m) + 1 ≡ name_at liberties.old (root_of m) }
-    ensures same { (r : ℕ) → ((m : ℕ) → IsOneName near.now.above near.now.left near.now.right near.now.below m → m ≢ 0 → m ≢ NO_POINT_NAME → root_of m ≢ r)
+    ensures same { (r : ℕ) → ((m : ℕ) → IsOneName near.now.above near.now.left near.now.right near.now.below m → m ≢ 0 → m ≢ OFF_BOARD_NAME → root_of m ≢ r)
         → name_at liberties.new r ≡ name_at liberties.old r }
 {
     take_liberty_from(liberties, near.above, 0, 0, 0);
@@ -57,7 +57,7 @@ pub(crate) fn start_chain(
     requires wide { (length names.old ≡ MOST_POINTS) × (length stones.old ≡ MOST_POINTS) × (length liberties.old ≡ MOST_POINTS) }
     requires on_board { p < point_count size }
     requires free { name_at names.old p ≡ 0 }
-    requires coloured { (q : ℕ) → name_at names.old q ≢ NO_POINT_NAME }
+    requires coloured { (q : ℕ) → name_at names.old q ≢ OFF_BOARD_NAME }
     requires named { (name ≢ 0) × (root_of name ≡ p) }
     requires near { AreNear size names.old p near.now }
     requires counted { AreCounted size names.old stones.old liberties.old }
@@ -87,7 +87,7 @@ fn next_named(names: &[u16], start: usize, name: u16) -> usize
 
 /// Gives the stones of the chain `from` the name `to`, and says how many liberties they bring that chain.
 #[inline(never)]
-fn rename(size: Size, names: &mut [u16], from: u16, to: u16, stones: u16) -> u16
+fn rename_chain(size: Size, names: &mut [u16], from: u16, to: u16, stones: u16) -> u16
     requires chain { IsChainOf size names.old from stones }
     requires other { (to ≢ 0) × (from ≢ to) }
     ensures renamed { names.new ≡ map (renamed from to) names.old }
@@ -97,7 +97,7 @@ fn rename(size: Size, names: &mut [u16], from: u16, to: u16, stones: u16) -> u16
     let mut next = 0;
     for _ in 0..stones {
         let p = next_named(names, next, from);
-        gained += new_liberties(size, names, to, p);
+        gained += count_new_liberties(size, names, to, p);
         names[p] = to;
         next = p + 1;
     }
@@ -105,14 +105,14 @@ fn rename(size: Size, names: &mut [u16], from: u16, to: u16, stones: u16) -> u16
 }
 
 /// Gives the one stone of the chain `from` the name `to`, and says how many liberties it brings that chain.
-fn rename_one(size: Size, names: &mut [u16], from: u16, to: u16) -> u16
+fn rename_lone_stone(size: Size, names: &mut [u16], from: u16, to: u16) -> u16
     requires chain { IsChainOf size names.old from 1 }
     requires other { (to ≢ 0) × (from ≢ to) }
     ensures renamed { names.new ≡ map (renamed from to) names.old }
     ensures gained { liberty_count size names.new to ≡ liberty_count size names.old to + result }
 {
     let p = root_of(from);
-    let gained = new_liberties(size, names, to, p);
+    let gained = count_new_liberties(size, names, to, p);
     names[p] = to;
     gained
 }
@@ -133,9 +133,9 @@ fn absorb(
 {
     let count = stones[root_of(from)];
     let gained = if count == 1 {
-        rename_one(size, names, from, to)
+        rename_lone_stone(size, names, from, to)
     } else {
-        rename(size, names, from, to, count)
+        rename_chain(size, names, from, to, count)
     };
     let root = root_of(to);
     liberties[root] += gained;
@@ -178,7 +178,7 @@ fn join_named(
     requires on_board { p < point_count size }
     requires stone { 512 ≤ name_at names.old p }
     requires in_range { root_of name < MOST_POINTS }
-    requires near { 512 ≤ name → name ≢ NO_POINT_NAME → name_at names.old (root_of name) ≡ name → Touches size names.old name p }
+    requires near { 512 ≤ name → name ≢ OFF_BOARD_NAME → name_at names.old (root_of name) ≡ name → Touches size names.old name p }
     ensures gathered { AreGathered size names.old names.new p }
     ensures joined { name / 512 ≡ name_at names.old p / 512 → name_at names.old (root_of name) ≡ name → name_at names.new (root_of name) ≡ name_at names.new p }
     ensures still_counted { AreCounted size names.new stones.new liberties.new }

@@ -3,7 +3,7 @@
 ghost use Rattle.std.specs.Prelude.{◌≡◌, ℕ, ◌+◌, ◌/◌, ◌<◌, ◌≤◌, ◌⊎◌, ◌↔◌, length, Contains};
 ghost use Rattle.tt_board.specs.inside.Chains.{name_at, root_of, IsEachOnce, IsOneName};
 
-use crate::counted::chain_names::is_fresh;
+use crate::counted::chain_names::is_not_yet_found;
 use crate::counted::play_kind::{NeighbourNames, is_in_atari};
 use arrayvec::ArrayVec;
 
@@ -25,7 +25,7 @@ fn push_if_in_atari(found: &mut ArrayVec<u16, 4>, liberties: &[u16], name: u16, 
     ensures added { (m : ℕ) → Contains found.new.items m
         ↔ (Contains found.old.items m ⊎ ((name ≡ m) × (m / 512 ≡ code) × (name_at liberties.now (root_of m) ≡ 1))) }
 {
-    if is_in_atari(liberties, name, code) && is_fresh(found, name) {
+    if is_in_atari(liberties, name, code) && is_not_yet_found(found, name) {
         found.push(name);
     }
 }

@@ -2,7 +2,7 @@
 
 ghost use Rattle.std.specs.Prelude.{◌≡◌, ◌≢◌, ℕ, ◌+◌, ◌/◌, ◌<◌, ◌≤◌, ◌⊎◌, ◌↔◌, length, IsTrue, Some, MatchOption, false};
 ghost use Rattle.tt_sgf.specs.Sizes.{point_count};
-ghost use Rattle.tt_board.specs.declared.counted.play_kind.TheConstants.{NO_POINT_NAME};
+ghost use Rattle.tt_board.specs.declared.counted.play_kind.TheConstants.{OFF_BOARD_NAME};
 ghost use Rattle.tt_board.specs.inside.Chains.{name_at, root_of, colour_number, IsOneName, AreNear, bare_one};
 
 use crate::Colour;
@@ -22,9 +22,9 @@ pub enum PlayKind {
 }
 
 /// Instead of a name where the board has no point. No chain has it.
-pub(crate) const NO_POINT_NAME: u16 = 1536;
+pub(crate) const OFF_BOARD_NAME: u16 = 1536;
 
-/// The names on the four neighbours of a point, `NO_POINT_NAME` where the board has no such point; and how many of them are empty.
+/// The names on the four neighbours of a point, `OFF_BOARD_NAME` where the board has no such point; and how many of them are empty.
 #[derive(Clone, Copy)]
 pub(crate) struct NeighbourNames {
     pub(crate) above: u16,
@@ -45,15 +45,15 @@ pub(crate) fn colour_number(colour: Colour) -> u16
     }
 }
 
-/// The name on a point; `NO_POINT_NAME` for no point.
+/// The name on a point; `OFF_BOARD_NAME` for no point.
 #[inline]
 fn name_there(names: &[u16], index: Option<usize>) -> u16
     requires { (q : ℕ) → index ≡ Some q → q < length names.now }
-    ensures { MatchOption index (result ≡ NO_POINT_NAME) (λ q. result ≡ name_at names.now q) }
+    ensures { MatchOption index (result ≡ OFF_BOARD_NAME) (λ q. result ≡ name_at names.now q) }
 {
     match index {
         Some(q) => names[q],
-        None => NO_POINT_NAME,
+        None => OFF_BOARD_NAME,
     }
 }
 
@@ -74,7 +74,7 @@ pub(crate) fn names_beside(size: Size, names: &[u16], p: usize) -> NeighbourName
         left,
         right,
         below,
-        empty: empty_count(above) + empty_count(left) + empty_count(right) + empty_count(below),
+        empty: one_if_empty(above) + one_if_empty(left) + one_if_empty(right) + one_if_empty(below),
     }
 }
 
@@ -98,7 +98,7 @@ fn is_empty_or_not_in_atari(liberties: &[u16], name: u16, code: u16) -> bool
 
 /// 1 for the name of an empty point, 0 for another one.
 #[inline]
-fn empty_count(name: u16) -> u16
+fn one_if_empty(name: u16) -> u16
     ensures { result ≡ bare_one name }
 {
     if name == 0 { 1 } else { 0 }
@@ -136,7 +136,7 @@ impl NeighbourNames {
 
     /// Whether one is of a chain of the colour of this code.
     #[inline]
-    pub(crate) fn has_own_colour(&self, code: u16) -> bool
+    pub(crate) fn has_colour(&self, code: u16) -> bool
         ensures { result ≡ false → (m : ℕ) → IsOneName self.now.above self.now.left self.now.right self.now.below m → m / 512 ≢ code }
     {
         self.above / 512 == code

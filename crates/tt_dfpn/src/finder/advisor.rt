@@ -65,7 +65,7 @@ impl Advisor {
     /// Whether the finder's board is the last of the first so many.
     fn stands_at_last_of(&self, boards: &[Board], count: usize) -> bool {
         match boards.get(count.wrapping_sub(1)) {
-            Some(board) => self.finder.board.zobrist_hash(board) == self.finder.board.hash(),
+            Some(board) => self.finder.board.hash_of_other_board(board) == self.finder.board.hash(),
             None => false,
         }
     }
@@ -141,7 +141,7 @@ impl Advisor {
     }
 
     /// Notes that the line is lost for its mover, and that the line before it is won by the other colour.
-    fn note_line_lost(&mut self, line: &Line, mover: Colour) {
+    fn note_lost_line_and_parent(&mut self, line: &Line, mover: Colour) {
         let hashes = self.finder.hashes_of_position(mover);
         self.finder.keep_line_entry(hashes, LOST, NO_TURN);
         if line.passes() > 0 {
@@ -161,12 +161,12 @@ impl Advisor {
         };
         let board = &self.finder.board;
         let history = board.history().combined_hash_with(board.hash());
-        let hashes = hashes_of(board.zobrist_hash(before), mover.other(), history);
+        let hashes = hashes_of(board.hash_of_other_board(before), mover.other(), history);
         self.finder.keep_line_entry(hashes, WON, turn);
     }
 
     /// Whether the targets live unconditionally behind the defender's play on the empty point; how many points the attacker has then.
-    fn attacker_play_count_after(&mut self, p: u16) -> Option<usize> {
+    fn attackable_count_if_alive(&mut self, p: u16) -> Option<usize> {
         let me = self.finder.region.defender;
         let effect = self.finder.board.preview_play(me, p);
         if effect.is_suicide || self.finder.board.history().has(effect.hash) {
@@ -176,7 +176,7 @@ impl Advisor {
             return None;
         }
         let points = if self.finder.region.are_targets_alive(&self.finder.board) {
-            Some(self.attacker_play_count())
+            Some(self.attackable_point_count())
         } else {
             None
         };
@@ -185,7 +185,7 @@ impl Advisor {
     }
 
     /// On how many points the attacker may play, at once or once they are open again.
-    fn attacker_play_count(&self) -> usize {
+    fn attackable_point_count(&self) -> usize {
         let me = self.finder.region.defender;
         let board = &self.finder.board;
         let mut count = 0usize;
@@ -215,7 +215,7 @@ impl Advisor {
             if !board.is_empty_point(p) || !self.finder.region.is_in_enclosed_area(board, p) {
                 continue;
             }
-            if let Some(points) = self.attacker_play_count_after(p) {
+            if let Some(points) = self.attackable_count_if_alive(p) {
                 if points < fewest {
                     fewest = points;
                     best = p;
@@ -290,7 +290,7 @@ impl Advisor {
                 return Some(entry.best);
             }
         }
-        self.note_line_lost(line, mover);
+        self.note_lost_line_and_parent(line, mover);
         None
     }
 }

@@ -12,15 +12,15 @@ use tt_game::Line;
 use tt_sgf::{NoMemory, Point, Size};
 
 /// The place of all that is outside the board.
-pub(crate) const OUTSIDE: u16 = 361;
+pub(crate) const OUTSIDE_PLACE: u16 = 361;
 
 /// How many stones a chain may have, and more.
-const MOST_STONES: u16 = 512;
+const MOST_CHAIN_STONES: u16 = 512;
 
 // What a place holds, as small numbers: they are compared for each turn of each position.
-const EMPTY: u8 = 0;
+const EMPTY_CODE: u8 = 0;
 
-const EDGE: u8 = 3;
+const OUTSIDE_CODE: u8 = 3;
 
 /// The index of a place.
 #[inline(always)]
@@ -133,19 +133,19 @@ impl NeighbourContents {
 
     /// Whether a stone of this colour has a liberty here, where it takes nothing.
     #[inline(always)]
-    fn has_liberty(&self, c: u8) -> bool {
+    fn stone_has_liberty(&self, c: u8) -> bool {
         let count = self.count(c);
         let mut has = false;
         for k in 0..4 {
-            has |= self.contents[k] == EMPTY;
+            has |= self.contents[k] == EMPTY_CODE;
             has |= self.contents[k] == c && self.liberties[k] > count;
         }
-        has || self.has_other_liberty(c)
+        has || self.chain_has_other_liberty(c)
     }
 
     /// Whether one of the chains of this colour has another liberty.
     #[inline(never)]
-    fn has_other_liberty(&self, c: u8) -> bool {
+    fn chain_has_other_liberty(&self, c: u8) -> bool {
         for k in 0..4 {
             if self.contents[k] == c && self.liberties[k] > self.chain_touch_count(c, k) {
                 return true;
@@ -179,13 +179,13 @@ pub(crate) struct SearchBoard {
 
 /// The places beside each point.
 fn neighbour_table(size: Size) -> [[u16; 4]; 512] {
-    let mut places = [[OUTSIDE; 4]; 512];
+    let mut places = [[OUTSIDE_PLACE; 4]; 512];
     let columns = size.columns();
     let rows = size.rows();
     for row in 0..rows {
         for column in 0..columns {
             let p = row.wrapping_mul(columns).wrapping_add(column);
-            let mut list = [OUTSIDE; 4];
+            let mut list = [OUTSIDE_PLACE; 4];
             if row > 0 {
                 list[0] = p.wrapping_sub(columns);
             }
@@ -211,7 +211,7 @@ impl SearchBoard {
         let mut board = SearchBoard {
             beside: neighbour_table(frame.size),
             keys: stone_keys(),
-            contents: [EDGE; 512],
+            contents: [OUTSIDE_CODE; 512],
             chain: [0; 512],
             next: [0; 512],
             liberties: [0; 512],
@@ -225,7 +225,7 @@ impl SearchBoard {
         };
         let count = frame.size.point_count() as u16;
         for p in 0..count {
-            board.contents[index(p)] = EMPTY;
+            board.contents[index(p)] = EMPTY_CODE;
             if let Some(point) = Point::new(p) {
                 board.is_target[index(p)] = frame.targets.has(point);
             }
@@ -237,7 +237,7 @@ impl SearchBoard {
     pub(crate) fn of(alloc: Global, line: &Line) -> Result<SearchBoard, NoMemory> {
         let mut board = SearchBoard::empty(alloc, line)?;
         let entries = line.present().entries();
-        for p in 0..OUTSIDE {
+        for p in 0..OUTSIDE_PLACE {
             if let Some(colour) = entries[usize::from(p)] {
                 board.play(colour, p)?;
             }
@@ -245,14 +245,14 @@ impl SearchBoard {
         board.undo.clear();
         board.history = HashHistory::new(alloc)?;
         for past in line.history() {
-            let hash = board.zobrist_hash(past);
+            let hash = board.hash_of_other_board(past);
             board.history.push(hash)?;
         }
         Ok(board)
     }
 
     /// The hash of a board.
-    pub(crate) fn zobrist_hash(&self, board: &Board) -> u64 {
+    pub(crate) fn hash_of_other_board(&self, board: &Board) -> u64 {
         zobrist_hash(&self.keys, board)
     }
 
@@ -276,13 +276,13 @@ impl SearchBoard {
     /// Whether a place is an empty point.
     #[inline(always)]
     pub(crate) fn is_empty_point(&self, p: u16) -> bool {
-        self.contents[index(p)] == EMPTY
+        self.contents[index(p)] == EMPTY_CODE
     }
 
     /// Whether a place is outside the board.
     #[inline(always)]
     pub(crate) fn is_outside(&self, p: u16) -> bool {
-        self.contents[index(p)] == EDGE
+        self.contents[index(p)] == OUTSIDE_CODE
     }
 
     /// Whether a place holds a stone of the colour.
@@ -350,7 +350,7 @@ impl SearchBoard {
     pub(crate) fn only_liberty(&self, stone: u16) -> Option<u16> {
         let mut found = None;
         let mut s = stone;
-        for _ in 0..MOST_STONES {
+        for _ in 0..MOST_CHAIN_STONES {
             let beside = self.beside(s);
             for k in 0..4 {
                 let q = beside[k];
@@ -402,7 +402,7 @@ impl SearchBoard {
         if beside.may_capture_chain(other_code(c)) {
             self.preview_captures(other_code(c), &beside, &mut effect);
         }
-        if effect.captures == 0 && !beside.has_liberty(c) {
+        if effect.captures == 0 && !beside.stone_has_liberty(c) {
             effect.is_suicide = true;
             effect.hash ^= self.stone_key(c, p);
             self.preview_suicide(c, &beside, &mut effect);
@@ -447,7 +447,7 @@ impl SearchBoard {
         let beside = self.beside(p);
         for k in 0..4 {
             let stands = self.contents[index(beside[k])];
-            if stands != EMPTY && stands != EDGE {
+            if stands != EMPTY_CODE && stands != OUTSIDE_CODE {
                 let chain = index(self.chain_name(beside[k]));
                 self.liberties[chain] = self.liberties[chain].wrapping_add(count);
             }
@@ -457,14 +457,14 @@ impl SearchBoard {
     /// Takes a chain off.
     fn take_chain_off(&mut self, chain: u16) {
         let mut s = chain;
-        for _ in 0..MOST_STONES {
-            self.contents[index(s)] = EMPTY;
+        for _ in 0..MOST_CHAIN_STONES {
+            self.contents[index(s)] = EMPTY_CODE;
             s = self.next_in_chain(s);
             if s == chain {
                 break;
             }
         }
-        for _ in 0..MOST_STONES {
+        for _ in 0..MOST_CHAIN_STONES {
             self.add_liberties_beside(s, 1);
             s = self.next_in_chain(s);
             if s == chain {
@@ -476,14 +476,14 @@ impl SearchBoard {
     /// Puts a chain back.
     fn put_chain_back(&mut self, chain: u16, c: u8) {
         let mut s = chain;
-        for _ in 0..MOST_STONES {
+        for _ in 0..MOST_CHAIN_STONES {
             self.add_liberties_beside(s, u16::MAX);
             s = self.next_in_chain(s);
             if s == chain {
                 break;
             }
         }
-        for _ in 0..MOST_STONES {
+        for _ in 0..MOST_CHAIN_STONES {
             self.contents[index(s)] = c;
             s = self.next_in_chain(s);
             if s == chain {
@@ -495,7 +495,7 @@ impl SearchBoard {
     /// Gives all stones of a circle the name of their chain.
     fn set_chain_name(&mut self, stone: u16, chain: u16) {
         let mut s = stone;
-        for _ in 0..MOST_STONES {
+        for _ in 0..MOST_CHAIN_STONES {
             self.chain[index(s)] = chain;
             s = self.next_in_chain(s);
             if s == stone {
@@ -598,7 +598,7 @@ impl SearchBoard {
     /// Puts a stone on an empty point, as a chain of its own.
     fn put_stone(&mut self, c: u8, p: u16) {
         let here = index(p);
-        let empty = self.contents_beside(p).count(EMPTY);
+        let empty = self.contents_beside(p).count(EMPTY_CODE);
         self.add_liberties_beside(p, u16::MAX);
         self.contents[here] = c;
         self.chain[here] = p;
@@ -656,7 +656,7 @@ impl SearchBoard {
     /// Takes back the stone of a play, which is a chain of its own.
     fn take_stone_back(&mut self, undo: &Undo) {
         let here = index(undo.point);
-        self.contents[here] = EMPTY;
+        self.contents[here] = EMPTY_CODE;
         self.chain[here] = undo.chain;
         self.next[here] = undo.next;
         self.liberties[here] = undo.liberties;

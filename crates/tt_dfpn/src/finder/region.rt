@@ -44,12 +44,12 @@ impl Region {
                 region.targets.push(p)?;
             }
         }
-        region.note_open_points(count, board);
+        region.note_points_no_eye_holds(count, board);
         Ok(region)
     }
 
     /// Notes what no eye may hold.
-    fn note_open_points(&mut self, count: u16, board: &SearchBoard) {
+    fn note_points_no_eye_holds(&mut self, count: u16, board: &SearchBoard) {
         let attacker = self.defender.other();
         for p in 0..count {
             let is_open = if board.is_empty_point(p) {

@@ -9,7 +9,7 @@ use crate::advice::VisitsLeft;
 use crate::finder::board::{SearchBoard, index};
 use crate::finder::region::Region;
 use crate::finder::transpositions::{
-    Entry, INFINITE, INITIAL_BUCKETS, INITIAL_LINE_BUCKETS, LOST, MOST_BUCKETS, MOST_LINE_BUCKETS,
+    Entry, INFINITE, INITIAL_BUCKETS, INITIAL_PATH_BUCKETS, LOST, MOST_BUCKETS, MOST_PATH_BUCKETS,
     NO_TURN, PASS, ProofNumbers, TranspositionTable, UNKNOWN, WON,
 };
 use crate::finder::zobrist::mover_key;
@@ -25,7 +25,7 @@ const MOST_FINDER_DEPTH: u16 = 400;
 const EPSILON_DIVISOR: u32 = 4;
 
 /// What a line that was found to differ has as its work, so that it is kept.
-const LINE_ENTRY_WORK: u32 = 0x1000_0000;
+const PATH_ENTRY_WORK: u32 = 0x1000_0000;
 
 /// The hashes of a position: without its history, and with it.
 #[derive(Clone, Copy)]
@@ -56,9 +56,9 @@ pub(crate) struct Finder {
     pub(crate) alloc: Global,
     pub(crate) board: SearchBoard,
     pub(crate) region: Region,
-    positions: TranspositionTable,
-    lines: TranspositionTable,
-    has_lines: bool,
+    main_table: TranspositionTable,
+    path_table: TranspositionTable,
+    has_path_table: bool,
     /// How often each turn won, by colour (J. Schaeffer, "The History Heuristic", 1989).
     wins: [[u32; 512]; 2],
     /// Lists that aren't used.
@@ -159,9 +159,9 @@ impl Finder {
             alloc,
             board,
             region,
-            positions: TranspositionTable::new(alloc, INITIAL_BUCKETS, most)?,
-            lines: TranspositionTable::new(alloc, INITIAL_LINE_BUCKETS, MOST_LINE_BUCKETS)?,
-            has_lines: false,
+            main_table: TranspositionTable::new(alloc, INITIAL_BUCKETS, most)?,
+            path_table: TranspositionTable::new(alloc, INITIAL_PATH_BUCKETS, MOST_PATH_BUCKETS)?,
+            has_path_table: false,
             wins: [[0; 512]; 2],
             lists: Vec::new(alloc),
             prunes: true,
@@ -189,12 +189,12 @@ impl Finder {
     /// What is known of a position: what is known of its line, where that has an entry of its own.
     #[inline]
     pub(crate) fn find_entry(&self, hashes: Hashes) -> Option<Entry> {
-        if self.has_lines {
-            if let Some(entry) = self.lines.find(hashes.line) {
+        if self.has_path_table {
+            if let Some(entry) = self.path_table.find(hashes.line) {
                 return Some(entry);
             }
         }
-        self.positions.find(hashes.position)
+        self.main_table.find(hashes.position)
     }
 
     /// Keeps what is known of a position: as its line's own, where that has an entry.
@@ -206,22 +206,22 @@ impl Finder {
             work,
             best,
         };
-        if self.has_lines && self.lines.find(hashes.line).is_some() {
+        if self.has_path_table && self.path_table.find(hashes.line).is_some() {
             entry.key = hashes.line;
-            self.lines.keep(entry);
+            self.path_table.keep(entry);
             return;
         }
-        self.positions.keep(entry);
+        self.main_table.keep(entry);
     }
 
     /// Gives a line an entry of its own.
     pub(crate) fn keep_line_entry(&mut self, hashes: Hashes, numbers: ProofNumbers, best: u16) {
-        self.has_lines = true;
-        self.lines.grow_if_needed(self.alloc);
-        self.lines.keep(Entry {
+        self.has_path_table = true;
+        self.path_table.grow_if_needed(self.alloc);
+        self.path_table.keep(Entry {
             key: hashes.line,
             numbers,
-            work: LINE_ENTRY_WORK,
+            work: PATH_ENTRY_WORK,
             best,
         });
     }
@@ -229,9 +229,9 @@ impl Finder {
     /// Forgets all numbers, and leaves no turn out any more.
     pub(crate) fn restart_without_pruning(&mut self) {
         self.prunes = false;
-        self.positions.clear();
-        self.lines.clear();
-        self.has_lines = false;
+        self.main_table.clear();
+        self.path_table.clear();
+        self.has_path_table = false;
     }
 
     /// Adds a turn to a list, behind those that won more often. Without memory the search ends.
@@ -261,7 +261,7 @@ impl Finder {
     }
 
     /// The attacker's play that takes the first target's chain at once.
-    fn winning_play(&self, mover: Colour) -> Option<u16> {
+    fn first_target_capture(&self, mover: Colour) -> Option<u16> {
         let target = *self.region.targets.first()?;
         let p = self.board.only_liberty(target)?;
         if !self.region.inside[index(p)] {
@@ -276,7 +276,7 @@ impl Finder {
 
     /// Adds a play on the empty point to a list, where it is worth a look; whether it wins at once.
     #[inline]
-    fn add_play(&mut self, list: &mut Vec<Child>, mover: Colour, p: u16) -> bool {
+    fn add_play_or_win(&mut self, list: &mut Vec<Child>, mover: Colour, p: u16) -> bool {
         let attacks = mover != self.region.defender;
         let effect = self.board.preview_play(mover, p);
         if (effect.is_suicide && self.prunes) || self.board.history().has(effect.hash) {
@@ -306,7 +306,7 @@ impl Finder {
     ) -> Option<u16> {
         let attacks = mover != self.region.defender;
         if attacks {
-            if let Some(p) = self.winning_play(mover) {
+            if let Some(p) = self.first_target_capture(mover) {
                 return Some(p);
             }
         }
@@ -315,7 +315,7 @@ impl Finder {
                 break;
             };
             let p = *point;
-            if self.board.is_empty_point(p) && self.add_play(list, mover, p) {
+            if self.board.is_empty_point(p) && self.add_play_or_win(list, mover, p) {
                 return Some(p);
             }
         }
@@ -327,7 +327,7 @@ impl Finder {
     }
 
     /// Whether the targets live unconditionally, where the attacker moves and the position is new.
-    fn do_targets_live(&self, mover: Colour, hashes: Hashes) -> bool {
+    fn is_new_attack_hopeless(&self, mover: Colour, hashes: Hashes) -> bool {
         if mover == self.region.defender {
             return false;
         }
@@ -387,7 +387,7 @@ impl Finder {
         }
         visits.left -= 1;
         if visits.left % 1024 == 0 {
-            self.positions.grow_if_needed(self.alloc);
+            self.main_table.grow_if_needed(self.alloc);
         }
         let mut list = match self.lists.pop() {
             Some(list) => list,
@@ -398,7 +398,7 @@ impl Finder {
         let found = if let Some(turn) = self.list_turns_or_win(mover, &mut list) {
             self.keep_entry(hashes, WON, turn, 1);
             WON
-        } else if self.do_targets_live(mover, hashes) {
+        } else if self.is_new_attack_hopeless(mover, hashes) {
             self.keep_entry(hashes, LOST, NO_TURN, 1);
             LOST
         } else {

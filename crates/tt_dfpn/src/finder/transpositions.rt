@@ -10,9 +10,9 @@ pub(crate) const INITIAL_BUCKETS: usize = 4096;
 pub(crate) const MOST_BUCKETS: usize = 16_777_216;
 
 /// How many buckets the table of single lines has at first, and at most.
-pub(crate) const INITIAL_LINE_BUCKETS: usize = 256;
+pub(crate) const INITIAL_PATH_BUCKETS: usize = 256;
 
-pub(crate) const MOST_LINE_BUCKETS: usize = 262_144;
+pub(crate) const MOST_PATH_BUCKETS: usize = 262_144;
 
 /// Stands for infinity.
 pub(crate) const INFINITE: u32 = 1_000_000_000;
@@ -81,13 +81,13 @@ fn unknown_bucket() -> Bucket {
 
 /// How many slots of a bucket are taken.
 #[inline(always)]
-fn taken_slot_count(bucket: &Bucket) -> usize {
+fn occupied_in_bucket(bucket: &Bucket) -> usize {
     usize::from(bucket[0].key != 0) + usize::from(bucket[1].key != 0)
 }
 
-/// What an entry is worth: its work, and more where it is settled.
+/// What an entry is replacement_value: its work, and more where it is settled.
 #[inline]
-fn worth(entry: &Entry) -> u32 {
+fn replacement_value(entry: &Entry) -> u32 {
     if entry.key == 0 {
         return 0;
     }
@@ -171,21 +171,22 @@ impl TranspositionTable {
         None
     }
 
-    /// Keeps an entry: in the slot of what was known under its key, else in the slot that is worth least.
+    /// Keeps an entry: in the slot of what was known under its key, else in the slot that is replacement_value least.
     #[inline]
     pub(crate) fn keep(&mut self, entry: Entry) {
         let bucket = self.bucket_index(entry.key);
         let Some(bucket) = self.buckets.get_mut(bucket) else {
             return;
         };
-        let before = taken_slot_count(bucket);
-        let is_second = bucket[1].key == entry.key || worth(&bucket[1]) <= worth(&bucket[0]);
+        let before = occupied_in_bucket(bucket);
+        let is_second = bucket[1].key == entry.key
+            || replacement_value(&bucket[1]) <= replacement_value(&bucket[0]);
         if bucket[0].key != entry.key && is_second {
             bucket[1] = entry;
         } else {
             bucket[0] = entry;
         }
-        let more = taken_slot_count(bucket).saturating_sub(before);
+        let more = occupied_in_bucket(bucket).saturating_sub(before);
         self.taken = self.taken.saturating_add(more);
     }
 }

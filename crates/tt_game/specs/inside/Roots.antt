@@ -6,7 +6,7 @@ use Rattle.tt_board.specs.declared.Colour.{Colour}
 use Rattle.tt_board.specs.Position.{Position, Colouring}
 use Rattle.tt_board.specs.Reach.{entry_at}
 use Rattle.tt_game.specs.declared.frame.Frame.{Frame}
-use Rattle.tt_game.specs.GameHistory.{HasBeen, colourings}
+use Rattle.tt_game.specs.GameHistory.{IsInHistory, colourings}
 use Rattle.tt_game.specs.declared.line.Undo.{Undo}
 use Rattle.tt_game.specs.Game.{State, history}
 use Rattle.tt_game.specs.inside.Undoing.{undone}
@@ -28,4 +28,4 @@ AreRooted begun s (u ∷ us) = BoardsBegin begun (history s) × AreRooted begun 
 -- the bits are 1 of all points where a stone of this colour stands on one of these boards; of others they may be 1 too
 abbrev pub AreStonesOf : Colour → List Position → List ℕ → Type 0
 AreStonesOf k bs words =
-    (c : Colouring) (p : ℕ) → HasBeen (colourings bs) c → All (λ (b : Position). p < point_count b.size) bs → entry_at c p ≡ Some k → bit_in words p ≡ true
+    (c : Colouring) (p : ℕ) → IsInHistory (colourings bs) c → All (λ (b : Position). p < point_count b.size) bs → entry_at c p ≡ Some k → bit_in words p ≡ true

@@ -21,8 +21,8 @@ pub equal_fields_are_equal_keys : (a b : Key) → a.size ≡ b.size → a.region
 equal_fields_are_equal_keys a b e f g h j k l m = rw (e, f, g, h, j, k, l, m)
 
 -- keys that pass the test are one
-pub same_key_is_equality : (a b : Key) → same_key a b ≡ true → a ≡ b
-same_key_is_equality a b e =
+pub same_key_implies_equal : (a b : Key) → same_key a b ≡ true → a ≡ b
+same_key_implies_equal a b e =
     let columns : a.size.columns ≡ b.size.columns = grind (arith, e) in
     let rows : a.size.rows ≡ b.size.rows = grind (arith, e) in
     let region : a.region ≡ b.region = search (rules, e) in
@@ -35,8 +35,8 @@ same_key_is_equality a b e =
     equal_fields_are_equal_keys a b (size_is_fixed_by_sides a.size b.size columns rows) region targets defender black white to_move passes
 
 -- and back
-pub same_key_is_reflexive : (a b : Key) → a ≡ b → same_key a b ≡ true
-same_key_is_reflexive a b e = subst (λ c. same_key a c ≡ true) e (same_key_is_equivalence.refl a)
+pub equal_implies_same_key : (a b : Key) → a ≡ b → same_key a b ≡ true
+equal_implies_same_key a b e = subst (λ c. same_key a c ≡ true) e (same_key_is_equivalence.refl a)
 
 -- positions of one key have boards of one size
 pub equal_keys_have_equal_sizes : (f g : Frame) (s t : State) → key_of f s ≡ key_of g t → f.size ≡ g.size
@@ -44,5 +44,5 @@ unfolding key_of
 equal_keys_have_equal_sizes f g s t e = ap (λ (k : Key). k.size) e
 
 -- keys that pass the test feed a hasher the same
-pub same_key_writes_are_equal : (a b : Key) → same_key a b ≡ true → position_writes a ≡ position_writes b
-same_key_writes_are_equal a b e = ap position_writes (same_key_is_equality a b e)
+pub same_keys_are_hashed_alike : (a b : Key) → same_key a b ≡ true → position_writes a ≡ position_writes b
+same_keys_are_hashed_alike a b e = ap position_writes (same_key_implies_equal a b e)

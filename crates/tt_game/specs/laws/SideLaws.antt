@@ -12,8 +12,8 @@ first [] = 0
 first (b ∷ bs) = b
 
 -- what begins with a side's word tells the side and what follows
-pub verdict_words_are_apart : (s t : Side) (x y : List ℕ) → verdict_word s ++ x ≡ verdict_word t ++ y → (s ≡ t) × (x ≡ y)
-verdict_words_are_apart Attacker Attacker x y e = (refl, append_cancel_left (verdict_word Attacker) x y e)
-verdict_words_are_apart Attacker Defender x y e = let other = ap first e in absurd (omega (arith, other))
-verdict_words_are_apart Defender Attacker x y e = let other = ap first e in absurd (omega (arith, other))
-verdict_words_are_apart Defender Defender x y e = (refl, append_cancel_left (verdict_word Defender) x y e)
+pub verdict_word_is_prefix_free : (s t : Side) (x y : List ℕ) → verdict_word s ++ x ≡ verdict_word t ++ y → (s ≡ t) × (x ≡ y)
+verdict_word_is_prefix_free Attacker Attacker x y e = (refl, append_cancel_left (verdict_word Attacker) x y e)
+verdict_word_is_prefix_free Attacker Defender x y e = let other = ap first e in absurd (omega (arith, other))
+verdict_word_is_prefix_free Defender Attacker x y e = let other = ap first e in absurd (omega (arith, other))
+verdict_word_is_prefix_free Defender Defender x y e = (refl, append_cancel_left (verdict_word Defender) x y e)

@@ -15,7 +15,8 @@ use Rattle.tt_game.specs.declared.turns.Turn.{Turn}
 use Rattle.tt_game.specs.declared.turns.TheConstants.{MOST_LEGAL}
 use Rattle.tt_game.specs.declared.turns.Turn.TheVariants.{Play, Pass}
 use Rattle.tt_game.specs.Game.{State, IsLegal}
-use Rattle.tt_game.specs.Turns.{IsOnBoard, number_on, turn_number, IsRising, plays, all_turns, is_legal, is_legal_is_exact, legal_turns, turn_with_winner, turns_with_winners, turns_with_winners_from}
+use Rattle.tt_game.specs.Turns.{IsTurnOnBoardOfSize, turn_number_on_size, turn_number, IsRising, plays_on_first, all_turns, is_legal}
+use Rattle.tt_game.specs.Turns.{is_legal_is_exact, legal_turns, turn_with_winner, turns_with_winners, turns_with_winners_from}
 
 -- what is in a list and passes a test is among those that pass
 contains_filter : {X : Type 0} (p : X → Bool) (xs : List X) (x : X) → Contains xs x → p x ≡ true → Contains (filter p xs) x
@@ -38,15 +39,15 @@ filter_contains p xs x h = (
 )
 
 -- the plays on the first points have that on each of them
-contains_plays : (n p : ℕ) → p < n → Contains (plays n) (Play p)
+contains_plays : (n p : ℕ) → p < n → Contains (plays_on_first n) (Play p)
 contains_plays n p lt =
     (p, omega (arith, length-map-range_with_len (λ q. Play q) 0 n), get_or-map-range_with_len (λ q. Play q) 0 n p p (Play p) lt (omega arith))
 
 -- each legal turn is one that the board has
 contains_all : (f : Frame) (s : State) (t : Turn) → IsLegal f s t → Contains (all_turns f) t
 unfolding all_turns
-contains_all f s Pass l = Contains-push (plays (point_count f.size)) Pass
-contains_all f s (Play p) l = Contains-append_left (plays (point_count f.size)) (Pass ∷ []) (Play p) (contains_plays (point_count f.size) p l.1)
+contains_all f s Pass l = Contains-push (plays_on_first (point_count f.size)) Pass
+contains_all f s (Play p) l = Contains-append_left (plays_on_first (point_count f.size)) (Pass ∷ []) (Play p) (contains_plays (point_count f.size) p l.1)
 
 -- the list holds exactly the legal turns
 pub contains-legal_turns : (f : Frame) (s : State) (t : Turn) → Contains (legal_turns f s) t ↔ IsLegal f s t
@@ -88,12 +89,12 @@ rises_more f n ts true h = record {
 rises_more f n ts false h = rw Rattle.std.proofs.lemmas.List.append-nil (let r : RisesBelow f (n + 1) ts = record { below = λ t has. omega (arith, h.below t has); rising = h.rising } in r)
 
 -- plays that pass a test rise as their points do
-rises_plays : (f : Frame) (p : Turn → Bool) (n : ℕ) → RisesBelow f n (filter p (plays n))
+rises_plays : (f : Frame) (p : Turn → Bool) (n : ℕ) → RisesBelow f n (filter p (plays_on_first n))
 rises_plays f p zero = record { below = λ t has. absurd (omega (arith, has.1)); rising = λ i j d before in'. absurd (omega arith) }
 rises_plays f p (suc n) =
     let e : suc n ≡ n + 1 = sym (add-one n) in
     let more = filter_of_map_range_with_len_more p (λ q. Play q) 0 n n (omega arith) in
-    subst (λ m. RisesBelow f m (filter p (plays m))) (sym e) (subst (λ ts. RisesBelow f (n + 1) ts) (sym more) (rises_more f n (filter p (plays n)) (p (Play n)) (rises_plays f p n)))
+    subst (λ m. RisesBelow f m (filter p (plays_on_first m))) (sym e) (subst (λ ts. RisesBelow f (n + 1) ts) (sym more) (rises_more f n (filter p (plays_on_first n)) (p (Play n)) (rises_plays f p n)))
 
 -- the list rises
 pub rising-legal_turns : (f : Frame) (s : State) → IsRising f (legal_turns f s)
@@ -101,9 +102,9 @@ unfolding legal_turns all_turns
 rising-legal_turns f s =
     let n = point_count f.size in
     let p = is_legal f s in
-    subst (λ ts. IsRising f ts) (sym (filter-append p (plays n) (Pass ∷ []))) (last (p Pass) (rises_plays f p n))
+    subst (λ ts. IsRising f ts) (sym (filter-append p (plays_on_first n) (Pass ∷ []))) (last (p Pass) (rises_plays f p n))
   where
-    last : (b : Bool) → RisesBelow f (point_count f.size) (filter (is_legal f s) (plays (point_count f.size))) → IsRising f (filter (is_legal f s) (plays (point_count f.size)) ++ cond b (Pass ∷ []) [])
+    last : (b : Bool) → RisesBelow f (point_count f.size) (filter (is_legal f s) (plays_on_first (point_count f.size))) → IsRising f (filter (is_legal f s) (plays_on_first (point_count f.size)) ++ cond b (Pass ∷ []) [])
     last true h = rising_push f _ Pass h.rising h.below
     last false h = rw Rattle.std.proofs.lemmas.List.append-nil h.rising
 
@@ -112,13 +113,13 @@ pub length-legal_turns : (f : Frame) (s : State) → length (legal_turns f s) �
 unfolding legal_turns all_turns
 length-legal_turns f s =
     let n = point_count f.size in
-    let all : length (plays n ++ Pass ∷ []) ≡ length (plays n) + 1 = length_push (plays n) Pass in
-    omega (arith, length-filter (is_legal f s) (plays n ++ Pass ∷ []), count_by-le-length (is_legal f s) (plays n ++ Pass ∷ []), all, length-map-range_with_len (λ q. Play q) 0 n, point_count_is_bounded f.size)
+    let all : length (plays_on_first n ++ Pass ∷ []) ≡ length (plays_on_first n) + 1 = length_push (plays_on_first n) Pass in
+    omega (arith, length-filter (is_legal f s) (plays_on_first n ++ Pass ∷ []), count_by-le-length (is_legal f s) (plays_on_first n ++ Pass ∷ []), all, length-map-range_with_len (λ q. Play q) 0 n, point_count_is_bounded f.size)
 
 -- ---- the legal turns, turn by turn
 
 -- a legal turn lies on the board
-pub legal_turn_is_on_board : (f : Frame) (s : State) (t : Turn) → IsLegal f s t → IsOnBoard f.size t
+pub legal_turn_is_on_board : (f : Frame) (s : State) (t : Turn) → IsLegal f s t → IsTurnOnBoardOfSize f.size t
 legal_turn_is_on_board f s (Play p) l = l.1
 legal_turn_is_on_board f s Pass l = tt
 
@@ -130,7 +131,7 @@ EachIsLegal f s (t ∷ ts) = IsLegal f s t × EachIsLegal f s ts
 -- the turns lie on the board, and their numbers rise from this one on
 abbrev pub RisesFrom : Size → ℕ → List Turn → Type 0
 RisesFrom size n [] = Unit {0}
-RisesFrom size n (t ∷ ts) = (n ≤ number_on size t) × IsOnBoard size t × RisesFrom size (number_on size t + 1) ts
+RisesFrom size n (t ∷ ts) = (n ≤ turn_number_on_size size t) × IsTurnOnBoardOfSize size t × RisesFrom size (turn_number_on_size size t + 1) ts
 
 -- turns that are legal place by place are all legal
 each_legal : (f : Frame) (s : State) (ts : List Turn) → ((i : ℕ) → i < length ts → IsLegal f s (get_or ts i Pass)) → EachIsLegal f s ts
@@ -148,7 +149,7 @@ rises_on f s n [] l up from = tt
 rises_on f s n (t ∷ ts) l up from = (
   from (omega arith),
   legal_turn_is_on_board f s t l.0,
-  rises_on f s (number_on f.size t + 1) ts l.1 (λ i j d h k. up (suc i) (suc j) d (omega (arith, h)) (omega (arith, k)))
+  rises_on f s (turn_number_on_size f.size t + 1) ts l.1 (λ i j d h k. up (suc i) (suc j) d (omega (arith, h)) (omega (arith, k)))
       (λ h. omega (arith, up 0 1 Pass (omega arith) (omega (arith, h)))),
 )
 

@@ -72,14 +72,14 @@ pub fn board_hash(board: &Board) -> u64
     mix_board(board).wrapping_mul(MIXER)
 }
 
-/// The hash by what both colours' words make: its highest bits, since the last word was only added.
+/// The index by what both colours' words make: its highest bits, since the last word was only added.
 fn filter_index_of_sum(sum: u64) -> usize
     ensures { result ≡ sum * MIXER % 2 ^ 64 / FILTER_HASH_DIVISOR % FILTER_BITS }
 {
     (sum.wrapping_mul(MIXER) / FILTER_HASH_DIVISOR) as usize % FILTER_BITS
 }
 
-/// The hash of a colouring with one stone more, which a play of `colour` puts on `p`, by what the words make without it. No board is
+/// The index of a colouring with one stone more, which a play of `colour` puts on `p`, by what the words make without it. No board is
 /// made for it.
 pub(crate) fn filter_index_with_stone(sum: u64, colour: Colour, p: Point) -> usize
     requires { p < MOST_POINTS }
@@ -95,7 +95,7 @@ pub(crate) fn filter_index_with_stone(sum: u64, colour: Colour, p: Point) -> usi
     filter_index_of_sum(sum.wrapping_add(added))
 }
 
-/// The hash of a colouring: a number that others mostly haven't.
+/// The index of a colouring: a number that others mostly haven't.
 pub(crate) fn filter_index(board: &Board) -> usize
     ensures { result ≡ filter_index board.now.size board.now.points }
 {

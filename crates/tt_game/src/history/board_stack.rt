@@ -45,7 +45,13 @@ impl Model for BoardStack {
 }
 
 /// Writes over the board in the place `k` what a play makes of the one before it.
-fn write_over(first: &CountedBoard, later: &mut [CountedBoard], k: usize, colour: Colour, p: Point)
+fn overwrite_with_play(
+    first: &CountedBoard,
+    later: &mut [CountedBoard],
+    k: usize,
+    colour: Colour,
+    p: Point,
+)
     requires room { k < length later.old }
     requires on_board { p < point_count (slice_index_or (first.now ∷ later.old) k first.now).size }
     requires free { entry_at (slice_index_or (first.now ∷ later.old) k first.now).points p ≡ None }
@@ -61,7 +67,7 @@ fn write_over(first: &CountedBoard, later: &mut [CountedBoard], k: usize, colour
 }
 
 /// Adds a board and a play; without memory there are none more.
-fn push_board(
+fn push_with_play(
     board: CountedBoard,
     later: &mut Vec<CountedBoard>,
     plays: &mut Vec<(Colour, Point)>,
@@ -95,7 +101,7 @@ impl BoardStack {
     }
 
     /// The present board, to be shared.
-    fn shared_present(&self, alloc: Global) -> Result<Arc<CountedBoard>, NoMemory>
+    fn arc_of_present(&self, alloc: Global) -> Result<Arc<CountedBoard>, NoMemory>
         ensures { IfOk result (λ b. arc_value b ≡ self.now.present) }
     {
         if self.count > 0 {
@@ -109,7 +115,7 @@ impl BoardStack {
         ensures { IfOk result (λ s. s ≡ record { present = self.now.present; below = [] }) }
     {
         Ok(BoardStack {
-            first: self.shared_present(alloc)?,
+            first: self.arc_of_present(alloc)?,
             later: Vec::new(alloc),
             plays: Vec::new(alloc),
             count: 0,
@@ -138,9 +144,9 @@ impl BoardStack {
     {
         if self.count == self.later.len() {
             let above = self.first.copy();
-            push_board(above, &mut self.later, &mut self.plays, colour, p)?;
+            push_with_play(above, &mut self.later, &mut self.plays, colour, p)?;
         }
-        write_over(&*self.first, &mut self.later, self.count, colour, p);
+        overwrite_with_play(&*self.first, &mut self.later, self.count, colour, p);
         self.plays[self.count] = (colour, p);
         self.count += 1;
         self.valid = self.count;

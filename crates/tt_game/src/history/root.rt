@@ -5,7 +5,7 @@ ghost use Rattle.std.specs.Arc.{arc_value};
 ghost use Rattle.tt_sgf.specs.Sizes.{point_count};
 ghost use Rattle.tt_board.specs.Position.{Position, Colouring};
 ghost use Rattle.tt_board.specs.Reach.{entry_at};
-ghost use Rattle.tt_game.specs.GameHistory.{HasBeen, so_far, colourings};
+ghost use Rattle.tt_game.specs.GameHistory.{IsInHistory, so_far, colourings};
 ghost use Rattle.tt_game.specs.inside.Roots.{AreStonesOf};
 ghost use Rattle.tt_game.specs.BloomFilter.{filter_index};
 
@@ -74,7 +74,7 @@ impl Model for Root {
 }
 
 /// The stones of a colour on all of these boards.
-pub(crate) fn stones_of(boards: &[Board], colour: Colour) -> Bits
+pub(crate) fn union_of_stones(boards: &[Board], colour: Colour) -> Bits
     ensures { AreStonesOf colour boards.now result.words }
 {
     let mut stones = Bits::none();
@@ -123,8 +123,8 @@ impl Root {
             boards: BoardDeltas::of(alloc, &base, boards)?,
             count: boards.len(),
             base,
-            black: stones_of(boards, Colour::Black),
-            white: stones_of(boards, Colour::White),
+            black: union_of_stones(boards, Colour::Black),
+            white: union_of_stones(boards, Colour::White),
             filter,
             places,
         })
@@ -151,8 +151,8 @@ impl Root {
         self.count
     }
 
-    /// The base.
-    pub(crate) fn base(&self) -> &Arc<Board>
+    /// The last board of the beginning, by whose differences others are kept.
+    pub(crate) fn delta_base(&self) -> &Arc<Board>
         ensures { (arc_value result.now).size ≡ self.now.frame.size }
     {
         &self.base
@@ -171,7 +171,7 @@ impl Root {
     /// Whether a stone of this colour stood on `p` on some board of the beginning.
     pub(crate) fn stone_has_stood(&self, colour: Colour, p: Point) -> bool
         requires { p < point_count self.now.frame.size }
-        ensures { (c : Colouring) → HasBeen (colourings self.now.begun) c → entry_at c p ≡ Some colour → IsTrue result }
+        ensures { (c : Colouring) → IsInHistory (colourings self.now.begun) c → entry_at c p ≡ Some colour → IsTrue result }
     {
         let index = usize::from(p.number());
         match colour {
@@ -182,9 +182,9 @@ impl Root {
 
     /// Where a board of the frame's size is looked for first; none where its hash tells its colouring from those of all boards of the
     /// beginning. Where those are few, no hash is made.
-    pub(crate) fn likely_place(&self, board: &Board) -> Option<usize>
+    pub(crate) fn likely_board_index(&self, board: &Board) -> Option<usize>
         requires { board.now.size ≡ self.now.frame.size }
-        ensures { result ≡ None → HasBeen (colourings self.now.begun) board.now.points → ⊥ }
+        ensures { result ≡ None → IsInHistory (colourings self.now.begun) board.now.points → ⊥ }
     {
         if self.count <= FEW_BOARDS {
             return Some(0);
@@ -206,21 +206,21 @@ impl Root {
 
     /// Whether some board of the beginning may have this hash. Where none has, no colouring of theirs has it.
     pub(crate) fn may_have_hash(&self, hash: usize) -> bool
-        ensures { result ≡ false → (c : Colouring) → filter_index self.now.frame.size c ≡ hash → HasBeen (colourings self.now.begun) c → ⊥ }
+        ensures { result ≡ false → (c : Colouring) → filter_index self.now.frame.size c ≡ hash → IsInHistory (colourings self.now.begun) c → ⊥ }
     {
         self.filter.has(hash)
     }
 
     /// Whether the other beginning is kept alike, and so has the same boards. No board is made for it.
-    pub(crate) fn same_beginning(&self, other: &Root) -> bool
+    pub(crate) fn keeps_beginning_alike(&self, other: &Root) -> bool
         ensures same { IsTrue result → self.now.begun ≡ other.now.begun }
         ensures sizes { All (λ b. b.size ≡ self.now.frame.size) self.now.begun }
     {
-        self.boards.same(&other.boards)
+        self.boards.is_kept_alike(&other.boards)
     }
 
     /// Whether these are exactly the boards of the beginning. It takes no memory.
-    pub(crate) fn is_beginning(&self, boards: &[Board]) -> bool
+    pub(crate) fn equals_beginning(&self, boards: &[Board]) -> bool
         ensures { IsTrue result ↔ (self.now.begun ≡ boards.now) }
     {
         self.boards.equals_boards(boards)

@@ -13,7 +13,7 @@ ghost use Rattle.tt_game.specs.inside.Roots.{BoardsBegin};
 use crate::frame::Side;
 use crate::history::History;
 use crate::history::root::Root;
-use crate::keys::{Key, key_at};
+use crate::keys::{Key, key_from_parts};
 use crate::line::Line;
 use std::marker::Model;
 use std::sync::Arc;
@@ -66,14 +66,14 @@ fn begins_with_root(root: &Root, boards: &[Board], other: &Root) -> bool
     requires begins { BoardsBegin other.now.begun (colourings boards.now) }
     ensures { IsTrue result ↔ (root.now.begun ≡ take (length root.now.begun) boards.now) }
 {
-    if other.same_beginning(root) {
+    if other.keeps_beginning_alike(root) {
         return true;
     }
     let begun = root.board_count();
     if boards.len() < begun {
         return false;
     }
-    root.is_beginning(&boards[..begun])
+    root.equals_beginning(&boards[..begun])
 }
 
 impl Snapshot {
@@ -91,7 +91,7 @@ impl Snapshot {
     {
         let later = BoardDeltas::of(
             history.alloc(),
-            root.base(),
+            root.delta_base(),
             &history.boards()[root.board_count()..],
         )?;
         Ok(Snapshot {
@@ -121,7 +121,7 @@ impl Snapshot {
 
     /// With how many boards the history there and the line's begin alike: with all those of the beginning, where the line has them,
     /// too, and with none else. It takes no memory.
-    pub fn common_beginning_length(&self, line: &Line) -> usize
+    pub fn known_common_history_length(&self, line: &Line) -> usize
         ensures within { result ≤ length (history line.now.state) }
         ensures alike { take result (history line.now.state) ≡ take result (history self.now.state) }
     {
@@ -142,7 +142,7 @@ impl Snapshot {
     pub fn is_state_of(&self, line: &Line) -> bool
         ensures { IsTrue result ↔ ((self.now.frame ≡ line.now.frame) × (self.now.state ≡ line.now.state)) }
     {
-        if !self.has_frame_and_turn_of(line) {
+        if !self.has_frame_mover_passes_of(line) {
             return false;
         }
         self.has_history(line)
@@ -164,7 +164,7 @@ impl Snapshot {
     pub fn is_position_of(&self, line: &Line) -> bool
         ensures { IsTrue result ↔ IsPositionOf self.now line.now.frame line.now.state }
     {
-        if !self.has_frame_and_turn_of(line) {
+        if !self.has_frame_mover_passes_of(line) {
             return false;
         }
         self.present().same(line.present())
@@ -182,7 +182,7 @@ impl Snapshot {
     }
 
     /// Whether the line has the same frame, side to move and passes.
-    fn has_frame_and_turn_of(&self, line: &Line) -> bool
+    fn has_frame_mover_passes_of(&self, line: &Line) -> bool
         ensures { IsTrue result ↔ ((self.now.frame ≡ line.now.frame) × (self.now.state.to_move ≡ line.now.state.to_move) × (self.now.state.passes ≡ line.now.state.passes)) }
     {
         if self.to_move != line.to_move() {
@@ -205,7 +205,7 @@ impl Snapshot {
     pub fn key(&self) -> Key
         ensures { result ≡ key_of self.now.frame self.now.state }
     {
-        key_at(
+        key_from_parts(
             self.root.frame(),
             &self.present(),
             self.to_move,

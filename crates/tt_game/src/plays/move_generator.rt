@@ -11,8 +11,8 @@ use crate::line::Line;
 use tt_board::{Colour, PlayKind};
 use tt_sgf::{BITS, Bits, Point};
 
-/// The colour that moves, the empty points of the region, some of them where its play takes nothing off, some of these where it is
-/// quiet, where stones of that colour have stood so far, and what the words of the present board make, where hashes by it tell new
+/// The colour that moves, the empty points of the region, some of them where its play takes nothing off, some of these where it also
+/// makes a new colouring, where stones of that colour have stood so far, and what the words of the present board make, where hashes by it tell new
 /// colourings.
 #[derive(Clone, Copy)]
 pub(crate) struct MoveGenerator {
@@ -37,12 +37,12 @@ fn are_many(points: &Bits) -> bool {
 
 impl Line {
     ghost use Rattle.std.specs.Prelude.{ℕ, Some, None, slice_set};
-    ghost use Rattle.tt_game.specs.GameHistory.{HasBeen};
+    ghost use Rattle.tt_game.specs.GameHistory.{IsInHistory};
     ghost use Rattle.tt_board.specs.Reach.{entry_at};
     ghost use Rattle.tt_board.specs.PlayKind.{IsPlayOfKind};
     ghost use Rattle.tt_board.specs.declared.counted.play_kind.PlayKind.TheVariants.{NoCapture};
-    ghost use Rattle.tt_game.specs.Game.{IsLegal, after, history, side_colour, made, winner_of};
-    ghost use Rattle.tt_game.specs.MoveGenerators.{IsMoveGenerator, HaveStood, IsForetoldKind};
+    ghost use Rattle.tt_game.specs.Game.{IsLegal, after, history, side_colour, colouring_after_play, winner_of};
+    ghost use Rattle.tt_game.specs.MoveGenerators.{IsMoveGenerator, IncludesStoodPoints, IsForetoldKind};
     ghost use Rattle.tt_game.specs.declared.turns.Turn.{Turn};
 
     /// What is the same for all plays of the side to move.
@@ -53,20 +53,20 @@ impl Line {
         let colour = self.colour_to_move();
         let empty = self.present().empty_among(&self.frame().region);
         let stood = self.stones_so_far(colour);
-        let no_capture = self.no_capture_if_many(colour, &empty);
+        let no_capture = self.some_noncapturing_plays_if_many(colour, &empty);
         MoveGenerator {
             colour,
             empty,
             no_capture,
-            new_colouring: self.new_colourings_among(colour, &no_capture, &stood),
+            new_colouring: self.some_with_new_colouring(colour, &no_capture, &stood),
             stood,
-            sum: self.present_board_sum(),
+            sum: self.unfinished_board_hash(),
         }
     }
 
     /// Some of these empty points on which a play of the side to move puts its stone and takes nothing off, found all at once: none
     /// where they are few. A small region has few of them.
-    fn no_capture_if_many(&self, colour: Colour, empty: &Bits) -> Bits
+    fn some_noncapturing_plays_if_many(&self, colour: Colour, empty: &Bits) -> Bits
         requires colour { colour ≡ side_colour self.now.frame self.now.state.to_move }
         requires free { (p : ℕ) → p < point_count self.now.frame.size → bit_in empty.now.words p ≡ true → entry_at self.now.state.present p ≡ None }
         ensures { (p : ℕ) → p < point_count self.now.frame.size → bit_in result.words p ≡ true
@@ -78,15 +78,15 @@ impl Line {
         if !are_many(empty) {
             return Bits::none();
         }
-        self.counted_board().no_capture_among(colour, empty)
+        self.counted_board().some_noncapturing_plays(colour, empty)
     }
 
-    /// Those of these points on which a play of the side to move is quiet, since its stones never stood there.
-    fn new_colourings_among(&self, colour: Colour, no_capture: &Bits, stood: &Bits) -> Bits
+    /// Those of these points on which a play of the side to move makes a new colouring, since its stones never stood there.
+    fn some_with_new_colouring(&self, colour: Colour, no_capture: &Bits, stood: &Bits) -> Bits
         requires colour { colour ≡ side_colour self.now.frame self.now.state.to_move }
         requires no_capture { (p : ℕ) → p < point_count self.now.frame.size → bit_in no_capture.now.words p ≡ true
             → IsPlayOfKind NoCapture self.now.frame.size self.now.state.present (side_colour self.now.frame self.now.state.to_move) p }
-        requires stood { HaveStood colour self.now.frame.size (history self.now.state) stood.now.words }
+        requires stood { IncludesStoodPoints colour self.now.frame.size (history self.now.state) stood.now.words }
         ensures { (p : ℕ) → p < point_count self.now.frame.size → bit_in result.words p ≡ true → IsForetoldKind NoCapture self.now.frame self.now.state p }
     {
         no_capture.minus(stood)
@@ -106,12 +106,12 @@ impl Line {
 
     /// Whether a play of the side to move by which nothing goes is told to make a colouring that hasn't been. No board is made for it.
     #[inline(always)]
-    fn is_new(&self, moves: &MoveGenerator, p: Point) -> bool
+    fn known_new(&self, moves: &MoveGenerator, p: Point) -> bool
         requires moves { IsMoveGenerator moves.now self.now.frame self.now.state }
         requires on_board { p < point_count self.now.frame.size }
         requires free { entry_at self.now.state.present p ≡ None }
-        requires no_capture { made self.now.frame self.now.state p ≡ slice_set self.now.state.present p (Some (side_colour self.now.frame self.now.state.to_move)) }
-        ensures { IsTrue result → HasBeen (history self.now.state) (made self.now.frame self.now.state p) → ⊥ }
+        requires no_capture { colouring_after_play self.now.frame self.now.state p ≡ slice_set self.now.state.present p (Some (side_colour self.now.frame self.now.state.to_move)) }
+        ensures { IsTrue result → IsInHistory (history self.now.state) (colouring_after_play self.now.frame self.now.state p) → ⊥ }
     {
         match moves.sum {
             Some(sum) => self.is_new_by_hash(sum, moves.colour, p),
@@ -122,7 +122,7 @@ impl Line {
     /// What is foretold of a play of the side to move on an empty point, by the points beside it and by the stones that stood there, and
     /// what is told by the points beside it alone. It captures nothing where it takes nothing off and makes a colouring that hasn't been, and is
     /// a suicide of one stone where its colouring is the present one.
-    fn foretold_kinds(&self, moves: &MoveGenerator, p: Point) -> (PlayKind, PlayKind)
+    fn foretold_and_local_kind(&self, moves: &MoveGenerator, p: Point) -> (PlayKind, PlayKind)
         requires moves { IsMoveGenerator moves.now self.now.frame self.now.state }
         requires on_board { p < point_count self.now.frame.size }
         requires free { entry_at self.now.state.present p ≡ None }
@@ -152,7 +152,7 @@ impl Line {
     /// Who has won after a play on an empty point of the region, where it is legal, by the board that it makes. This is told of it by
     /// the points beside it.
     #[inline(never)]
-    fn winner_by_board(&self, p: Point, kind: PlayKind) -> Option<Option<Side>>
+    fn winner_if_legal_by_board(&self, p: Point, kind: PlayKind) -> Option<Option<Side>>
         requires on_board { p < point_count self.now.frame.size }
         requires inside { IsTrue (set.contains self.now.frame.region p) }
         requires free { entry_at self.now.state.present p ≡ None }
@@ -173,18 +173,18 @@ impl Line {
     /// Who has won after a play on an empty point of the region by which nothing goes, where it is legal: nobody. Its stone stood there
     /// before, so the board that it makes is looked for.
     #[inline(never)]
-    fn winner_without_capture(&self, p: Point) -> Option<Option<Side>>
+    fn winner_if_legal_no_capture(&self, p: Point) -> Option<Option<Side>>
         requires on_board { p < point_count self.now.frame.size }
         requires inside { IsTrue (set.contains self.now.frame.region p) }
         requires free { entry_at self.now.state.present p ≡ None }
         requires open { winner_of self.now.frame self.now.state ≡ None }
-        requires put { made self.now.frame self.now.state p ≡ slice_set self.now.state.present p (Some (side_colour self.now.frame self.now.state.to_move)) }
+        requires put { colouring_after_play self.now.frame self.now.state p ≡ slice_set self.now.state.present p (Some (side_colour self.now.frame self.now.state.to_move)) }
         ensures { MatchOption result (IsLegal self.now.frame self.now.state (Turn.Play p) → ⊥)
             (λ w. IsLegal self.now.frame self.now.state (Turn.Play p) × (w ≡ winner_of self.now.frame (after self.now.frame self.now.state (Turn.Play p)))) }
     {
         let mut next = self.present().copy();
         next.put_stone(self.colour_to_move(), p);
-        if self.has_colouring_of(&next) {
+        if self.has_colouring_in_history(&next) {
             return None;
         }
         Some(None)
@@ -193,7 +193,7 @@ impl Line {
     /// Who has won after a play on an empty point of the region, where it is legal. Most plays are told by the points beside them, and
     /// no board is made for them.
     #[inline(always)]
-    pub(crate) fn winner_by_play(&self, moves: &MoveGenerator, p: Point) -> Option<Option<Side>>
+    pub(crate) fn winner_if_legal(&self, moves: &MoveGenerator, p: Point) -> Option<Option<Side>>
         requires moves { IsMoveGenerator moves.now self.now.frame self.now.state }
         requires on_board { p < point_count self.now.frame.size }
         requires inside { IsTrue (set.contains self.now.frame.region p) }
@@ -202,18 +202,18 @@ impl Line {
         ensures { MatchOption result (IsLegal self.now.frame self.now.state (Turn.Play p) → ⊥)
             (λ w. IsLegal self.now.frame self.now.state (Turn.Play p) × (w ≡ winner_of self.now.frame (after self.now.frame self.now.state (Turn.Play p)))) }
     {
-        let (kind_here, kind) = self.foretold_kinds(moves, p);
+        let (kind_here, kind) = self.foretold_and_local_kind(moves, p);
         match kind_here {
             PlayKind::NoCapture => Some(None),
             PlayKind::SingleStoneSuicide => None,
             PlayKind::NeedsBoard => {
                 if kind != PlayKind::NoCapture {
-                    return self.winner_by_board(p, kind);
+                    return self.winner_if_legal_by_board(p, kind);
                 }
-                if self.is_new(moves, p) {
+                if self.known_new(moves, p) {
                     return Some(None);
                 }
-                self.winner_without_capture(p)
+                self.winner_if_legal_no_capture(p)
             }
         }
     }

@@ -1,18 +1,18 @@
 -- What the parts of a walk for a footprint find.
 use Rattle.std.specs.Prelude.{◌≡◌, ◌≢◌, ◌↔◌, ◌⊎◌, ℕ, ◌<◌, Option, List, [], ◌∷◌, ◌++◌, Contains}
 use Rattle.tt_board.specs.Position.{Position, Colouring}
-use Rattle.tt_game.specs.Game.{State, made}
+use Rattle.tt_game.specs.Game.{State, colouring_after_play}
 use Rattle.tt_game.specs.Line.{IsBarredBySuperko}
 use Rattle.tt_game.specs.declared.frame.Frame.{Frame}
 use Rattle.tt_game.specs.declared.turns.Turn.{Turn}
 use Rattle.tt_game.specs.declared.turns.Turn.TheVariants.{Play, Pass}
-use Rattle.tt_proof.specs.declared.board_bounds.BoardBound.{BoardBound}
+use Rattle.tt_proof.specs.declared.board_set_bounds.BoardSetBound.{BoardSetBound}
 use Rattle.tt_proof.specs.declared.footprints.Footprint.{Footprint}
-use Rattle.tt_proof.specs.BoardBounds.{IsWithin}
+use Rattle.tt_proof.specs.BoardSetBounds.{MayContainBoard}
 
 -- superko bars a play on a point below the number, which would make the colouring
 abbrev pub RepeatsBelow : Frame → State → ℕ → Colouring → Type 0
-RepeatsBelow f s n c = (p : ℕ) × (p < n) × IsBarredBySuperko f s p × (made f s p ≡ c)
+RepeatsBelow f s n c = (p : ℕ) × (p < n) × IsBarredBySuperko f s p × (colouring_after_play f s p ≡ c)
 
 -- what a child needs in its parent's history too: all that it needs in its own, but the board that a play made
 abbrev pub IsPassedUp : Turn → Position → List Position → Position → Type 0
@@ -31,9 +31,9 @@ pub record IsPicked (t : Turn) (board : Position) (behind x : Footprint) : Type 
   pub met : x.met ≡ behind.met
 
 -- where the turn is a play, the board that it made lies within the bound
-abbrev pub IsMadeWithin : Turn → Position → Option BoardBound → Type 0
+abbrev pub IsMadeWithin : Turn → Position → Option BoardSetBound → Type 0
 IsMadeWithin Pass b bound = Unit {0}
-IsMadeWithin (Play p) b bound = IsWithin bound b
+IsMadeWithin (Play p) b bound = MayContainBoard bound b
 
 -- one of two lists gave its last board, and the other is as before
 abbrev pub IsOneLess : List Position → List Position → List Position → List Position → Position → Type 0

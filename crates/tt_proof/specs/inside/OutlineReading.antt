@@ -5,7 +5,7 @@ use Rattle.tt_sgf.specs.declared.size.Size.{Size}
 use Rattle.tt_proof.specs.declared.certificate_read.CertFault.{CertFault}
 use Rattle.tt_proof.specs.declared.certificate_read.CertFault.TheVariants.{Syntax, TooDeep, NoMemory}
 use Rattle.tt_proof.specs.Strategy.{Strategy, depth, depth_of_entries}
-use Rattle.tt_proof.specs.Outlines.{Outline, Branches, ended, picked, replied, part, unfolded, unfolded_entries, named_trees_after, named_trees_after_branches, RefersBack, BranchesReferBack, IsOrderly, AreOrderly}
+use Rattle.tt_proof.specs.Outlines.{Outline, Branches, ended, picked, replied, part, unfolded, unfolded_entries, named_trees_after, named_trees_after_branches, RefersBack, BranchesReferBack, IsOutlineInOrder, AreBranchesInOrder}
 use Rattle.tt_proof.specs.Outlines.{outline_text, branches_text, OutlineGoesDeep, BranchesGoDeep}
 pub use Rattle.tt_proof.specs.Outlines.{HasNoDigitInFront}
 
@@ -33,14 +33,14 @@ module _ (size : Size) where
   -- r begins with the text of o, whose tree has the depth d, and y follows; the names so far stand for us
   pub record OutlineAt (us : List Strategy) (o : Outline) (d : ℕ) (r y : List ℕ) : Type 0 where
     pub closed : RefersBack us o
-    pub orderly : IsOrderly size o
+    pub orderly : IsOutlineInOrder size o
     pub deep : depth (unfolded us o) ≡ d
     pub text : r ≡ outline_text size o ++ y
     pub ends : EndsBefore o y
 
   pub record BranchesAt (us : List Strategy) (least : ℕ) (bs : Branches) (d : ℕ) (r y : List ℕ) : Type 0 where
     pub closed : BranchesReferBack us bs
-    pub orderly : AreOrderly size least bs
+    pub orderly : AreBranchesInOrder size least bs
     pub deep : depth_of_entries (unfolded_entries us bs) ≡ d
     pub text : r ≡ branches_text size bs ++ y
 
@@ -59,13 +59,13 @@ module _ (size : Size) where
   pub record OutlineDeepAt (us : List Strategy) (left : ℕ) (r : List ℕ) : Type 0 where
     pub outline : Outline
     pub closed : RefersBack us outline
-    pub orderly : IsOrderly size outline
+    pub orderly : IsOutlineInOrder size outline
     pub deep : OutlineGoesDeep size us left outline r
 
   pub record BranchesDeepAt (us : List Strategy) (left least : ℕ) (r : List ℕ) : Type 0 where
     pub branches : Branches
     pub closed : BranchesReferBack us branches
-    pub orderly : AreOrderly size least branches
+    pub orderly : AreBranchesInOrder size least branches
     pub deep : BranchesGoDeep size us left branches r
 
   -- no outline is at the front of r, or only deeper ones

@@ -3,10 +3,10 @@
 
 ghost use Rattle.std.specs.Prelude.{◌≡◌, OnOk};
 ghost use Rattle.tt_proof.specs.KeptFootprints.{IsBoardAfter};
-ghost use Rattle.tt_proof.specs.Strategy.{strategy_of, entries_of_reply, IsInOrder, AreInOrder, IsOnBoard};
+ghost use Rattle.tt_proof.specs.Strategy.{strategy_of, entries_of_reply, IsInOrder, AreInOrder, IsTurnOnBoardOfSize};
 
 use crate::certificate_write::put_turn;
-use crate::outline_write::kept_trees::{KeptTrees, WrittenTree};
+use crate::outline_write::kept_trees::{KeptTrees, TreeFacts};
 use crate::position_footprint::PositionFootprint;
 use crate::tree::Tree;
 use std::alloc::Global;
@@ -53,16 +53,16 @@ impl Draft {
     }
 
     /// Writes a leaf, where somebody has won.
-    fn put_done(&mut self, alloc: Global, line: &Line) -> Result<Option<WrittenTree>, NoMemory> {
+    fn put_done(&mut self, alloc: Global, line: &Line) -> Result<Option<TreeFacts>, NoMemory> {
         self.text.push(b'.')?;
-        Ok(Some(WrittenTree {
+        Ok(Some(TreeFacts {
             basis: PositionFootprint::of(alloc, line),
             depth: 0,
         }))
     }
 
     /// Writes the part that stands for the tree at the index.
-    fn put_part(&mut self, alloc: Global, index: usize) -> Result<Option<WrittenTree>, NoMemory> {
+    fn put_part(&mut self, alloc: Global, index: usize) -> Result<Option<TreeFacts>, NoMemory> {
         self.text.push(b'*')?;
         self.marked.push(index)?;
         self.kept.use_part(alloc, index)
@@ -83,8 +83,8 @@ impl Draft {
         alloc: Global,
         place: usize,
         line: &Line,
-        written: Option<WrittenTree>,
-    ) -> Result<Option<WrittenTree>, NoMemory> {
+        written: Option<TreeFacts>,
+    ) -> Result<Option<TreeFacts>, NoMemory> {
         let Some(written) = written else {
             return Ok(None);
         };
@@ -96,7 +96,7 @@ impl Draft {
     }
 
     /// Writes the name of a part, or `=` in front of a tree that a part stands for.
-    fn put_name_sign(
+    fn put_part_or_name_sign(
         &self,
         alloc: Global,
         out: &mut Vec<u8>,
@@ -128,7 +128,7 @@ impl Draft {
             if *byte != b'=' && *byte != b'*' {
                 out.push(*byte)?;
             } else if let Some(index) = self.marked.get(place) {
-                self.put_name_sign(alloc, &mut out, *byte, *index, &names)?;
+                self.put_part_or_name_sign(alloc, &mut out, *byte, *index, &names)?;
                 place = place.saturating_add(1);
             }
         }
@@ -137,17 +137,17 @@ impl Draft {
 }
 
 /// What is known of the pick of the turn, which leads to the board, by what is known behind it.
-fn written_before_pick(
+fn written_pick(
     alloc: Global,
     line: &Line,
     turn: &Turn,
     board: &Board,
-    behind: WrittenTree,
-) -> Result<WrittenTree, NoMemory>
+    behind: TreeFacts,
+) -> Result<TreeFacts, NoMemory>
     requires { IsBoardAfter line.now.frame line.now.state turn.now board.now }
 {
-    let WrittenTree { basis, depth } = behind;
-    Ok(WrittenTree {
+    let TreeFacts { basis, depth } = behind;
+    Ok(TreeFacts {
         basis: basis.picked(alloc, line, turn, board)?,
         depth: depth.saturating_add(1),
     })
@@ -158,17 +158,17 @@ fn written_with_branch(
     line: &Line,
     turn: &Turn,
     board: &Board,
-    before: WrittenTree,
-    behind: WrittenTree,
-) -> Result<WrittenTree, NoMemory>
+    before: TreeFacts,
+    behind: TreeFacts,
+) -> Result<TreeFacts, NoMemory>
     requires { IsBoardAfter line.now.frame line.now.state turn.now board.now }
 {
-    let WrittenTree { basis, depth } = behind;
-    let WrittenTree {
+    let TreeFacts { basis, depth } = behind;
+    let TreeFacts {
         basis: others,
         depth: most,
     } = before;
-    Ok(WrittenTree {
+    Ok(TreeFacts {
         basis: others.joined(basis.before_opposing_turn(line, turn, board))?,
         depth: most.max(depth.saturating_add(1)),
     })
@@ -183,9 +183,9 @@ fn walk_branch(
     left: u16,
     line: &mut Line,
     draft: &mut Draft,
-    before: WrittenTree,
-) -> Result<Option<WrittenTree>, NoMemory>
-    requires on_board { IsOnBoard line.old.frame.size turn }
+    before: TreeFacts,
+) -> Result<Option<TreeFacts>, NoMemory>
+    requires on_board { IsTurnOnBoardOfSize line.old.frame.size turn }
     requires in_order { IsInOrder line.old.frame.size (strategy_of child.now) }
     ensures same { OnOk result (line.new ≡ line.old) }
 {
@@ -219,11 +219,11 @@ fn walk_reply(
     left: u16,
     line: &mut Line,
     draft: &mut Draft,
-) -> Result<Option<WrittenTree>, NoMemory>
+) -> Result<Option<TreeFacts>, NoMemory>
     requires in_order { AreInOrder line.old.frame.size 0 (entries_of_reply list.now) }
     ensures same { OnOk result (line.new ≡ line.old) }
 {
-    let mut written = WrittenTree {
+    let mut written = TreeFacts {
         basis: PositionFootprint::of_empty_reply(alloc, line)?,
         depth: 0,
     };
@@ -245,8 +245,8 @@ fn walk_pick(
     left: u16,
     line: &mut Line,
     draft: &mut Draft,
-) -> Result<Option<WrittenTree>, NoMemory>
-    requires on_board { IsOnBoard line.old.frame.size turn }
+) -> Result<Option<TreeFacts>, NoMemory>
+    requires on_board { IsTurnOnBoardOfSize line.old.frame.size turn }
     requires in_order { IsInOrder line.old.frame.size (strategy_of child.now) }
     ensures same { OnOk result (line.new ≡ line.old) }
 {
@@ -260,7 +260,7 @@ fn walk_pick(
             let behind = walk(alloc, child, left - 1, line, draft)?;
             line.pop();
             match behind {
-                Some(behind) => Ok(Some(written_before_pick(alloc, line, &turn, &board, behind)?)),
+                Some(behind) => Ok(Some(written_pick(alloc, line, &turn, &board, behind)?)),
                 None => Ok(None),
             }
         }
@@ -278,11 +278,11 @@ fn walk(
     left: u16,
     line: &mut Line,
     draft: &mut Draft,
-) -> Result<Option<WrittenTree>, NoMemory>
+) -> Result<Option<TreeFacts>, NoMemory>
     requires in_order { IsInOrder line.old.frame.size (strategy_of t.now) }
     ensures same { OnOk result (line.new ≡ line.old) }
 {
-    if let Some(index) = draft.kept.find_winning(line, left) {
+    if let Some(index) = draft.kept.find_winning_index(line, left) {
         return draft.put_part(alloc, index);
     }
     match t {

@@ -13,15 +13,15 @@ const NO_TREE: usize = usize::MAX;
 
 /// What is known of a tree that is written: on what it rests, and how many turns its longest way down has.
 #[derive(Drop)]
-pub(crate) struct WrittenTree {
+pub(crate) struct TreeFacts {
     pub(crate) basis: PositionFootprint,
     pub(crate) depth: u16,
 }
 
-impl WrittenTree {
+impl TreeFacts {
     /// The same once more.
-    fn try_clone(&self, alloc: Global) -> Result<WrittenTree, NoMemory> {
-        Ok(WrittenTree {
+    fn try_clone(&self, alloc: Global) -> Result<TreeFacts, NoMemory> {
+        Ok(TreeFacts {
             basis: self.basis.try_clone(alloc)?,
             depth: self.depth,
         })
@@ -31,7 +31,7 @@ impl WrittenTree {
 /// A kept tree, the hash of its board, the tree before it in its chain, and whether a part stands for it.
 #[derive(Drop)]
 struct KeptTree {
-    written: WrittenTree,
+    written: TreeFacts,
     hash: u64,
     before: usize,
     is_used: bool,
@@ -59,7 +59,7 @@ impl KeptTrees {
     }
 
     /// The last tree of the hash's chain.
-    fn newest_in_bucket(&self, hash: u64) -> usize {
+    fn newest_index_in_bucket(&self, hash: u64) -> usize {
         match self.last.get(hash_bucket(hash)) {
             Some(last) => *last,
             None => NO_TREE,
@@ -67,9 +67,9 @@ impl KeptTrees {
     }
 
     /// The youngest tree that wins at the line and is at most so deep.
-    pub(crate) fn find_winning(&self, line: &Line, most_depth: u16) -> Option<usize> {
+    pub(crate) fn find_winning_index(&self, line: &Line, most_depth: u16) -> Option<usize> {
         let hash = board_hash(line.present());
-        let mut next = self.newest_in_bucket(hash);
+        let mut next = self.newest_index_in_bucket(hash);
         for _ in 0..self.trees.len() {
             let tree = self.trees.get(next)?;
             if tree.hash == hash
@@ -88,14 +88,14 @@ impl KeptTrees {
         &mut self,
         alloc: Global,
         line: &Line,
-        written: &WrittenTree,
+        written: &TreeFacts,
     ) -> Result<usize, NoMemory> {
         let hash = board_hash(line.present());
         let index = self.trees.len();
         let kept = KeptTree {
             written: written.try_clone(alloc)?,
             hash,
-            before: self.newest_in_bucket(hash),
+            before: self.newest_index_in_bucket(hash),
             is_used: false,
         };
         self.trees.push(kept)?;
@@ -110,7 +110,7 @@ impl KeptTrees {
         &mut self,
         alloc: Global,
         index: usize,
-    ) -> Result<Option<WrittenTree>, NoMemory> {
+    ) -> Result<Option<TreeFacts>, NoMemory> {
         let Some(tree) = self.trees.get_mut(index) else {
             return Ok(None);
         };

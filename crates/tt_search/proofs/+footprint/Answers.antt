@@ -44,8 +44,8 @@ by_nothing side f s x child (inr (winner, e)) foot = subst (λ k. IsFootprint f 
 
 -- ---- a node, and its children
 
-pub tree::children::Child::footprint_after-returns-in-Fresh-clause-exact : goal.tree::children::Child::footprint_after-returns-in-Fresh-clause-exact
-tree::children::Child::footprint_after-returns-in-Fresh-clause-exact t c =
+pub tree::children::Child::board_and_footprint_after-returns-in-Fresh-clause-exact : goal.tree::children::Child::board_and_footprint_after-returns-in-Fresh-clause-exact
+tree::children::Child::board_and_footprint_after-returns-in-Fresh-clause-exact t c =
     let f = c.args.line.now.frame in
     let s = after c.args.line.now.frame c.args.line.now.state c.args.turn in
     by_nothing c.args.side f s c.empty.result c.args.self c.in-Fresh.is (c.empty.ensures f s)
@@ -108,8 +108,8 @@ pub footprints::pick_footprint-child-child-requires-clause-there : goal.footprin
 footprints::pick_footprint-child-child-requires-clause-there t c =
     picked_there c.args.side c.args.line.now.frame c.args.line.now.state c.args.children.now c.first_settled_index-index.result.0 c.requires.settled c.first_settled_index-index.ensures.index
 
-pub footprints::pick_footprint-footprint_after-requires : goal.footprints::pick_footprint-footprint_after-requires
-footprints::pick_footprint-footprint_after-requires t c =
+pub footprints::pick_footprint-board_and_footprint_after-requires : goal.footprints::pick_footprint-board_and_footprint_after-requires
+footprints::pick_footprint-board_and_footprint_after-requires t c =
     let x = c.args.children.now in
     let i : ℕ = c.first_settled_index-index.result.0 in
     let f = c.args.line.now.frame in
@@ -150,26 +150,26 @@ footprints::pick_footprint-returns-clause-exact t c =
 
 -- ---- the children that are replied to
 
-pub footprints::reply_footprint-of_empty_reply_with_legal-requires : goal.footprints::reply_footprint-of_empty_reply_with_legal-requires
-footprints::reply_footprint-of_empty_reply_with_legal-requires t c = c.points_of_plays.ensures c.args.line.now.frame c.args.line.now.state c.requires.legal
+pub footprints::reply_footprint-of_empty_reply_given_legal-requires : goal.footprints::reply_footprint-of_empty_reply_given_legal-requires
+footprints::reply_footprint-of_empty_reply_given_legal-requires t c = c.points_of_plays.ensures c.args.line.now.frame c.args.line.now.state c.requires.legal
 
-pub footprints::reply_footprint-footprint_after-requires : goal.footprints::reply_footprint-footprint_after-requires
-footprints::reply_footprint-footprint_after-requires t c =
+pub footprints::reply_footprint-board_and_footprint_after-requires : goal.footprints::reply_footprint-board_and_footprint_after-requires
+footprints::reply_footprint-board_and_footprint_after-requires t c =
     let side = c.args.side in
     let f = c.args.line.now.frame in
     let s = c.args.line.now.state in
     let i : ℕ = c.loop-edge.edge-index in
     let e : Edge = get_or c.args.edges.now i first in
     let turn : Turn = c.turn-turn.result in
-    let child : PartialTree = child_tree c.first_and_rest.result.0 in
+    let child : PartialTree = child_tree c.split_first_child.result.0 in
     let here = settled_here side f s c.args.edges.now c.loop-edge.rest.now i first c.loop-edge-test.true c.loop-edge.invariant.settled in
-    let is_child = subst (λ u. IsSettledAt side f (after f s (edge_turn e)) u) (sym c.first_and_rest.ensures.child) here.child in (
+    let is_child = subst (λ u. IsSettledAt side f (after f s (edge_turn e)) u) (sym c.split_first_child.ensures.child) here.child in (
       omega (
         arith,
         c.decreases,
         c.loop-edge.invariant.lighter,
         weight_step c.args.edges.now c.loop-edge.rest.now i first c.loop-edge-test.true,
-        ap weight c.first_and_rest.ensures.child,
+        ap weight c.split_first_child.ensures.child,
       ),
       (
         subst (λ (l : LineWithUndo). IsLegal l.frame l.state turn) (sym c.loop-edge.invariant.same) (subst (IsLegal f s) (sym c.turn-turn.ensures) here.legal),
@@ -187,8 +187,8 @@ footprints::reply_footprint-loop-edge-preserved t c =
     let e : Edge = get_or c.args.edges.now i first in
     let left : List Edge = drop (i + 1) c.args.edges.now in
     let turn : Turn = c.turn-turn.result in
-    let child : PartialTree = child_tree c.first_and_rest.result.0 in
-    let behind : List PartialTree = c.first_and_rest.result.1.now in
+    let child : PartialTree = child_tree c.split_first_child.result.0 in
+    let behind : List PartialTree = c.split_first_child.result.1.now in
     let all : Entries = replies_to side f s c.args.edges.now c.args.grown.now in
     let same = c.in_ok-board.ensures.same ∙ c.loop-edge.invariant.same in
     let here = settled_here side f s c.args.edges.now c.loop-edge.rest.now i first c.loop-edge-test.true c.loop-edge.invariant.settled in
@@ -200,13 +200,13 @@ footprints::reply_footprint-loop-edge-preserved t c =
     same (c.in_ok-add_entry.ensures (strategy_for side child)) foot in
     record {
       same = same;
-      settled = subst (λ us. AreSettledAt side f s left us) (sym c.first_and_rest.ensures.behind) here.others;
+      settled = subst (λ us. AreSettledAt side f s left us) (sym c.split_first_child.ensures.behind) here.others;
       joined = joined_here side f s all c.args.edges.now c.loop-edge.rest.now i first turn child behind c.loop-edge.footprint c.add_entry.new.self c.loop-edge-test.true
-          c.turn-turn.ensures c.first_and_rest.ensures.child c.first_and_rest.ensures.behind more c.loop-edge.invariant.joined;
+          c.turn-turn.ensures c.split_first_child.ensures.child c.split_first_child.ensures.behind more c.loop-edge.invariant.joined;
       lighter = omega (
         arith,
         weight_step c.args.edges.now c.loop-edge.rest.now i first c.loop-edge-test.true,
-        ap (λ us. weight_all (children_of (edge_trees left us))) c.first_and_rest.ensures.behind,
+        ap (λ us. weight_all (children_of (edge_trees left us))) c.split_first_child.ensures.behind,
         c.loop-edge.invariant.lighter,
       );
     }

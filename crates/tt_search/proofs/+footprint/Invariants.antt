@@ -11,11 +11,11 @@ use Rattle.tt_search.proofs.+footprint.Given as goal
 abbrev pub decreases-tree::node::Node::footprint : goal.decreases-tree::node::Node::footprint
 decreases-tree::node::Node::footprint l = weight l.self.now * 4 + 2
 
-abbrev pub decreases-tree::node::Node::footprint_after : goal.decreases-tree::node::Node::footprint_after
-decreases-tree::node::Node::footprint_after l = weight l.self.now * 4 + 3
+abbrev pub decreases-tree::node::Node::board_and_footprint_after : goal.decreases-tree::node::Node::board_and_footprint_after
+decreases-tree::node::Node::board_and_footprint_after l = weight l.self.now * 4 + 3
 
-abbrev pub decreases-tree::children::Child::footprint_after : goal.decreases-tree::children::Child::footprint_after
-decreases-tree::children::Child::footprint_after l = weight (child_tree l.self) * 4 + 4
+abbrev pub decreases-tree::children::Child::board_and_footprint_after : goal.decreases-tree::children::Child::board_and_footprint_after
+decreases-tree::children::Child::board_and_footprint_after l = weight (child_tree l.self) * 4 + 4
 
 abbrev pub decreases-tree::children::ChildNodes::footprint : goal.decreases-tree::children::ChildNodes::footprint
 decreases-tree::children::ChildNodes::footprint l = weight_all (children_in l.self.now) * 4 + 5

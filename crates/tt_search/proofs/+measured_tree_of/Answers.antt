@@ -13,7 +13,7 @@ use Rattle.tt_search.proofs.Indices.{replies_at_end, length-turns_of, length-tre
 use Rattle.tt_search.proofs.Lifted.{weight_at}
 use Rattle.tt_search.proofs.ChildSteps.{any_default}
 use Rattle.tt_search.specs.inside.ChildNodes.{child_of, children_in}
-use Rattle.tt_search.specs.Numbers.{number, numbers}
+use Rattle.tt_search.specs.Numbers.{number, child_numbers}
 use Rattle.tt_search.specs.inside.Joining.{AreZero}
 use Rattle.tt_search.specs.inside.Shape.{shape}
 use Rattle.tt_search.specs.inside.Offered.{HoldsItsOwn}
@@ -55,7 +55,7 @@ tree::children::ChildNodes::measured_tree-reply_tree-requires t c =
         ap (λ es. weight_all (children_of (edge_trees es c.as_slice-else-is_same_side.result.now))) edges,
         ap (λ us. weight_all (children_of (edge_trees x.edges us))) grown,
       ),
-      (rw (edges, grown) c.requires.whole, rw (edges, grown) (all_zero side (children_in x) (zero_sum (numbers side (children_in x)) sum))),
+      (rw (edges, grown) c.requires.whole, rw (edges, grown) (all_zero side (children_in x) (zero_sum (child_numbers side (children_in x)) sum))),
     )
 
 pub settled::pick_tree-returns-then-index-len : goal.settled::pick_tree-returns-then-index-len
@@ -96,9 +96,9 @@ settled::reply_tree-measured_tree-requires t c =
         c.decreases,
         c.loop-edge.invariant.lighter,
         weight_step c.args.edges.now c.loop-edge.rest.now i first c.loop-edge-test.true,
-        ap weight c.first_and_rest.ensures.child,
+        ap weight c.split_first_child.ensures.child,
       ),
-      ap (number c.args.side) c.first_and_rest.ensures.child ∙ here.0,
+      ap (number c.args.side) c.split_first_child.ensures.child ∙ here.0,
     )
 
 pub settled::reply_tree-loop-edge-preserved : goal.settled::reply_tree-loop-edge-preserved
@@ -106,26 +106,26 @@ settled::reply_tree-loop-edge-preserved t c =
     let i : ℕ = c.loop-edge.edge-index in
     let e : Edge = get_or c.args.edges.now i first in
     let left : List Edge = drop (i + 1) c.args.edges.now in
-    let behind : List PartialTree = c.first_and_rest.result.1.now in
+    let behind : List PartialTree = c.split_first_child.result.1.now in
     let rest : Entries = replies c.args.side (edge_turns left) (children_of (edge_trees left behind)) in
     let step = replied_step c.args.side c.args.edges.now c.loop-edge.rest.now i first c.loop-edge-test.true
     ∙ ap (λ us. entry (edge_turn e) (strategy_for c.args.side (tree_of (edge_state_of e) c.loop-edge.rest.now)) (replies c.args.side (edge_turns left) (children_of (edge_trees left us))))
-    (sym c.first_and_rest.ensures.behind) in
+    (sym c.split_first_child.ensures.behind) in
     record {
       made =
           ap (λ zs. joined zs rest) c.in_ok-push.ensures.ok
           ∙ joined_push c.loop-edge.answers (c.turn.result, c.in_ok-answer.answer) rest
           ∙ ap (λ u. joined c.loop-edge.answers (entry u c.in_ok-answer.answer rest)) c.turn.ensures
-          ∙ ap (λ u. joined c.loop-edge.answers (entry (edge_turn e) u rest)) (c.in_ok-answer.ensures ∙ ap (strategy_for c.args.side) c.first_and_rest.ensures.child)
+          ∙ ap (λ u. joined c.loop-edge.answers (entry (edge_turn e) u rest)) (c.in_ok-answer.ensures ∙ ap (strategy_for c.args.side) c.split_first_child.ensures.child)
           ∙ ap (joined c.loop-edge.answers) (sym step)
           ∙ c.loop-edge.invariant.made;
-      whole = whole_behind c.args.edges.now c.loop-edge.rest.now i first c.loop-edge-test.true c.loop-edge.invariant.whole ∙ ap length (sym c.first_and_rest.ensures.behind);
-      settled = subst (λ us. AreZero c.args.side (children_of (edge_trees left us))) (sym c.first_and_rest.ensures.behind)
+      whole = whole_behind c.args.edges.now c.loop-edge.rest.now i first c.loop-edge-test.true c.loop-edge.invariant.whole ∙ ap length (sym c.split_first_child.ensures.behind);
+      settled = subst (λ us. AreZero c.args.side (children_of (edge_trees left us))) (sym c.split_first_child.ensures.behind)
           (zero_step c.args.side c.args.edges.now c.loop-edge.rest.now i first c.loop-edge-test.true c.loop-edge.invariant.settled).1;
       lighter = omega (
         arith,
         weight_step c.args.edges.now c.loop-edge.rest.now i first c.loop-edge-test.true,
-        ap (λ us. weight_all (children_of (edge_trees left us))) c.first_and_rest.ensures.behind,
+        ap (λ us. weight_all (children_of (edge_trees left us))) c.split_first_child.ensures.behind,
         c.loop-edge.invariant.lighter,
       );
     }

@@ -1,7 +1,7 @@
 -- The edges of a node as the code keeps them. For private contracts and proofs.
 use Rattle.std.specs.Prelude.{◌≤◌, List, take}
-use Rattle.tt_search.specs.declared.tree.edge_row.EdgeStorage.{EdgeStorage}
-use Rattle.tt_search.specs.declared.tree.edge_row.EdgeStorage.TheVariants.{Short, Long}
+use Rattle.tt_search.specs.declared.tree.edge_storage.EdgeStorage.{EdgeStorage}
+use Rattle.tt_search.specs.declared.tree.edge_storage.EdgeStorage.TheVariants.{Short, Long}
 use Rattle.tt_search.specs.declared.tree.edges.Edge.{Edge}
 
 -- the first ones of the array, or those of the block

@@ -12,10 +12,10 @@ use Rattle.tt_search.specs.inside.Shape.{shape}
 use Rattle.tt_search.specs.declared.tree.edges.Edge.{Edge}
 use Rattle.tt_search.specs.declared.tree.edges.EdgeState.{EdgeState}
 use Rattle.tt_search.specs.declared.tree.edges.EdgeState.TheVariants as edge_state
-use Rattle.tt_search.specs.declared.tree.node.Growth.{Growth}
-use Rattle.tt_search.specs.declared.tree.node.Growth.TheVariants.{Fresh, Won, Closed, Untried, Expanded, Offered}
+use Rattle.tt_search.specs.declared.tree.node.NodeState.{NodeState}
+use Rattle.tt_search.specs.declared.tree.node.NodeState.TheVariants.{Fresh, Won, Closed, Untried, Expanded, Offered}
 use Rattle.tt_search.specs.declared.tree.children.ChildNodes.{ChildNodes}
-use Rattle.tt_search.specs.declared.tree.node.Node.TheDeep.{deep-Growth, deep-ChildNodes}
+use Rattle.tt_search.specs.declared.tree.node.Node.TheDeep.{deep-NodeState, deep-ChildNodes}
 
 -- the grown nodes weigh no more than all children, if that holds for the list without its first edge
 most-behind : (m : EdgeState) (es : List Edge) (ts : List PartialTree)
@@ -37,7 +37,7 @@ children-fall : (p : ChildNodes) → HasItsNodes p → deep-ChildNodes p ≤ wei
 children-fall p h = omega (arith, most-weight p.edges p.grown.items h)
 
 -- the children that a growth holds weigh less than its tree
-pub deep-weight : (g : Growth) → HoldsItsOwn g → max (deep-Growth g) 0 ≤ weight (shape g)
+pub deep-weight : (g : NodeState) → HoldsItsOwn g → max (deep-NodeState g) 0 ≤ weight (shape g)
 deep-weight Fresh h = omega arith
 deep-weight (Won s) h = omega arith
 deep-weight (Closed p) h = omega arith

@@ -10,8 +10,8 @@ use Rattle.tt_search.specs.inside.ChildNodes.{choices_of, HasItsNodes}
 use Rattle.tt_search.specs.inside.Kept.{IsKept}
 use Rattle.tt_search.specs.inside.Untried.{plays_and_pass, AreUntried}
 use Rattle.tt_search.specs.declared.tree.children.ChildNodes.{ChildNodes}
-use Rattle.tt_search.specs.declared.tree.node.Growth.{Growth}
-use Rattle.tt_search.specs.declared.tree.node.Growth.TheVariants.{Fresh, Won, Closed, Untried, Expanded, Offered}
+use Rattle.tt_search.specs.declared.tree.node.NodeState.{NodeState}
+use Rattle.tt_search.specs.declared.tree.node.NodeState.TheVariants.{Fresh, Won, Closed, Untried, Expanded, Offered}
 
 -- the tree is settled for the proof's side, and its strategy is the proof's
 pub record IsProofOfTree (tree : PartialTree) (p : ProofClaim) : Type 0 where
@@ -24,7 +24,7 @@ pub record IsOffered (mover : Side) (children : ChildNodes) (p : ProofClaim) : T
   pub proof : IsProofOfTree (node_with (choices_of mover children)) p
 
 -- what an expanded node keeps beside its children is right, and so is the proof of one that has offered it
-abbrev pub HoldsItsOwn : Growth → Type 0
+abbrev pub HoldsItsOwn : NodeState → Type 0
 HoldsItsOwn Fresh = Unit {0}
 HoldsItsOwn (Won side) = Unit {0}
 HoldsItsOwn (Closed proof) = Unit {0}

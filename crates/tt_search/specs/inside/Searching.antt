@@ -1,7 +1,7 @@
 -- What is true of every search. For private contracts and proofs.
 use Rattle.std.specs.Prelude.{◌≡◌, ◌+◌}
 use Rattle.tt_search.specs.Numbers.{count}
-use Rattle.tt_search.specs.Growing.{IsPartialTree, IsGrown}
+use Rattle.tt_search.specs.Growing.{IsPartialTree, IsGrownFromRoot}
 use Rattle.tt_search.specs.inside.Within.{StaysWithin}
 use Rattle.tt_search.specs.inside.Walking.{Stand, Stage}
 use Rattle.tt_search.specs.declared.limits.Limits.{Limits}
@@ -12,4 +12,4 @@ pub record IsSearch (at : Stand) (limits : Limits) (now : Stage) : Type 0 where
   pub counted : now.left + count now.tree ≡ limits.budget
   pub partial : IsPartialTree at.frame at.state now.tree
   pub stays : StaysWithin at.frame.size at.room now.tree
-  pub grown : IsGrown limits at.frame at.state now.tree
+  pub grown : IsGrownFromRoot limits at.frame at.state now.tree

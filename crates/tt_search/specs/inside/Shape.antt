@@ -4,10 +4,10 @@ use Rattle.tt_search.specs.PartialTree.{PartialTree, fresh, won, closed}
 use Rattle.tt_search.specs.inside.Untried.{plays_and_pass}
 use Rattle.tt_search.specs.inside.Choices.{node_with}
 use Rattle.tt_search.specs.inside.ChildNodes.{choices_of, choices_with}
-use Rattle.tt_search.specs.declared.tree.node.Growth.{Growth}
-use Rattle.tt_search.specs.declared.tree.node.Growth.TheVariants.{Fresh, Won, Closed, Untried, Expanded, Offered}
+use Rattle.tt_search.specs.declared.tree.node.NodeState.{NodeState}
+use Rattle.tt_search.specs.declared.tree.node.NodeState.TheVariants.{Fresh, Won, Closed, Untried, Expanded, Offered}
 
-abbrev pub shape : Growth → PartialTree
+abbrev pub shape : NodeState → PartialTree
 shape Fresh = fresh
 shape (Won side) = won side
 shape (Closed proof) = closed proof.value.side proof.value.tree

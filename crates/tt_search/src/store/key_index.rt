@@ -15,7 +15,7 @@ use tt_proof::Proof;
 use tt_sgf::NoMemory;
 
 /// Proofs in the order in which they came, each at its slot, from 0 on.
-pub trait ProofRow {
+pub trait ProofList {
     ghost proofs: { Self → List ProofClaim };
 
     /// The proof at a slot.
@@ -80,7 +80,7 @@ fn link_all_slots(heads: &mut Vec<u32>, before: &mut Vec<u32>, hashes: &Vec<u32>
 }
 
 /// Twice as many buckets, and at least 16, where these are fewer than 2^32.
-fn doubled_buckets(buckets: usize) -> Option<usize>
+fn doubled_bucket_count(buckets: usize) -> Option<usize>
     ensures { IfSome result (λ n. (buckets < n) × (n < 4294967296)) }
 {
     if buckets < 8 {
@@ -106,7 +106,7 @@ fn grow_buckets(
     ensures more { IfOk result (λ _. vec_len heads.old < vec_len heads.new) }
     ensures room { vec_capacity before.new ≡ vec_capacity before.old }
 {
-    let Some(buckets) = doubled_buckets(heads.len()) else {
+    let Some(buckets) = doubled_bucket_count(heads.len()) else {
         return Err(NoMemory);
     };
     let mut more = vec![in alloc; 0u32; buckets]?;
@@ -115,7 +115,7 @@ fn grow_buckets(
     Ok(())
 }
 
-/// An index of the last proof of each key and side, in a row of proofs that only grows. It holds no proofs and no keys, but
+/// An index of the last proof of each key and side, in a list of proofs that only grows. It holds no proofs and no keys, but
 /// a hash of 32 bits for each proof, by which the proofs are in buckets; it looks at the proofs that it is shown. It takes
 /// 8 bytes a proof and 4 bytes a bucket; there are at least as many buckets as proofs, and at most twice as many or 16. Most lines
 /// have a key that no proof has, and for most of these one look at the filter says so: these take 24 KB more.
@@ -177,7 +177,7 @@ impl KeyIndex {
         Ok(())
     }
 
-    /// Tells the index of the row's next proof, where there is room.
+    /// Tells the index of the list's next proof, where there is room.
     pub fn push(&mut self, p: &Proof)
         requires { 0 < self.old.room }
         ensures { self.new.hashes ≡ self.old.hashes ++ key_hashes (p.now ∷ []) }
@@ -197,11 +197,11 @@ impl KeyIndex {
         if !self.filter.has(filter_bit(hash)) {
             return 0;
         }
-        self.last_in_bucket_plus_one(hash)
+        self.find_in_bucket_plus_one(hash)
     }
 
     /// One more than the last slot with the hash in the hash's bucket, or 0 where none has it.
-    fn last_in_bucket_plus_one(&self, hash: u32) -> usize
+    fn find_in_bucket_plus_one(&self, hash: u32) -> usize
         ensures { IsLastWithHash self.now.hashes hash result }
     {
         if self.heads.is_empty() {
@@ -217,27 +217,27 @@ impl KeyIndex {
         0
     }
 
-    /// The slot of the row's last proof of the line's key for the side, where the key has the hash and this is one more than the
+    /// The slot of the list's last proof of the line's key for the side, where the key has the hash and this is one more than the
     /// last slot with it.
-    fn newest_with_hash<P: ProofRow>(
+    fn newest_slot_with_hash<P: ProofList>(
         &self,
         line: &Line,
         side: Side,
         hash: u32,
         last: usize,
-        row: &P,
+        list: &P,
     ) -> Option<usize>
         requires hash { hash ≡ index_hash (key_of line.now.frame line.now.state) }
-        requires indexed { self.now.hashes ≡ key_hashes (P.proofs row.now) }
+        requires indexed { self.now.hashes ≡ key_hashes (P.proofs list.now) }
         requires last { IsLastWithHash self.now.hashes hash last }
-        ensures newest { IsNewest line.now side (reverse (P.proofs row.now)) (proof_at (P.proofs row.now) result) }
-        ensures within { IfSome result (λ slot. slot < length (P.proofs row.now)) }
-        ensures found { IfSome (proof_at (P.proofs row.now) result) (HasKeyAndSide line.now side) }
+        ensures newest { IsNewest line.now side (reverse (P.proofs list.now)) (proof_at (P.proofs list.now) result) }
+        ensures within { IfSome result (λ slot. slot < length (P.proofs list.now)) }
+        ensures found { IfSome (proof_at (P.proofs list.now) result) (HasKeyAndSide line.now side) }
     {
         let mut next = last;
         while 0 < next {
             let slot = next - 1;
-            if self.hashes[slot] == hash && has_key_and_side(row.proof(slot), line, side) {
+            if self.hashes[slot] == hash && has_key_and_side(list.proof(slot), line, side) {
                 return Some(slot);
             }
             next = self.before[slot] as usize;
@@ -245,24 +245,24 @@ impl KeyIndex {
         None
     }
 
-    /// The slot of the row's last proof of the line's key for the side. The index was told the row's proofs.
-    pub fn newest_slot<P: ProofRow>(&self, line: &Line, side: Side, row: &P) -> Option<usize>
-        requires { self.now.hashes ≡ key_hashes (P.proofs row.now) }
-        ensures { IsSlotOfNewest line.now side (P.proofs row.now) result }
+    /// The slot of the list's last proof of the line's key for the side. The index was told the list's proofs.
+    pub fn newest_slot<P: ProofList>(&self, line: &Line, side: Side, list: &P) -> Option<usize>
+        requires { self.now.hashes ≡ key_hashes (P.proofs list.now) }
+        ensures { IsSlotOfNewest line.now side (P.proofs list.now) result }
     {
         let hash = line.key_hash();
-        self.newest_with_hash(line, side, hash, self.last_with_hash_plus_one(hash), row)
+        self.newest_slot_with_hash(line, side, hash, self.last_with_hash_plus_one(hash), list)
     }
 
     /// What `newest_slot` answers for the attacker and for the defender.
-    pub fn newest_per_side<P: ProofRow>(
+    pub fn newest_slot_per_side<P: ProofList>(
         &self,
         line: &Line,
-        row: &P,
+        list: &P,
     ) -> (Option<usize>, Option<usize>)
-        requires { self.now.hashes ≡ key_hashes (P.proofs row.now) }
-        ensures attacker { IsSlotOfNewest line.now Attacker (P.proofs row.now) result.0 }
-        ensures defender { IsSlotOfNewest line.now Defender (P.proofs row.now) result.1 }
+        requires { self.now.hashes ≡ key_hashes (P.proofs list.now) }
+        ensures attacker { IsSlotOfNewest line.now Attacker (P.proofs list.now) result.0 }
+        ensures defender { IsSlotOfNewest line.now Defender (P.proofs list.now) result.1 }
     {
         let hash = line.key_hash();
         let last = self.last_with_hash_plus_one(hash);
@@ -270,8 +270,8 @@ impl KeyIndex {
             return (None, None);
         }
         (
-            self.newest_with_hash(line, Side::Attacker, hash, last, row),
-            self.newest_with_hash(line, Side::Defender, hash, last, row),
+            self.newest_slot_with_hash(line, Side::Attacker, hash, last, list),
+            self.newest_slot_with_hash(line, Side::Defender, hash, last, list),
         )
     }
 }

@@ -8,7 +8,7 @@ ghost use Rattle.tt_search.specs.Stores.{HasKeyAndSide, IsNewest};
 ghost use Rattle.tt_search.specs.KeyIndex.{proof_at};
 ghost use Rattle.tt_search.specs.declared.store.Kept.TheVariants.{Stored, Full};
 
-use crate::store::key_index::{KeyIndex, ProofRow};
+use crate::store::key_index::{KeyIndex, ProofList};
 use crate::store::{Kept, ProofPerSide, Store};
 use std::alloc::Global;
 use std::marker::Model;
@@ -43,7 +43,7 @@ impl Model for PrivateStore {
     ghost invariant = { λ s. (s.index.hashes ≡ key_hashes (map arc_value s.proofs.items)) × (length (map arc_value s.proofs.items) ≤ s.capacity) };
 }
 
-impl ProofRow for Vec<Arc<Proof>> {
+impl ProofList for Vec<Arc<Proof>> {
     ghost use Rattle.std.specs.Prelude.{map};
     ghost use Rattle.std.specs.Arc.{arc_value};
 
@@ -138,7 +138,7 @@ impl Store for PrivateStore {
         ensures kept { length self.new.proofs ≡ length self.old.proofs }
         ensures same { self.new ≡ self.old }
     {
-        let (attacker, defender) = self.index.newest_per_side(line, &self.proofs);
+        let (attacker, defender) = self.index.newest_slot_per_side(line, &self.proofs);
         let attacker = handle_at(&self.proofs, attacker)?;
         let defender = handle_at(&self.proofs, defender)?;
         Ok(ProofPerSide { attacker, defender })

@@ -4,7 +4,7 @@ ghost use Rattle.std.specs.Prelude.{◌≡◌, ◌<◌, ◌≤◌, [], length, s
 ghost use Rattle.tt_search.specs.declared.tree.edges.TheConstants.{TURN_NUMBER_BOUND};
 ghost use Rattle.tt_search.specs.inside.Edges.{edge_turns, edge_trees, grown_in};
 
-use crate::tree::edge_row::Edges;
+use crate::tree::edge_storage::Edges;
 use crate::tree::edges::{Edge, EdgeState};
 use crate::tree::node::Node;
 use crate::tree::numbers::PhiDelta;
@@ -50,7 +50,7 @@ impl ChildNodes {
     {
         let grown = Vec::new(alloc);
         let child_nodes = ChildNodes { edges, grown };
-        let (best, sum) = child_nodes.first_best_and_sum(mover);
+        let (best, sum) = child_nodes.initial_best_and_sum(mover);
         let numbers = PhiDelta {
             own: best.least,
             other: sum,
@@ -97,7 +97,7 @@ impl<'a> Child<'a> {
 
     /// The child behind an edge, where these are the nodes of the children that have grown, from this one on; and the
     /// nodes of those behind it.
-    pub(crate) fn first_and_rest(edge: Edge, rest: &'a [Node]) -> (Child<'a>, &'a [Node])
+    pub(crate) fn split_first_child(edge: Edge, rest: &'a [Node]) -> (Child<'a>, &'a [Node])
         requires { counted (edge_state_of edge) 0 ≤ length rest.now }
         ensures child { child_tree result.0 ≡ tree_of (edge_state_of edge) rest.now }
         ensures behind { result.1.now ≡ grown_behind (edge_state_of edge) rest.now }

@@ -15,7 +15,7 @@ use tt_proof::Proof;
 pub(crate) struct Node {
     pub(crate) proof: u32,
     pub(crate) disproof: u32,
-    pub(crate) growth: Growth,
+    pub(crate) node_state: NodeState,
 }
 
 /// What a node has become. An expanded node in a large region, where nobody has won behind any turn and none has been tried, has its mover and
@@ -23,7 +23,7 @@ pub(crate) struct Node {
 /// children, and the proof, so that the nodes above take its tree from there.
 #[cycle(node)]
 #[derive(Drop)]
-pub(crate) enum Growth {
+pub(crate) enum NodeState {
     Fresh,
     Won(Side),
     Closed(Arc<Proof>),
@@ -45,15 +45,15 @@ impl Model for Node {
     ghost use Rattle.tt_search.specs.inside.Cached.{IsCached};
     ghost use Rattle.tt_search.specs.inside.Offered.{HoldsItsOwn};
 
-    ghost view = { λ a. shape a.growth };
+    ghost view = { λ a. shape a.node_state };
 
-    ghost invariant = { λ a. IsCached a.proof a.disproof (shape a.growth) × HoldsItsOwn a.growth };
+    ghost invariant = { λ a. IsCached a.proof a.disproof (shape a.node_state) × HoldsItsOwn a.node_state };
 
     ghost size = { weight };
 
     ghost use Rattle.tt_search.specs.inside.Falls.{deep-weight};
 
-    ghost size_decreases = { λ a h. deep-weight a.growth h.1 };
+    ghost size_decreases = { λ a h. deep-weight a.node_state h.1 };
 }
 
 impl Node {

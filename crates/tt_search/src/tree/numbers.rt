@@ -2,7 +2,7 @@
 
 ghost use Rattle.std.specs.Prelude.{◌≡◌, ◌<◌, ◌≤◌, length, take, IsTrue};
 ghost use Rattle.tt_search.specs.inside.Edges.{edge_state_of, edge_trees, counted, grown_in, AreFresh};
-ghost use Rattle.tt_search.specs.Numbers.{is_same_side, decided_number, cap, infinite, numbers, least, capped_sum};
+ghost use Rattle.tt_search.specs.Numbers.{is_same_side, decided_number, cap, infinite, child_numbers, least, capped_sum};
 ghost use Rattle.tt_search.specs.inside.Children.{children_of};
 ghost use Rattle.tt_search.specs.declared.tree.edges.TheConstants.{TURN_NUMBER_BOUND};
 ghost use Rattle.tt_search.specs.MostProving.{index_of_best};
@@ -102,7 +102,7 @@ impl Child<'_> {
 
 impl ChildNodes {
     ghost use Rattle.tt_game.specs.Game.{opponent};
-    ghost use Rattle.tt_search.specs.Numbers.{numbers, least, infinite, capped_sum};
+    ghost use Rattle.tt_search.specs.Numbers.{child_numbers, least, infinite, capped_sum};
     ghost use Rattle.tt_search.specs.MostProving.{index_of_best};
     ghost use Rattle.tt_search.specs.Settled.{first_settled_index};
     ghost use Rattle.tt_search.specs.inside.ChildNodes.{children_in, HasItsNodes, IsRank, AreFew};
@@ -113,11 +113,11 @@ impl ChildNodes {
     pub(crate) fn best(&self, mover: Side, from: u32) -> BestChildFound
         requires few { AreFew self.now }
         requires whole { HasItsNodes self.now }
-        requires lowest { from ≤ least (numbers mover (children_in self.now)) }
+        requires lowest { from ≤ least (child_numbers mover (children_in self.now)) }
         requires finite { from < infinite }
         ensures index { result.index ≡ index_of_best mover (children_in self.now) }
         ensures rank { IsRank result.rank result.index self.now }
-        ensures least { result.least ≡ least (numbers mover (children_in self.now)) }
+        ensures least { result.least ≡ least (child_numbers mover (children_in self.now)) }
     {
         best_of(mover, from, self.edges.as_slice(), self.grown.as_slice())
     }
@@ -125,7 +125,7 @@ impl ChildNodes {
     /// The sum of the other side's numbers: infinite where one of them is, and otherwise at most the greatest finite one.
     pub(crate) fn opponent_sum(&self, mover: Side) -> u32
         requires { HasItsNodes self.now }
-        ensures { result ≡ capped_sum (numbers (opponent mover) (children_in self.now)) }
+        ensures { result ≡ capped_sum (child_numbers (opponent mover) (children_in self.now)) }
     {
         capped_sum_of(
             mover.opponent(),
@@ -135,13 +135,13 @@ impl ChildNodes {
     }
 
     /// The child to go to, and the sum, where no child has grown. Mostly nobody has won behind any of them, so that each has the number 1.
-    pub(crate) fn first_best_and_sum(&self, mover: Side) -> (BestChildFound, u32)
+    pub(crate) fn initial_best_and_sum(&self, mover: Side) -> (BestChildFound, u32)
         requires few { AreFew self.now }
         requires whole { HasItsNodes self.now }
         ensures index { result.0.index ≡ index_of_best mover (children_in self.now) }
         ensures rank { IsRank result.0.rank result.0.index self.now }
-        ensures least { result.0.least ≡ least (numbers mover (children_in self.now)) }
-        ensures sum { result.1 ≡ capped_sum (numbers (opponent mover) (children_in self.now)) }
+        ensures least { result.0.least ≡ least (child_numbers mover (children_in self.now)) }
+        ensures sum { result.1 ≡ capped_sum (child_numbers (opponent mover) (children_in self.now)) }
     {
         if are_fresh(self.edges.as_slice()) {
             let best = BestChildFound {
@@ -159,8 +159,8 @@ impl ChildNodes {
     pub(crate) fn opponent_sum_after(&self, mover: Side, was: u32, old: u32, new: u32) -> u32
         requires whole { HasItsNodes self.now }
         requires part { was < cap → old ≤ was }
-        requires changed { was < cap → changed_sum was old new ≡ capped_sum (numbers (opponent mover) (children_in self.now)) }
-        ensures { result ≡ capped_sum (numbers (opponent mover) (children_in self.now)) }
+        requires changed { was < cap → changed_sum was old new ≡ capped_sum (child_numbers (opponent mover) (children_in self.now)) }
+        ensures { result ≡ capped_sum (child_numbers (opponent mover) (children_in self.now)) }
     {
         if was >= CAP {
             return self.opponent_sum(mover);
@@ -210,11 +210,11 @@ fn are_fresh(edges: &[Edge]) -> bool
 fn best_of(mover: Side, from: u32, edges: &[Edge], grown: &[Node]) -> BestChildFound
     requires few { length edges.now ≤ TURN_NUMBER_BOUND }
     requires whole { grown_in edges.now ≡ length grown.now }
-    requires lowest { from ≤ least (numbers mover (children_of (edge_trees edges.now grown.now))) }
+    requires lowest { from ≤ least (child_numbers mover (children_of (edge_trees edges.now grown.now))) }
     requires finite { from < infinite }
     ensures index { result.index ≡ index_of_best mover (children_of (edge_trees edges.now grown.now)) }
     ensures rank { result.rank ≡ grown_in (take result.index edges.now) }
-    ensures least { result.least ≡ least (numbers mover (children_of (edge_trees edges.now grown.now))) }
+    ensures least { result.least ≡ least (child_numbers mover (children_of (edge_trees edges.now grown.now))) }
 {
     let mut index = 0;
     let mut rank = 0;
@@ -222,7 +222,7 @@ fn best_of(mover: Side, from: u32, edges: &[Edge], grown: &[Node]) -> BestChildF
     let mut passed = 0;
     let mut rest = grown;
     for (i, edge) in edges.iter().enumerate() {
-        let (child, behind) = Child::first_and_rest(*edge, rest);
+        let (child, behind) = Child::split_first_child(*edge, rest);
         let number = child.number(mover);
         if number <= from {
             return BestChildFound {
@@ -249,12 +249,12 @@ fn best_of(mover: Side, from: u32, edges: &[Edge], grown: &[Node]) -> BestChildF
 /// The sum of the numbers of the goal.
 fn capped_sum_of(goal: Side, edges: &[Edge], grown: &[Node]) -> u32
     requires { grown_in edges.now ≡ length grown.now }
-    ensures { result ≡ capped_sum (numbers goal (children_of (edge_trees edges.now grown.now))) }
+    ensures { result ≡ capped_sum (child_numbers goal (children_of (edge_trees edges.now grown.now))) }
 {
     let mut total: u32 = 0;
     let mut rest = grown;
     for edge in edges {
-        let (child, behind) = Child::first_and_rest(*edge, rest);
+        let (child, behind) = Child::split_first_child(*edge, rest);
         let number = child.number(goal);
         if number == INFINITE {
             return INFINITE;
@@ -274,7 +274,7 @@ fn first_settled_of(side: Side, edges: &[Edge], grown: &[Node]) -> (usize, usize
     let mut rank = 0;
     let mut rest = grown;
     for (i, edge) in edges.iter().enumerate() {
-        let (child, behind) = Child::first_and_rest(*edge, rest);
+        let (child, behind) = Child::split_first_child(*edge, rest);
         if child.number(side) == 0 {
             return (i, rank);
         }

@@ -3,7 +3,7 @@
 ghost use Rattle.std.specs.Prelude.{◌≡◌, ◌++◌, ◌∷◌, [], IfOk, length};
 ghost use Rattle.tt_search.specs.inside.Untried.{fresh_edge, plays_and_pass, AreBelow};
 
-use crate::tree::edge_row::Edges;
+use crate::tree::edge_storage::Edges;
 use crate::tree::edges::Edge;
 use arrayvec::ArrayVec;
 use std::alloc::Global;

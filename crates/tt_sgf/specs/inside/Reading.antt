@@ -85,12 +85,12 @@ property_at bytes = cond (list_any is_upper (word_of bytes)) (values_at (after_w
     cond (has_none x.0) None (Some (record { ident = filter is_kept_in_name (word_of bytes); values = x.0 }, x.1))) None
 
 -- a letter or a digit follows
-abbrev pub opens_property : List ℕ → Bool
-opens_property bytes = begins is_letter_or_digit (after_blanks bytes)
+abbrev pub property_follows : List ℕ → Bool
+property_follows bytes = begins is_letter_or_digit (after_blanks bytes)
 
 -- the properties at the front
 unfoldable pub properties_at : List ℕ → Option (List Property × List ℕ)
-properties_at bytes = repeat opens_property (λ bs. property_at (after_blanks bs)) (suc (length bytes)) bytes
+properties_at bytes = repeat property_follows (λ bs. property_at (after_blanks bs)) (suc (length bytes)) bytes
 
 -- the same, with no white space before it
 abbrev pub event_of : List ℕ → Option (Event × List ℕ)

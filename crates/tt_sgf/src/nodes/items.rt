@@ -19,22 +19,22 @@ pub(crate) fn add<T: Drop>(items: &mut Vec<T>, item: T) -> Result<(), AllocError
 
 /// A list. Contracts see its items alone, and not the memory that holds them.
 #[derive(Drop)]
-pub struct Items<T> {
+pub struct ItemList<T> {
     items: Vec<T>,
 }
 
-impl<T> Model for Items<T> {
+impl<T> Model for ItemList<T> {
     ghost Value = { List T };
 
     ghost view = { λ s. s.items.items };
 }
 
-impl<T> Items<T> {
+impl<T> ItemList<T> {
     /// The list of these items. Takes no memory.
     pub fn from_vec(items: Vec<T>) -> Self
         ensures { result ≡ items.items }
     {
-        Items { items }
+        ItemList { items }
     }
 
     /// The items in a list of their own. Takes no memory.

@@ -11,7 +11,7 @@ const SHORT: usize = 14;
 
 /// So many bytes of the array, or a block of them.
 #[derive(Drop)]
-enum Form {
+enum ByteStorage {
     Short(u8, [u8; SHORT]),
     Long(Box<Vec<u8>>),
 }
@@ -19,7 +19,7 @@ enum Form {
 /// Bytes that are never changed. Contracts see the list of them.
 #[derive(Drop)]
 pub struct SmallBytes {
-    form: Form,
+    form: ByteStorage,
 }
 
 impl Model for SmallBytes {
@@ -49,11 +49,11 @@ impl SmallBytes {
         ensures { IfOk result (λ b. b ≡ bytes.now) }
     {
         if bytes.len() <= SHORT {
-            let form = Form::Short(bytes.len() as u8, zero_padded(bytes));
+            let form = ByteStorage::Short(bytes.len() as u8, zero_padded(bytes));
             return Ok(SmallBytes { form });
         }
         let long = Vec::from_slice(alloc, bytes)?;
-        let form = Form::Long(Box::new(alloc, long)?);
+        let form = ByteStorage::Long(Box::new(alloc, long)?);
         Ok(SmallBytes { form })
     }
 
@@ -62,10 +62,10 @@ impl SmallBytes {
         ensures { IfOk result (λ b. b ≡ bytes.items) }
     {
         if bytes.len() <= SHORT {
-            let form = Form::Short(bytes.len() as u8, zero_padded(&bytes));
+            let form = ByteStorage::Short(bytes.len() as u8, zero_padded(&bytes));
             return Ok(SmallBytes { form });
         }
-        let form = Form::Long(Box::new(alloc, bytes)?);
+        let form = ByteStorage::Long(Box::new(alloc, bytes)?);
         Ok(SmallBytes { form })
     }
 
@@ -74,7 +74,7 @@ impl SmallBytes {
         ensures { IfOk result (λ v. v.items ≡ self) }
     {
         match self.form {
-            Form::Long(long) => Ok(Box::into_inner(long)),
+            ByteStorage::Long(long) => Ok(Box::into_inner(long)),
             form => Ok(Vec::from_slice(alloc, SmallBytes { form }.as_slice())?),
         }
     }
@@ -84,8 +84,8 @@ impl SmallBytes {
         ensures { result.now ≡ self.now }
     {
         match &self.form {
-            Form::Short(count, short) => &short[..usize::from(*count)],
-            Form::Long(long) => long.as_slice(),
+            ByteStorage::Short(count, short) => &short[..usize::from(*count)],
+            ByteStorage::Long(long) => long.as_slice(),
         }
     }
 }

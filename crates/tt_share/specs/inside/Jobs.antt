@@ -9,7 +9,7 @@ use Rattle.tt_proof.specs.Strategy.{depth}
 use Rattle.tt_proof.specs.ProofClaim.{StandsAt, IsWinningTree}
 use Rattle.tt_search.specs.Numbers.{count}
 use Rattle.tt_search.specs.Grants.{GrantTally}
-use Rattle.tt_search.specs.Growing.{IsGrown}
+use Rattle.tt_search.specs.Growing.{IsGrownFromRoot}
 use Rattle.tt_search.specs.SearchState.{SearchState, IsStuckFor}
 use Rattle.tt_search.specs.RunEnds.{IsProofOf}
 use Rattle.tt_search.specs.declared.limits.Limits.{Limits}
@@ -17,7 +17,7 @@ use Rattle.tt_search.specs.declared.limits.TheConstants.{MOST_EXPANDED}
 use Rattle.tt_search.specs.declared.limits.Reason.TheVariants.{Budget, Depth, Total, Memory}
 use Rattle.tt_search.specs.declared.search.End.{End}
 use Rattle.tt_search.specs.declared.search.End.TheVariants.{Settled, Stuck}
-use Rattle.tt_share.specs.Answers.{IsSearchAfter, IsCountAfter}
+use Rattle.tt_share.specs.Answers.{IsSearchAfter, IsSearchCountAfter}
 use Rattle.tt_share.specs.declared.jobs.JobResult.{JobResult}
 use Rattle.tt_share.specs.declared.jobs.JobResult.TheVariants as result
 use Rattle.tt_share.specs.declared.jobs.SearchedJob.{SearchedJob}
@@ -34,7 +34,7 @@ IsForTotal (Stuck Memory search) = ⊥
 abbrev pub EndsBehind : LineWithUndo → Limits → Turn → End → Type 0
 EndsBehind line limits t (Settled p) = StandsAt p line.frame (after line.frame line.state t) × (depth p.tree + 1 ≤ limits.depth)
 EndsBehind line limits t (Stuck reason (Some search)) =
-    IsSearchAfter line limits t search × IsGrown search.limits search.line.frame search.line.state search.tree × IsStuckFor reason search
+    IsSearchAfter line limits t search × IsGrownFromRoot search.limits search.line.frame search.line.state search.tree × IsStuckFor reason search
 EndsBehind line limits t (Stuck Budget None) = ⊥
 EndsBehind line limits t (Stuck Depth None) = ⊥
 EndsBehind line limits t (Stuck Total None) = ⊥
@@ -43,13 +43,13 @@ EndsBehind line limits t (Stuck Memory None) = Unit {0}
 -- the search that ends so has so many expanded nodes: the one that is held, or one behind the turn whose proof it is
 abbrev pub IsOwnCount : LineWithUndo → Limits → Turn → ℕ → End → Type 0
 IsOwnCount line limits t n (Settled p) = (search : SearchState) × IsSearchAfter line limits t search
-    × IsGrown search.limits search.line.frame search.line.state search.tree × IsProofOf search p × (count search.tree ≡ n)
+    × IsGrownFromRoot search.limits search.line.frame search.line.state search.tree × IsProofOf search p × (count search.tree ≡ n)
 IsOwnCount line limits t n (Stuck reason (Some search)) = count search.tree ≡ n
 IsOwnCount line limits t n (Stuck reason None) = Unit {0}
 
 -- so many nodes were expanded behind the turn in the search that ends so
 abbrev pub IsCounted : LineWithUndo → Limits → Turn → ℕ → End → Type 0
-IsCounted line limits t n end = IsCountAfter line limits t n × IsOwnCount line limits t n end
+IsCounted line limits t n end = IsSearchCountAfter line limits t n × IsOwnCount line limits t n end
 
 -- what a search asks for: so many expansions are granted; one is refused where it is stuck for the total, and later ones are too
 pub record AsksFor (old : GrantTally) (n : ℕ) (end : End) (new : GrantTally) : Type 0 where

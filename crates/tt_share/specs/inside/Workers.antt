@@ -5,7 +5,7 @@ use Rattle.tt_game.specs.Line.{LineWithUndo}
 use Rattle.tt_search.specs.declared.limits.Limits.{Limits}
 use Rattle.tt_share.specs.inside.Jobs.{IsResult, IsForTotal, IsStuck, IsDropped, IsWinFor, end_of, kept_of}
 use Rattle.tt_share.specs.inside.Results.{HasEnd, HasResult, IsPastStuck}
-use Rattle.tt_share.specs.Seats.{DeskView, SeatView, EndsInOverdraw, granted_among}
+use Rattle.tt_share.specs.Seats.{DeskModel, SeatModel, EndsInOverdraw, granted_among}
 use Rattle.tt_share.specs.declared.jobs.JobResult.{JobResult}
 use Rattle.tt_share.specs.declared.jobs.SearchedJob.{SearchedJob}
 use Rattle.tt_share.specs.declared.workers.HandedBack.{HandedBack}
@@ -27,8 +27,8 @@ abbrev pub AddsOverdraw : ℕ → List ℕ → List ℕ → Type 0
 AddsOverdraw jobs before after = (overdraw : List ℕ) × (after ≡ before ++ overdraw) × All (λ n. jobs ≤ n) overdraw
 
 -- each worker hands back a result of each job that its seat drew, in that order
-abbrev pub AllDrawn : ℕ → List SeatView → List HandedBack → Type 0
-AllDrawn jobs seats work = (i : ℕ) (seat : SeatView) (back : HandedBack) → slice_get seats i ≡ Some seat → slice_get work i ≡ Some back
+abbrev pub AllDrawn : ℕ → List SeatModel → List HandedBack → Type 0
+AllDrawn jobs seats work = (i : ℕ) (seat : SeatModel) (back : HandedBack) → slice_get seats i ≡ Some seat → slice_get work i ≡ Some back
     → AddsOverdraw jobs (seat.numbers ++ jobs_of back.searched.items) back.seat.numbers
 
 -- some result is no proof
@@ -74,7 +74,7 @@ abbrev pub SomeTotal : List SearchedJob → Type 0
 SomeTotal searched = (i : ℕ) × (f : SearchedJob) × (slice_get searched i ≡ Some f) × IsForTotal (end_of f.end)
 
 -- What a worker hands back to a desk
-pub record IsWork (line : LineWithUndo) (limits : Limits) (desk : DeskView) (back : HandedBack) : Type 0 where
+pub record IsWork (line : LineWithUndo) (limits : Limits) (desk : DeskModel) (back : HandedBack) : Type 0 where
   -- the seat is the desk's
   pub seat : back.seat.desk ≡ desk.id
   -- each result is that of its job's turn

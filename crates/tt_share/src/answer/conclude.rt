@@ -11,7 +11,7 @@ ghost use Rattle.tt_search.specs.SearchState.{SearchState};
 ghost use Rattle.tt_search.specs.declared.limits.Limits.{Limits};
 ghost use Rattle.tt_search.specs.declared.limits.Reason.{Reason};
 ghost use Rattle.tt_search.specs.declared.search.End.{End};
-ghost use Rattle.tt_share.specs.Answers.{IsAnswer, spent_if_total_of};
+ghost use Rattle.tt_share.specs.Answers.{IsAnswer, counts_if_total_spent_of};
 ghost use Rattle.tt_share.specs.declared.jobs.JobResult.{JobResult};
 ghost use Rattle.tt_share.specs.inside.Beginning.{BeginsWith, IsStuckWith};
 ghost use Rattle.tt_share.specs.inside.Jobs.{EndsBehind, IsJob, end_of};
@@ -84,8 +84,8 @@ fn take_end(ends: &mut Vec<Option<JobResult>>, job: usize) -> Option<End>
 }
 
 /// What is told of the counts: all of them where the total is spent, and else nothing.
-fn spent_if_total(alloc: Global, reason: Reason, spent: Vec<(Turn, u32)>) -> Vec<(Turn, u32)>
-    ensures { result.items ≡ spent_if_total_of reason spent.items }
+fn counts_if_total_spent(alloc: Global, reason: Reason, spent: Vec<(Turn, u32)>) -> Vec<(Turn, u32)>
+    ensures { result.items ≡ counts_if_total_spent_of reason spent.items }
 {
     match reason {
         Reason::Total => spent,
@@ -95,7 +95,7 @@ fn spent_if_total(alloc: Global, reason: Reason, spent: Vec<(Turn, u32)>) -> Vec
 
 impl<'a> Jobs<'a> {
     /// The answer of a proof after a turn, for the side to move.
-    fn pick_answer(&self, turn: Turn, child: Proof) -> Result<Answer, NoMemory>
+    fn answer_by_winning_turn(&self, turn: Turn, child: Proof) -> Result<Answer, NoMemory>
         requires legal { IsLegal self.now.line.now.frame self.now.line.now.state turn }
         requires child { EndsBehind self.now.line.now self.now.limits turn (End.Settled child) }
         requires side { child.side ≡ self.now.line.now.state.to_move }
@@ -107,7 +107,7 @@ impl<'a> Jobs<'a> {
     }
 
     /// The answer where all turns have lost.
-    fn reply_answer(&self, children: Vec<(Turn, Proof)>) -> Result<Answer, NoMemory>
+    fn answer_by_lost_turns(&self, children: Vec<(Turn, Proof)>) -> Result<Answer, NoMemory>
         requires lost { HaveLost self.now.line.now self.now.limits children.items }
         requires all { vec_len children ≡ length (legal_turns self.now.line.now.frame self.now.line.now.state) }
         ensures answer { (total : Option ℕ) → IfOk result (IsAnswer self.now.line.now self.now.limits total) }
@@ -129,7 +129,7 @@ impl<'a> Results<'a> {
         ensures replies { NoWin self.entry.line.state.to_move self.entry.ends → NoneStuck self.entry.ends → IfOk result (BeginsWith None) }
         ensures stuck { (job : ℕ) (turn : Turn) (reason : Reason) (search : Option SearchState) → NoWin self.entry.line.state.to_move self.entry.ends →
             IsLeastStuck self.entry.ends job reason search → IsJob self.entry.line job turn →
-            IfOk result (IsStuckWith turn reason search (spent_if_total_of reason self.entry.spent)) }
+            IfOk result (IsStuckWith turn reason search (counts_if_total_spent_of reason self.entry.spent)) }
     {
         let Results {
             jobs,
@@ -139,7 +139,7 @@ impl<'a> Results<'a> {
         let turns = jobs.turns.as_slice();
         if let Some(job) = least_win_in(ends.as_slice(), jobs.line.to_move()) {
             return match take_end(&mut ends, job) {
-                Some(End::Settled(child)) => jobs.pick_answer(turns[job], child),
+                Some(End::Settled(child)) => jobs.answer_by_winning_turn(turns[job], child),
                 _ => unreachable!(),
             };
         }
@@ -152,12 +152,12 @@ impl<'a> Results<'a> {
                         turn: *turn,
                         reason,
                         search,
-                        spent: spent_if_total(jobs.alloc, reason, spent),
+                        spent: counts_if_total_spent(jobs.alloc, reason, spent),
                     }));
                 }
                 None => unreachable!(),
             }
         }
-        jobs.reply_answer(children)
+        jobs.answer_by_lost_turns(children)
     }
 }

@@ -1,6 +1,6 @@
 //! Grants of a desk, asked for through a seat.
 ghost use Rattle.std.specs.Prelude.{◌≡◌, ◌||◌, []};
-ghost use Rattle.tt_share.specs.Seats.{DeskView, SeatView, seat_of};
+ghost use Rattle.tt_share.specs.Seats.{DeskModel, SeatModel, seat_of};
 ghost use Rattle.tt_share.specs.inside.Tallies.{Tallies, source_of};
 
 use crate::desk::{Desk, Seat};
@@ -57,7 +57,7 @@ impl<'a> SeatGrants<'a> {
 impl<'a> Grants for SeatGrants<'a> {
     ghost asked = { λ g. record { granted = g.granted; refused = g.refused } };
 
-    ghost Source = { DeskView × SeatView };
+    ghost Source = { DeskModel × SeatModel };
 
     ghost source = { λ g. source_of g.desk.now g.seat };
 

@@ -35,36 +35,36 @@ impl TableRule<(), SeatKnowledge, DeskSize> for DeskRule {
 pub struct Draw;
 
 impl Play<(), SeatKnowledge> for Draw {
-    ghost use Rattle.tt_share.specs.Desk.{DrawsNumber};
+    ghost use Rattle.tt_share.specs.Desk.{IsSeatAfterDraw};
 
-    ghost then = { λ step before found after. DrawsNumber before found after };
+    ghost then = { λ step before found after. IsSeatAfterDraw before found after };
 }
 
 /// A grant was asked for: the number says whether it was given.
 pub struct GrantRequest;
 
 impl Play<(), SeatKnowledge> for GrantRequest {
-    ghost use Rattle.tt_share.specs.Desk.{AsksGrant};
+    ghost use Rattle.tt_share.specs.Desk.{IsSeatAfterGrant};
 
-    ghost then = { λ step before found after. AsksGrant before found after };
+    ghost then = { λ step before found after. IsSeatAfterGrant before found after };
 }
 
 /// The flag was raised.
 pub struct FlagRaise;
 
 impl Play<(), SeatKnowledge> for FlagRaise {
-    ghost use Rattle.tt_share.specs.Desk.{RaisesFlag};
+    ghost use Rattle.tt_share.specs.Desk.{IsSeatAfterRaise};
 
-    ghost then = { λ step before found after. RaisesFlag before after };
+    ghost then = { λ step before found after. IsSeatAfterRaise before after };
 }
 
 /// The flag was looked at.
 pub struct FlagLook;
 
 impl Play<(), SeatKnowledge> for FlagLook {
-    ghost use Rattle.tt_share.specs.Desk.{LooksAtFlag};
+    ghost use Rattle.tt_share.specs.Desk.{IsSeatAfterLook};
 
-    ghost then = { λ step before found after. LooksAtFlag before found after };
+    ghost then = { λ step before found after. IsSeatAfterLook before found after };
 }
 
 /// One seat is cut from one that has made no step.

@@ -6,7 +6,7 @@ ghost use Rattle.std.specs.Arc.{arc_value};
 ghost use Rattle.tt_game.specs.declared.frame.Side.TheVariants.{Attacker, Defender};
 ghost use Rattle.tt_search.specs.Stores.{HasKeyAndSide, IsNewest};
 ghost use Rattle.tt_search.specs.declared.store.Kept.TheVariants.{Stored, Full};
-ghost use Rattle.tt_share.specs.Log.{KeepsProof, Extends, newest_first, HasNewest};
+ghost use Rattle.tt_share.specs.Log.{KeepsProof, Extends, proofs_newest_first, HasTokenOfKeyAndSide};
 
 use crate::log::view::View;
 use std::marker::Model;
@@ -57,9 +57,9 @@ impl<'a, R> LogStore<'a, R> {
 }
 
 impl<'a, R: Wait> Store for LogStore<'a, R> {
-    ghost use Rattle.tt_share.specs.declared.capacity.TheConstants.{MOST_KEPT};
+    ghost use Rattle.tt_share.specs.declared.capacity.TheConstants.{MOST_KEPT_PROOFS};
 
-    ghost capacity = { λ _. MOST_KEPT };
+    ghost capacity = { λ _. MOST_KEPT_PROOFS };
 
     ghost kept = { λ s. s.kept };
 
@@ -79,8 +79,8 @@ impl<'a, R: Wait> Store for LogStore<'a, R> {
         ensures kept { self.new.kept ≡ self.old.kept }
         ensures log { self.new.log ≡ self.old.log }
         ensures tokens { Extends self.old.tokens self.new.tokens }
-        ensures newest { IfOk result (λ o. IsNewest line.now s (newest_first self.new.tokens) (option_map (λ p. arc_value p) o)) }
-        ensures memory { IfErr result (λ _. HasNewest line.now s self.new.tokens) }
+        ensures newest { IfOk result (λ o. IsNewest line.now s (proofs_newest_first self.new.tokens) (option_map (λ p. arc_value p) o)) }
+        ensures memory { IfErr result (λ _. HasTokenOfKeyAndSide line.now s self.new.tokens) }
     {
         self.view.find(line, s)
     }
@@ -93,15 +93,15 @@ impl<'a, R: Wait> Store for LogStore<'a, R> {
         ensures kept { self.new.kept ≡ self.old.kept }
         ensures log { self.new.log ≡ self.old.log }
         ensures tokens { Extends self.old.tokens self.new.tokens }
-        ensures newest_attacker { IfOk result (λ b. IsNewest line.now Attacker (newest_first self.new.tokens) (option_map (λ p. arc_value p) b.attacker)) }
-        ensures newest_defender { IfOk result (λ b. IsNewest line.now Defender (newest_first self.new.tokens) (option_map (λ p. arc_value p) b.defender)) }
-        ensures memory { IfErr result (λ _. HasNewest line.now Attacker self.new.tokens ⊎ HasNewest line.now Defender self.new.tokens) }
+        ensures newest_attacker { IfOk result (λ b. IsNewest line.now Attacker (proofs_newest_first self.new.tokens) (option_map (λ p. arc_value p) b.attacker)) }
+        ensures newest_defender { IfOk result (λ b. IsNewest line.now Defender (proofs_newest_first self.new.tokens) (option_map (λ p. arc_value p) b.defender)) }
+        ensures memory { IfErr result (λ _. HasTokenOfKeyAndSide line.now Attacker self.new.tokens ⊎ HasTokenOfKeyAndSide line.now Defender self.new.tokens) }
     {
         self.view.find_both(line)
     }
 
     fn keep(&mut self, p: Arc<Proof>) -> Kept
-        ensures full { (result ≡ Full) ↔ (self.old.kept ≡ MOST_KEPT) }
+        ensures full { (result ≡ Full) ↔ (self.old.kept ≡ MOST_KEPT_PROOFS) }
         ensures stored { result ≡ Stored → self.new.kept ≡ self.old.kept + 1 }
         ensures other { result ≢ Stored → self.new.kept ≡ self.old.kept }
         ensures log { self.new.log ≡ self.old.log }

@@ -6,7 +6,7 @@ ghost use Rattle.std.specs.Arc.{arc_value};
 ghost use Rattle.tt_game.specs.declared.frame.Side.TheVariants.{Attacker, Defender};
 ghost use Rattle.tt_search.specs.Stores.{HasKeyAndSide, IsNewest};
 ghost use Rattle.tt_search.specs.KeyIndex.{proof_at};
-ghost use Rattle.tt_share.specs.Log.{IsTokenOf, newest_first, proofs_of};
+ghost use Rattle.tt_share.specs.Log.{IsTokenOf, proofs_newest_first, proofs_of};
 
 use crate::log::{CertLog, Token};
 use std::alloc::Global;
@@ -14,18 +14,18 @@ use std::marker::Model;
 use std::sync::Arc;
 use tt_game::{Line, Side};
 use tt_proof::Proof;
-use tt_search::{KeyIndex, ProofRow};
+use tt_search::{KeyIndex, ProofList};
 use tt_sgf::NoMemory;
 
 /// Tokens of a log, as a row of their proofs.
 #[derive(Drop)]
-struct TokenRow<'a> {
+struct TokenProofs<'a> {
     log: &'a CertLog,
     tokens: &'a Vec<Token>,
     ghost of_log: { All (IsTokenOf log.now) tokens.now.items },
 }
 
-impl<'a> ProofRow for TokenRow<'a> {
+impl<'a> ProofList for TokenProofs<'a> {
     ghost use Rattle.tt_share.specs.Log.{proofs_of};
 
     ghost proofs = { λ t. proofs_of t.tokens.now.items };
@@ -112,10 +112,10 @@ impl<'a> TakenTokens<'a> {
     }
 
     /// The tokens as a row of proofs.
-    fn proof_row(&self) -> TokenRow<'_>
+    fn token_proofs(&self) -> TokenProofs<'_>
         ensures { result.tokens.now.items ≡ self.now.tokens }
     {
-        TokenRow {
+        TokenProofs {
             log: self.log,
             tokens: &self.tokens,
         }
@@ -131,20 +131,20 @@ impl<'a> TakenTokens<'a> {
 
     /// The proof of the last token of the line's key for the side.
     pub fn newest_proof(&self, line: &Line, side: Side) -> Option<&Arc<Proof>>
-        ensures newest { IsNewest line.now side (newest_first self.now.tokens) (option_map (λ p. arc_value p.now) result) }
+        ensures newest { IsNewest line.now side (proofs_newest_first self.now.tokens) (option_map (λ p. arc_value p.now) result) }
         ensures found { IfSome result (λ p. HasKeyAndSide line.now side (arc_value p.now)) }
     {
-        self.handle_at(self.index.newest_slot(line, side, &self.proof_row()))
+        self.handle_at(self.index.newest_slot(line, side, &self.token_proofs()))
     }
 
     /// What `newest_proof` answers for the attacker and for the defender.
     pub fn newest_proof_per_side(&self, line: &Line) -> (Option<&Arc<Proof>>, Option<&Arc<Proof>>)
-        ensures attacker { IsNewest line.now Attacker (newest_first self.now.tokens) (option_map (λ p. arc_value p.now) result.0) }
-        ensures defender { IsNewest line.now Defender (newest_first self.now.tokens) (option_map (λ p. arc_value p.now) result.1) }
+        ensures attacker { IsNewest line.now Attacker (proofs_newest_first self.now.tokens) (option_map (λ p. arc_value p.now) result.0) }
+        ensures defender { IsNewest line.now Defender (proofs_newest_first self.now.tokens) (option_map (λ p. arc_value p.now) result.1) }
         ensures found_attacker { IfSome result.0 (λ p. HasKeyAndSide line.now Attacker (arc_value p.now)) }
         ensures found_defender { IfSome result.1 (λ p. HasKeyAndSide line.now Defender (arc_value p.now)) }
     {
-        let (attacker, defender) = self.index.newest_per_side(line, &self.proof_row());
+        let (attacker, defender) = self.index.newest_slot_per_side(line, &self.token_proofs());
         (self.handle_at(attacker), self.handle_at(defender))
     }
 }

@@ -6,9 +6,9 @@ ghost use Rattle.std.specs.Arc.{arc_value};
 ghost use Rattle.tt_game.specs.declared.frame.Side.TheVariants.{Attacker, Defender};
 ghost use Rattle.tt_search.specs.Stores.{HasKeyAndSide, IsNewest};
 ghost use Rattle.tt_search.specs.declared.store.Kept.TheVariants.{Stored, Full};
-ghost use Rattle.tt_share.specs.Log.{IsTokenOf, KeepsProof, Extends, newest_first, HasNewest};
+ghost use Rattle.tt_share.specs.Log.{IsTokenOf, KeepsProof, Extends, proofs_newest_first, HasTokenOfKeyAndSide};
 
-use crate::capacity::MOST_KEPT;
+use crate::capacity::MOST_KEPT_PROOFS;
 use crate::log::taken::TakenTokens;
 use crate::log::{CertLog, Token};
 use std::alloc::Global;
@@ -40,7 +40,7 @@ impl<'a> Model for View<'a> {
     ghost use Rattle.tt_sgf.specs.contracts.sets.PointSet as points;
     ghost use Rattle.tt_proof.specs.laws.StrategyCode.{strategy_code};
     ghost use Rattle.tt_share.specs.Log.{ViewState};
-    ghost use Rattle.tt_share.specs.declared.capacity.TheConstants.{MOST_KEPT};
+    ghost use Rattle.tt_share.specs.declared.capacity.TheConstants.{MOST_KEPT_PROOFS};
 
     ghost Value = { ViewState };
 
@@ -50,7 +50,7 @@ impl<'a> Model for View<'a> {
 
     ghost invariant = { λ v. record {
       of_log : v.taken.log ≡ v.log.now;
-      most : v.kept ≤ MOST_KEPT;
+      most : v.kept ≤ MOST_KEPT_PROOFS;
     } };
 }
 
@@ -74,15 +74,15 @@ impl<'a> View<'a> {
 
     /// How many proofs may be kept through this view: 4,096.
     pub fn capacity(&self) -> usize
-        ensures { result ≡ MOST_KEPT }
+        ensures { result ≡ MOST_KEPT_PROOFS }
     {
-        MOST_KEPT
+        MOST_KEPT_PROOFS
     }
 
     /// How many proofs were kept through this view: at most 4,096.
     pub fn kept(&self) -> usize
         ensures kept { result ≡ self.now.kept }
-        ensures most { result ≤ MOST_KEPT }
+        ensures most { result ≤ MOST_KEPT_PROOFS }
     {
         self.kept
     }
@@ -105,11 +105,11 @@ impl<'a> View<'a> {
     /// Keeps the proof: pushes it once, and takes its token in, where there is room and memory for it.
     pub fn keep(&mut self, rt: &impl Wait, p: Arc<Proof>) -> Kept
         ensures log { self.new.log ≡ self.old.log }
-        ensures full { (result ≡ Full) ↔ (self.old.kept ≡ MOST_KEPT) }
+        ensures full { (result ≡ Full) ↔ (self.old.kept ≡ MOST_KEPT_PROOFS) }
         ensures stored { result ≡ Stored → KeepsProof self.old self.new (arc_value p) }
         ensures same { result ≢ Stored → self.new ≡ self.old }
     {
-        if self.kept == MOST_KEPT {
+        if self.kept == MOST_KEPT_PROOFS {
             return Kept::Full;
         }
         if self.own.reserve(1).is_err() || self.taken.reserve().is_err() {
@@ -175,9 +175,9 @@ impl<'a> View<'a> {
         ensures log { self.new.log ≡ self.old.log }
         ensures kept { self.new.kept ≡ self.old.kept }
         ensures tokens { Extends self.old.tokens self.new.tokens }
-        ensures newest { IfOk result (λ o. IsNewest line.now s (newest_first self.new.tokens) (option_map (λ p. arc_value p) o)) }
+        ensures newest { IfOk result (λ o. IsNewest line.now s (proofs_newest_first self.new.tokens) (option_map (λ p. arc_value p) o)) }
         ensures found { IfOk result (λ o. IfSome o (λ p. HasKeyAndSide line.now s (arc_value p))) }
-        ensures memory { IfErr result (λ _. HasNewest line.now s self.new.tokens) }
+        ensures memory { IfErr result (λ _. HasTokenOfKeyAndSide line.now s self.new.tokens) }
     {
         self.read_new_entries();
         handle_of(self.taken.newest_proof(line, s))
@@ -188,11 +188,11 @@ impl<'a> View<'a> {
         ensures log { self.new.log ≡ self.old.log }
         ensures kept { self.new.kept ≡ self.old.kept }
         ensures tokens { Extends self.old.tokens self.new.tokens }
-        ensures newest_attacker { IfOk result (λ b. IsNewest line.now Attacker (newest_first self.new.tokens) (option_map (λ p. arc_value p) b.attacker)) }
-        ensures newest_defender { IfOk result (λ b. IsNewest line.now Defender (newest_first self.new.tokens) (option_map (λ p. arc_value p) b.defender)) }
+        ensures newest_attacker { IfOk result (λ b. IsNewest line.now Attacker (proofs_newest_first self.new.tokens) (option_map (λ p. arc_value p) b.attacker)) }
+        ensures newest_defender { IfOk result (λ b. IsNewest line.now Defender (proofs_newest_first self.new.tokens) (option_map (λ p. arc_value p) b.defender)) }
         ensures attacker { IfOk result (λ b. IfSome b.attacker (λ p. HasKeyAndSide line.now Attacker (arc_value p))) }
         ensures defender { IfOk result (λ b. IfSome b.defender (λ p. HasKeyAndSide line.now Defender (arc_value p))) }
-        ensures memory { IfErr result (λ _. HasNewest line.now Attacker self.new.tokens ⊎ HasNewest line.now Defender self.new.tokens) }
+        ensures memory { IfErr result (λ _. HasTokenOfKeyAndSide line.now Attacker self.new.tokens ⊎ HasTokenOfKeyAndSide line.now Defender self.new.tokens) }
     {
         self.read_new_entries();
         let (attacker, defender) = self.taken.newest_proof_per_side(line);

@@ -4,7 +4,7 @@ ghost use Rattle.std.specs.Prelude.{◌≡◌, ◌≢◌, ◌≤◌, ◌+◌, �
 ghost use Rattle.tt_search.specs.Stores.{HasKeyAndSide};
 ghost use Rattle.tt_search.specs.declared.store.Kept.TheVariants.{Stored, Full};
 
-use crate::capacity::MOST_KEPT;
+use crate::capacity::MOST_KEPT_PROOFS;
 use crate::table::TableState;
 use std::alloc::Global;
 use std::marker::Model;
@@ -41,13 +41,13 @@ pub struct LockedStore<'a, R> {
 
 impl<'a, R> Model for LockedStore<'a, R> {
     ghost use Rattle.std.specs.Prelude.{◌≤◌, ℕ};
-    ghost use Rattle.tt_share.specs.declared.capacity.TheConstants.{MOST_KEPT};
+    ghost use Rattle.tt_share.specs.declared.capacity.TheConstants.{MOST_KEPT_PROOFS};
 
     ghost Value = { ℕ };
 
     ghost view = { λ s. s.kept };
 
-    ghost invariant = { λ s. s.kept ≤ MOST_KEPT };
+    ghost invariant = { λ s. s.kept ≤ MOST_KEPT_PROOFS };
 }
 
 impl<'a, R> LockedStore<'a, R> {
@@ -60,16 +60,16 @@ impl<'a, R> LockedStore<'a, R> {
 }
 
 impl<'a, R: Wait> Store for LockedStore<'a, R> {
-    ghost use Rattle.tt_share.specs.declared.capacity.TheConstants.{MOST_KEPT};
+    ghost use Rattle.tt_share.specs.declared.capacity.TheConstants.{MOST_KEPT_PROOFS};
 
-    ghost capacity = { λ _. MOST_KEPT };
+    ghost capacity = { λ _. MOST_KEPT_PROOFS };
 
     ghost kept = { λ s. s };
 
     ghost may_answer = { Unit {0} };
 
     fn capacity(&self) -> usize {
-        MOST_KEPT
+        MOST_KEPT_PROOFS
     }
 
     fn kept(&self) -> usize {
@@ -82,7 +82,7 @@ impl<'a, R: Wait> Store for LockedStore<'a, R> {
     }
 
     fn keep(&mut self, p: Arc<Proof>) -> Kept {
-        if self.kept == MOST_KEPT {
+        if self.kept == MOST_KEPT_PROOFS {
             return Kept::Full;
         }
         let key = p.key();

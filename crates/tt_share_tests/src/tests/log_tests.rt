@@ -8,7 +8,7 @@ use std::thread;
 use std::thread::Threads;
 use tt_game::{Line, Side};
 use tt_proof::Proof;
-use tt_search::{Free, Kept, Limits, PrivateStore, ProofPerSide, Search, Step, Store};
+use tt_search::{AlwaysGranting, Kept, Limits, PrivateStore, ProofPerSide, Search, Step, Store};
 use tt_share::{CertLog, LockedStore, LogStore, Table, View};
 
 /// The colouring of the first problem reached by moves, so that Black may not repeat the board before.
@@ -402,7 +402,7 @@ fn a_view_is_full(rt: HostRuntime) -> Result<(), Fail> {
 
 /// Steps a search that asks nobody for its expansions.
 fn stepped<S: Store>(search: &mut Search, store: &mut S) -> Step {
-    search.step(store, &mut Free::new())
+    search.step(store, &mut AlwaysGranting::new())
 }
 
 /// The letter of what a step answered.

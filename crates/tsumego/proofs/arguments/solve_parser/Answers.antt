@@ -2,14 +2,14 @@ use Rattle.std.proofs.Common.{ap₂, codes, ◌≡◌, ◌∙◌}
 use Rattle.clap.specs.Words.{app_of, new_app, with_rule}
 use Rattle.std.proofs.lemmas.Result.{IfOk-weaker}
 use Rattle.tt_search.specs.declared.limits.TheConstants.{MOST_EXPANDED}
-use Rattle.tsumego.specs.CommandLine.{number_rule, solve_app}
+use Rattle.tsumego.specs.CommandLine.{number_arg, solve_app}
 use Rattle.tsumego.proofs.Getters.{none_global}
 use Rattle.tsumego.proofs.arguments.solve_parser.Goals as goal
 
 pub returns-clause-shape : goal.returns-clause-shape
 unfolding solve_app
 returns-clause-shape c =
-    let one_is : app_of c.in_ok-one.one ≡ with_rule (new_app (codes "solve")) (number_rule (codes "budget") MOST_EXPANDED (codes "100000")) =
+    let one_is : app_of c.in_ok-one.one ≡ with_rule (new_app (codes "solve")) (number_arg (codes "budget") MOST_EXPANDED (codes "100000")) =
     c.in_ok-one.ensures.shape c.number_option-budget.ensures.local ∙ ap₂ with_rule c.bare_parser.ensures.app c.number_option-budget.ensures.rule in
     let two_is = c.in_ok-two.ensures.shape c.number_option-depth.ensures.local ∙ ap₂ with_rule one_is c.number_option-depth.ensures.rule in
     let three_is = c.in_ok-three.ensures.shape c.optional_number_option-total.ensures.local ∙ ap₂ with_rule two_is c.optional_number_option-total.ensures.rule in

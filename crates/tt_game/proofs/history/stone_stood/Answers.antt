@@ -31,7 +31,7 @@ loop-board-preserved c = λ k d lt stone. elim (cases_eq k c.loop-board.board-in
   | inl same ↦
       let here : c.board-item.result ≡ get_or c.args.boards.now k d =
       c.board-item.is ∙ get_or_default c.args.boards.now c.loop-board.board-index c.board-item.result d c.loop-board-test.true ∙ ap (λ j. get_or c.args.boards.now j d) (sym same) in
-      false≢true (sym c.if-has_stone.false ∙ c.has_stone.ensures ∙ ap (λ (b : Position). is_stone_of (entry_at b.points c.args.p) c.args.colour) here
+      false≢true (sym c.if-has_stone_of.false ∙ c.has_stone_of.ensures ∙ ap (λ (b : Position). is_stone_of (entry_at b.points c.args.p) c.args.colour) here
       ∙ ap (λ e. is_stone_of e c.args.colour) stone ∙ own c.args.colour)
   | inr apart ↦ c.loop-board.invariant k d (omega (arith, lt, apart)) stone
 ]

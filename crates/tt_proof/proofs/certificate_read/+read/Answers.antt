@@ -1,6 +1,6 @@
 use Rattle.tt_proof.specs.declared.certificate_read.CertFault.TheVariants.{Syntax, TooDeep}
 use Rattle.std.proofs.Common.{length, rules, arith, ◌≡◌, ◌+◌, ◌-◌, ◌++◌, ◌⊎◌, ℕ, suc, [], ◌∷◌, ◌∙◌, sym, ap, subst, inl, inr}
-use Rattle.tt_proof.specs.Strategy.{number_on}
+use Rattle.tt_proof.specs.Strategy.{turn_number_on_size}
 use Rattle.tt_proof.specs.CertificateText.{won_symbol, pick_symbol, replies_symbol}
 use Rattle.tt_proof.specs.inside.CertificateReading.{DeepAt, EntriesDeepAt, FaultAt, EntriesFaultAt}
 use Rattle.tt_proof.proofs.StrategyLemmas.{strategy_of_done, strategy_of_reply}
@@ -75,7 +75,7 @@ read_entries-loop-rest-preserved t c =
     record {
       walked =
           rw (items, e)
-          (subst (λ k. Walked c.args.size k c.args.bytes.now (number_on c.args.size c.in-Some-read_turn.turn + 1) c.in-Ok.after.now
+          (subst (λ k. Walked c.args.size k c.args.bytes.now (turn_number_on_size c.args.size c.in-Some-read_turn.turn + 1) c.in-Ok.after.now
           (c.loop-rest.list.items ++ ((c.in-Some-read_turn.turn, c.in-Ok.tree) ∷ []))) (sym one)
           (walked_more c.args.size c.args.size.columns_in.0 (c.args.left - 1) c.loop-rest.least c.args.bytes.now c.loop-rest.now.now
           c.in-Some-read_turn.middle.now c.in-Ok.after.now c.loop-rest.list.items c.in-Some-read_turn.turn c.in-Ok.tree

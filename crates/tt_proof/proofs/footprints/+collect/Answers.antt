@@ -5,7 +5,7 @@ use Rattle.tt_game.specs.Game.{after}
 use Rattle.tt_game.specs.Line.{LineWithUndo}
 use Rattle.tt_game.specs.declared.turns.Turn.{Turn}
 use Rattle.tt_sgf.specs.declared.size.Size.{Size}
-use Rattle.tt_proof.specs.Strategy.{Strategy, Entries, entry, number_on, strategy_of, pick, reply, entries_of, entries_of_reply, depth_of_entries, AreInOrder}
+use Rattle.tt_proof.specs.Strategy.{Strategy, Entries, entry, turn_number_on_size, strategy_of, pick, reply, entries_of, entries_of_reply, depth_of_entries, AreInOrder}
 use Rattle.tt_proof.specs.KeptFootprints.{IsFootprint, IsEntryJoined}
 use Rattle.tt_proof.proofs.ResultLemmas.{if_ok, on_ok}
 use Rattle.tt_proof.proofs.StrategyLemmas.{strategy_of_done, strategy_of_pick, strategy_of_reply, entries_map}
@@ -60,7 +60,7 @@ footprint_of_reply-returns-clause-exact t c =
 
 -- behind an entry the others are in order
 rest_in_order : (size : Size) (least : ℕ) (t : Turn) (u : Strategy) (es : Entries) → AreInOrder size least (entry t u es) → (next : ℕ) × AreInOrder size next es
-rest_in_order size least t u es h = (number_on size t + 1, h.3)
+rest_in_order size least t u es h = (turn_number_on_size size t + 1, h.3)
 
 pub footprint_of_pick-returns-in-Ok-found-clause-exact :
     goal.footprint_of_pick-returns-in-Ok-found-clause-exact

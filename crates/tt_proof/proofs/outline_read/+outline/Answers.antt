@@ -1,7 +1,7 @@
 use Rattle.std.proofs.Common.{rules, arith, length, ◌≡◌, ◌+◌, ◌-◌, ◌≤◌, ◌++◌, ℕ, suc, max, [], ◌∷◌, ◌∙◌, sym, ap, subst}
 use Rattle.tt_proof.specs.declared.certificate_read.CertFault.TheVariants.{Syntax, TooDeep}
 use Rattle.tt_proof.specs.CertificateText.{pick_symbol}
-use Rattle.tt_proof.specs.Outlines.{name_text}
+use Rattle.tt_proof.specs.Outlines.{naming_text}
 use Rattle.tt_proof.specs.inside.OutlineReading.{OutlineFaultAt, BranchesFaultAt}
 use Rattle.tt_proof.proofs.TextLemmas.{heads}
 use Rattle.tt_proof.proofs.OutlineLemmas.{outline_of_done}
@@ -77,13 +77,13 @@ read_pick-returns-in-None t c = no_turn c.args.size c.args.named c.args.left c.a
 
 pub read_pick-returns-then-left-eq0 : goal.read_pick-returns-then-left-eq0
 read_pick-returns-then-left-eq0 t c =
-    subst (λ k. OutlineFaultAt c.args.size k c.args.depths.now.items (name_text c.args.named ++ (pick_symbol ∷ c.args.bytes.now)) TooDeep)
+    subst (λ k. OutlineFaultAt c.args.size k c.args.depths.now.items (naming_text c.args.named ++ (pick_symbol ∷ c.args.bytes.now)) TooDeep)
     (sym c.if-left-eq0.true)
     (no_room c.args.size c.args.named c.args.depths.now.items c.in-Some.turn c.args.bytes.now c.in-Some.after.now c.in-Some.ensures.0 c.in-Some.ensures.3)
 
 pub read_pick-returns-in-Err : goal.read_pick-returns-in-Err
 read_pick-returns-in-Err t c =
-    subst (λ k. OutlineFaultAt c.args.size k c.args.depths.now.items (name_text c.args.named ++ (pick_symbol ∷ c.args.bytes.now)) c.in-Err.fault)
+    subst (λ k. OutlineFaultAt c.args.size k c.args.depths.now.items (naming_text c.args.named ++ (pick_symbol ∷ c.args.bytes.now)) c.in-Err.fault)
     (sym (one_more c.args.left c.if-left-eq0.false))
     (pick_fault c.args.size c.args.named (c.args.left - 1) c.args.depths.now.items c.in-Some.turn c.args.bytes.now c.in-Some.after.now c.in-Err.fault
     c.in-Some.ensures.0 c.in-Some.ensures.3 c.in-Err.ensures)

@@ -6,9 +6,9 @@ use Rattle.tt_sgf.specs.declared.size.Size.{Size}
 use Rattle.tt_game.specs.declared.turns.Turn.{Turn}
 use Rattle.tt_proof.specs.declared.position_footprint.PositionFootprint.{PositionFootprint}
 use Rattle.tt_proof.specs.declared.outline_replay.ReplayResult.TheVariants.{Won, Unfit}
-use Rattle.tt_proof.specs.Strategy.{number_on}
-use Rattle.tt_proof.specs.Outlines.{Outline, Branches, branch, branches_of_reply, outline_of, AreOrderly}
-use Rattle.tt_proof.specs.SharedParts.{FindsOutline, IsResultBeforeTurn, IsResultOfPart, IsResultOfReply, RestsBeforePick, RestsBeforeReply, RestsOnPosition}
+use Rattle.tt_proof.specs.Strategy.{turn_number_on_size}
+use Rattle.tt_proof.specs.Outlines.{Outline, Branches, branch, branches_of_reply, outline_of, AreBranchesInOrder}
+use Rattle.tt_proof.specs.SharedParts.{IsReplayOfOutline, IsResultBeforeTurn, IsResultOfPart, IsResultOfReply, RestsBeforePick, RestsBeforeOpposingTurn, RestsOnPositionAlone}
 use Rattle.tt_proof.specs.inside.OutlineReplaying.{FindsBranch}
 use Rattle.tt_proof.proofs.ResultLemmas.{if_ok}
 use Rattle.tt_proof.proofs.FootprintLemmas.{refused_bars}
@@ -63,11 +63,11 @@ replay_pick-returns-in-Ok-found-clause-found t c =
     let turn = c.args.turn in
     let o = outline_of c.args.child.now in
     let mine : c.args.line.now.state.to_move ≡ s = search rules in
-    let behind = subst (λ (l : LineWithUndo). FindsOutline s l.frame c.args.names.now.items o l.state c.in-Ok-found.behind c.replay_outline-found.new.names.items)
+    let behind = subst (λ (l : LineWithUndo). IsReplayOfOutline s l.frame c.args.names.now.items o l.state c.in-Ok-found.behind c.replay_outline-found.new.names.items)
     c.in-Ok.ensures.ok.1 c.in-Ok-found.ensures.found in
-    let more = subst (λ (l : LineWithUndo). IfOk c.result_before_pick.result (IsResultBeforeTurn (RestsBeforePick l.frame l.state turn) c.in-Ok-found.behind))
-    same c.result_before_pick.ensures in
-    if_ok c.result_before_pick.result _ _ (λ r g. inl (mine, c.in-Ok.ensures.ok.0, (c.in-Ok-found.behind, (behind, g)))) more
+    let more = subst (λ (l : LineWithUndo). IfOk c.result_of_pick.result (IsResultBeforeTurn (RestsBeforePick l.frame l.state turn) c.in-Ok-found.behind))
+    same c.result_of_pick.ensures in
+    if_ok c.result_of_pick.result _ _ (λ r g. inl (mine, c.in-Ok.ensures.ok.0, (c.in-Ok-found.behind, (behind, g)))) more
 
 pub replay_pick-returns-in_ok-skip-in-Err-Illegal-clause-found : goal.replay_pick-returns-in_ok-skip-in-Err-Illegal-clause-found
 replay_pick-returns-in_ok-skip-in-Err-Illegal-clause-found t c = inr (
@@ -99,10 +99,10 @@ replay_branch-returns-in-Ok-found-clause-found t c =
     let s = c.args.s in
     let turn = c.args.turn in
     let o = outline_of c.args.child.now in
-    let behind = subst (λ (l : LineWithUndo). FindsOutline s l.frame c.args.names.now.items o l.state c.in-Ok-found.behind c.replay_outline-found.new.names.items)
+    let behind = subst (λ (l : LineWithUndo). IsReplayOfOutline s l.frame c.args.names.now.items o l.state c.in-Ok-found.behind c.replay_outline-found.new.names.items)
     c.in-Ok.ensures.ok.1 c.in-Ok-found.ensures.found in
-    let more = subst (λ (l : LineWithUndo). IsResultBeforeTurn (RestsBeforeReply l.frame l.state turn) c.in-Ok-found.behind c.result_before_reply.result)
-    same c.result_before_reply.ensures in
+    let more = subst (λ (l : LineWithUndo). IsResultBeforeTurn (RestsBeforeOpposingTurn l.frame l.state turn) c.in-Ok-found.behind c.result_of_branch.result)
+    same c.result_of_branch.ensures in
     inl (c.in-Ok.ensures.ok.0, (c.in-Ok-found.behind, (behind, more)))
 
 pub replay_branch-returns-in_ok-skip-in-Err-Illegal-clause-found : goal.replay_branch-returns-in_ok-skip-in-Err-Illegal-clause-found
@@ -110,7 +110,7 @@ replay_branch-returns-in_ok-skip-in-Err-Illegal-clause-found t c =
     let f = c.args.line.now.frame in
     let at = c.args.line.now.state in
     let same : c.push.new.self ≡ c.args.line.now = search rules in
-    let stands = subst (λ (l : LineWithUndo). RestsOnPosition l.frame l.state c.of.result) same c.of.ensures in
+    let stands = subst (λ (l : LineWithUndo). RestsOnPositionAlone l.frame l.state c.of.result) same c.of.ensures in
     inr (
       refused_bars f at c.args.turn c.in-Err-Illegal.field-0-0 (rw c.in-Err-Illegal.field-0-is at c.in-Err-Illegal.ensures.why),
       (c.of.result, (refl, stands)),
@@ -118,8 +118,8 @@ replay_branch-returns-in_ok-skip-in-Err-Illegal-clause-found t c =
     )
 
 -- behind a branch the others are in order
-rest_orderly : (size : Size) (least : ℕ) (t : Turn) (o : Outline) (bs : Branches) → AreOrderly size least (branch t o bs) → (next : ℕ) × AreOrderly size next bs
-rest_orderly size least t o bs h = (number_on size t + 1, h.3)
+rest_orderly : (size : Size) (least : ℕ) (t : Turn) (o : Outline) (bs : Branches) → AreBranchesInOrder size least (branch t o bs) → (next : ℕ) × AreBranchesInOrder size next bs
+rest_orderly size least t o bs h = (turn_number_on_size size t + 1, h.3)
 
 pub replay_branches-loop-turn-init : goal.replay_branches-loop-turn-init
 replay_branches-loop-turn-init t c =
@@ -129,7 +129,7 @@ replay_branches-loop-turn-init t c =
     let bs = branches_of_reply list in
     record {
       same = refl;
-      orderly = (0, subst (λ xs. AreOrderly f.size 0 (branches_of_reply xs)) (sym (drop_none list)) c.requires.orderly);
+      orderly = (0, subst (λ xs. AreBranchesInOrder f.size 0 (branches_of_reply xs)) (sym (drop_none list)) c.requires.orderly);
       replayed =
           subst (λ xs. Replayed c.args.s f at c.args.names.now.items bs (branches_of_reply xs) c.args.names.now.items (Won c.in_ok-basis.basis)) (sym (drop_none list))
           (replayed_start c.args.s f at c.args.names.now.items bs c.in_ok-basis.basis c.in_ok-basis.ensures);
@@ -157,9 +157,9 @@ replay_branches-loop-turn-preserved t c =
     record {
       same = c.replay_branch.ensures.same ∙ c.loop-turn.invariant.same;
       orderly =
-          subst (λ (l : LineWithUndo). (least : ℕ) × AreOrderly l.frame.size least left) (sym c.replay_branch.ensures.same)
+          subst (λ (l : LineWithUndo). (least : ℕ) × AreBranchesInOrder l.frame.size least left) (sym c.replay_branch.ensures.same)
           (rest_orderly c.loop-turn.line.frame.size c.loop-turn.invariant.orderly.0 item.0 o left
-          (subst (λ xs. AreOrderly c.loop-turn.line.frame.size c.loop-turn.invariant.orderly.0 (branches_of_reply xs)) rest c.loop-turn.invariant.orderly.1));
+          (subst (λ xs. AreBranchesInOrder c.loop-turn.line.frame.size c.loop-turn.invariant.orderly.0 (branches_of_reply xs)) rest c.loop-turn.invariant.orderly.1));
       replayed =
           replayed_more s f at ns bs left item.0 o c.loop-turn.names.items new.names.items c.loop-turn.found c.in_ok-next.next _
           (subst (λ xs. Replayed s f at ns bs (branches_of_reply xs) c.loop-turn.names.items c.loop-turn.found) rest c.loop-turn.invariant.replayed)

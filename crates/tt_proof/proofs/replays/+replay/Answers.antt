@@ -31,10 +31,10 @@ replay-returns-in-Reply-clause-exact t c =
 refused : (b : Bool) (P Q : Type 0) → b ≡ false → (IsTrue b ↔ P) → (Q → P) → IsTrue false ↔ Q
 refused b P Q e h from = (λ t. absurd (true≢false (sym t)), λ q. absurd (true≢false (sym (h.1 (from q)) ∙ e)))
 
-pub replay_reply-returns-then-not-answers_each_turn-clause-exact :
-    goal.replay_reply-returns-then-not-answers_each_turn-clause-exact
-replay_reply-returns-then-not-answers_each_turn-clause-exact t c =
-    refused c.answers_each_turn.result _ _ c.if-not-answers_each_turn.true c.answers_each_turn.ensures
+pub replay_reply-returns-then-not-awaits_and_answers_each_turn-clause-exact :
+    goal.replay_reply-returns-then-not-awaits_and_answers_each_turn-clause-exact
+replay_reply-returns-then-not-awaits_and_answers_each_turn-clause-exact t c =
+    refused c.awaits_and_answers_each_turn.result _ _ c.if-not-awaits_and_answers_each_turn.true c.awaits_and_answers_each_turn.ensures
     (reply_answers c.args.s c.args.line.now.frame c.args.line.now.state _)
 
 -- what follows from what a result says of its value it says of it too
@@ -45,5 +45,5 @@ each_ok (Err e) P Q h p = p
 pub replay_reply-returns-clause-exact : goal.replay_reply-returns-clause-exact
 replay_reply-returns-clause-exact t c =
     let same = reply_wins c.args.s c.args.line.now.frame c.args.line.now.state _ c.requires.in_order
-    (c.answers_each_turn.ensures.0 c.if-not-answers_each_turn.false) in
+    (c.awaits_and_answers_each_turn.ensures.0 c.if-not-awaits_and_answers_each_turn.false) in
     each_ok c.replay_entries.result _ _ (λ b iff. (λ e. same.0 (iff.0 e), λ w. iff.1 (same.1 w))) c.replay_entries.ensures.exact

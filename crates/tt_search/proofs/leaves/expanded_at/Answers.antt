@@ -23,7 +23,7 @@ returns-in-Some c =
     let frame : c.legal_plays-plays.result.frame ≡ f = search rules in
     let state : c.legal_plays-plays.result.state ≡ s = search rules in
     let there : AreNewEdges c.legal_plays-plays.result.frame c.legal_plays-plays.result.state (plays_and_pass c.in-Some.found) =
-    subst (λ o. IfSome o (λ found. AreNewEdges c.legal_plays-plays.result.frame c.legal_plays-plays.result.state (plays_and_pass found))) c.in-Some.is c.plays_if_none_wins.ensures.edges in
+    subst (λ o. IfSome o (λ found. AreNewEdges c.legal_plays-plays.result.frame c.legal_plays-plays.result.state (plays_and_pass found))) c.in-Some.is c.many_plays_if_none_wins.ensures.edges in
     let new : AreNewEdges f s (plays_and_pass c.in-Some.found) = rw (frame, state) at there in
     c.untried_node.ensures ∙ expansion_of f s c.to_move.result (turns_with_winners f s) _ _ c.to_move.ensures refl new.turns new.leaves
 

@@ -19,8 +19,8 @@ returns-in-Ok g c =
     c.in-Ok.ensures.blank.unspent c.new-grants.ensures.granted granted c.search_missing_until_win.ensures.asks in
     let line : last.line ≡ c.args.line.now = ap (λ (p : ResultsSoFar). p.line) c.search_missing_until_win.ensures.same ∙ c.in-Ok.ensures.line in
     let limits : last.limits ≡ c.args.limits.now = ap (λ (p : ResultsSoFar). p.limits) c.search_missing_until_win.ensures.same ∙ c.in-Ok.ensures.limits in
-    subst (λ (l : LineWithUndo). IsAnswer l c.args.limits.now c.args.total c.finish.result) line
-    (subst (λ (m : Limits). IsAnswer last.line m c.args.total c.finish.result) limits (c.finish.ensures c.args.total all))
+    subst (λ (l : LineWithUndo). IsAnswer l c.args.limits.now c.args.total c.conclude_and_offer.result) line
+    (subst (λ (m : Limits). IsAnswer last.line m c.args.total c.conclude_and_offer.result) limits (c.conclude_and_offer.ensures c.args.total all))
 
 pub returns-in-Err : goal.returns-in-Err
 returns-in-Err g c = c.in-Err.ensures.answer c.args.total

@@ -3,7 +3,7 @@ use Rattle.std.proofs.lemmas.List.{length-map}
 use Rattle.std.proofs.lemmas.List.Elements.{All-push}
 use Rattle.std.proofs.lemmas.List.Sums.{sum_by_push}
 use Rattle.tt_share.specs.inside.Jobs.{IsResult, IsResultOf, IsJobCount, IsForTotal, IsDropped, IsWinFor, end_of, kept_of}
-use Rattle.tt_share.specs.Seats.{DeskView, SeatView}
+use Rattle.tt_share.specs.Seats.{DeskModel, SeatModel}
 use Rattle.tt_share.specs.inside.Tallies.{Tallies}
 use Rattle.tt_share.specs.inside.Workers.{KeepsFirstStuck, SomeStuck, SomeWin, SomeTotal, WinsAreLast, AddsOverdraw, jobs_of, spent_on}
 use Rattle.tt_share.specs.declared.jobs.JobResult.{JobResult}
@@ -22,7 +22,7 @@ use Rattle.tt_share.proofs.workers.work.Goals as goal
 
 pub search-job-requires : goal.search-job-requires
 search-job-requires g c =
-    let jobs = ap (λ (d : DeskView). d.jobs) c.loop-job.invariant.desk in
+    let jobs = ap (λ (d : DeskModel). d.jobs) c.loop-job.invariant.desk in
     let drawn = ap (λ (ns : List ℕ). length ns) c.loop-job.invariant.drawn in
     let found = length-map c.loop-job.searched.items (λ (f : SearchedJob). f.job) in
     let long = length-append c.args.seat.numbers (jobs_of c.loop-job.searched.items) in
@@ -33,11 +33,11 @@ search-job-requires g c =
 
 pub loop-job-smaller : goal.loop-job-smaller
 loop-job-smaller g c =
-    let same = ap (λ (p : DeskView × SeatView). p.1) c.search-job.ensures.source in
-    let raised = ap (λ (s : SeatView). length s.numbers) c.raise_flag_if.ensures.seat in
-    let kept = ap (λ (s : SeatView). length s.numbers) same in
+    let same = ap (λ (p : DeskModel × SeatModel). p.1) c.search-job.ensures.source in
+    let raised = ap (λ (s : SeatModel). length s.numbers) c.raise_flag_if.ensures.seat in
+    let kept = ap (λ (s : SeatModel). length s.numbers) same in
     let drawn = ap (λ (ns : List ℕ). length ns) c.in-Some.ensures.job.2 in
-    let jobs = ap (λ (d : DeskView). d.jobs) c.loop-job.invariant.desk in
+    let jobs = ap (λ (d : DeskModel). d.jobs) c.loop-job.invariant.desk in
     omega (arith, raised, kept, drawn, length-append c.loop-job.grants.seat.numbers (c.in-Some.job ∷ []), jobs, c.in-Some.ensures.job.0, c.in-Some.ensures.job.1)
 
 pub loop-job-preserved : goal.loop-job-preserved
@@ -48,16 +48,16 @@ loop-job-preserved g c =
     let past = c.loop-job.stuck in
     let ended = c.search-job in
     let made = ended.result in
-    let end_is = c.dropped_if_past_stuck-end.ensures in
-    let f : SearchedJob = record { job = made.job; end = c.dropped_if_past_stuck-end.result; spent = made.spent } in
+    let end_is = c.dropped_if_lesser_stuck-end.ensures in
+    let f : SearchedJob = record { job = made.job; end = c.dropped_if_lesser_stuck-end.result; spent = made.spent } in
     let before = c.next_job.new.grants in
     let searched = ended.new.grants in
     let after = c.raise_flag_if.new.self in
     let won = c.is_win_for_mover.result in
-    let desk : searched.desk.now ≡ before.desk.now = ap (λ (p : DeskView × SeatView). p.0) ended.ensures.source in
-    let seat = ap (λ (p : DeskView × SeatView). p.1) ended.ensures.source in
-    let same_flag : searched.seat.flag ≡ before.seat.flag = ap (λ (s : SeatView). s.flag) seat in
-    let same_numbers : searched.seat.numbers ≡ before.seat.numbers = ap (λ (s : SeatView). s.numbers) seat in
+    let desk : searched.desk.now ≡ before.desk.now = ap (λ (p : DeskModel × SeatModel). p.0) ended.ensures.source in
+    let seat = ap (λ (p : DeskModel × SeatModel). p.1) ended.ensures.source in
+    let same_flag : searched.seat.flag ≡ before.seat.flag = ap (λ (s : SeatModel). s.flag) seat in
+    let same_numbers : searched.seat.numbers ≡ before.seat.numbers = ap (λ (s : SeatModel). s.numbers) seat in
     let all : c.push_reserved.new.self.items ≡ c.loop-job.searched.items ++ f ∷ [] = pushed c.loop-job.searched.items c.next_job.new.searched.items c.push_reserved.new.self.items
     f c.push_reserved.ensures.items c.next_job.ensures.searched in
     let this : IsResult line limits f = (
@@ -78,7 +78,7 @@ loop-job-preserved g c =
       desk = c.raise_flag_if.ensures.desk ∙ (desk ∙ (c.next_job.ensures.desk ∙ c.loop-job.invariant.desk));
       jobs = subst (All (λ (h : SearchedJob). h.job < c.args.desk.now.jobs)) (sym all)
           (All-push (λ (h : SearchedJob). h.job < c.args.desk.now.jobs) c.loop-job.searched.items f c.loop-job.invariant.jobs
-          (subst (λ n. n < c.args.desk.now.jobs) (sym ended.ensures.job) (subst (λ (d : DeskView). c.in-Some.job < d.jobs) c.loop-job.invariant.desk c.in-Some.ensures.job.0)));
+          (subst (λ n. n < c.args.desk.now.jobs) (sym ended.ensures.job) (subst (λ (d : DeskModel). c.in-Some.job < d.jobs) c.loop-job.invariant.desk c.in-Some.ensures.job.0)));
       spent = omega (
         arith,
         sum,
@@ -120,15 +120,15 @@ loop-job-preserved g c =
 pub returns-clause-drawn : goal.returns-clause-drawn
 returns-clause-drawn g c =
     let last = c.next_job.new.grants in
-    let overdraw = subst (λ (d : DeskView). AddsOverdraw d.jobs c.loop-job.grants.seat.numbers last.seat.numbers) c.loop-job.invariant.desk c.in_default.ensures.overdraw in
-    subst (λ (s : SeatView). AddsOverdraw c.args.desk.now.jobs (c.args.seat.numbers ++ jobs_of c.next_job.new.searched.items) s.numbers) (sym c.into_seat-seat.ensures)
+    let overdraw = subst (λ (d : DeskModel). AddsOverdraw d.jobs c.loop-job.grants.seat.numbers last.seat.numbers) c.loop-job.invariant.desk c.in_default.ensures.overdraw in
+    subst (λ (s : SeatModel). AddsOverdraw c.args.desk.now.jobs (c.args.seat.numbers ++ jobs_of c.next_job.new.searched.items) s.numbers) (sym c.into_seat-seat.ensures)
     (drawn_all c.args.desk.now.jobs c.args.seat.numbers c.loop-job.grants.seat.numbers last.seat.numbers c.loop-job.searched.items c.next_job.new.searched.items
     c.loop-job.invariant.drawn c.next_job.ensures.searched overdraw)
 
 pub returns-clause-flag : goal.returns-clause-flag
 returns-clause-flag g c = λ up.
     (let side = c.args.jobs.now.line.now.state.to_move in
-    let flag = ap (λ (s : SeatView). s.flag) c.into_seat-seat.ensures ∙ c.next_job.ensures.seat.1 in
+    let flag = ap (λ (s : SeatModel). s.flag) c.into_seat-seat.ensures ∙ c.next_job.ensures.seat.1 in
     subst (λ (l : List SearchedJob). IsTrue c.args.seat.flag ⊎ SomeWin side l) (sym c.next_job.ensures.searched) (c.loop-job.invariant.flag (sym flag ∙ up)))
 
 pub returns-clause-kept : goal.returns-clause-kept
@@ -143,20 +143,20 @@ returns-clause-work g c =
     let seat = c.into_seat-seat.ensures in
     let found = sym c.next_job.ensures.searched in
     let desk : last.desk.now ≡ c.args.desk.now = c.next_job.ensures.desk ∙ c.loop-job.invariant.desk in
-    let flag = ap (λ (s : SeatView). s.flag) seat ∙ c.next_job.ensures.seat.1 in
+    let flag = ap (λ (s : SeatModel). s.flag) seat ∙ c.next_job.ensures.seat.1 in
     let tally : Tallies c.args.desk.now.total c.into_seat-seat.result.grants last.granted last.refused =
-    subst (λ (s : SeatView). Tallies c.args.desk.now.total s.grants last.granted last.refused) (sym seat)
-    (subst (λ (d : DeskView). Tallies d.total last.seat.grants last.granted last.refused) desk last.tally) in
-    let overdraw = subst (λ (d : DeskView). AddsOverdraw d.jobs c.loop-job.grants.seat.numbers last.seat.numbers) c.loop-job.invariant.desk c.in_default.ensures.overdraw in
+    subst (λ (s : SeatModel). Tallies c.args.desk.now.total s.grants last.granted last.refused) (sym seat)
+    (subst (λ (d : DeskModel). Tallies d.total last.seat.grants last.granted last.refused) desk last.tally) in
+    let overdraw = subst (λ (d : DeskModel). AddsOverdraw d.jobs c.loop-job.grants.seat.numbers last.seat.numbers) c.loop-job.invariant.desk c.in_default.ensures.overdraw in
     let drawn = drawn_all c.args.desk.now.jobs c.args.seat.numbers c.loop-job.grants.seat.numbers last.seat.numbers c.loop-job.searched.items c.next_job.new.searched.items
     c.loop-job.invariant.drawn c.next_job.ensures.searched overdraw in
     let sum = ap spent_on c.next_job.ensures.searched in record {
-      seat = ap (λ (s : SeatView). s.desk) seat ∙ (last.ours ∙ ap (λ (d : DeskView). d.id) desk);
+      seat = ap (λ (s : SeatModel). s.desk) seat ∙ (last.ours ∙ ap (λ (d : DeskModel). d.id) desk);
       searched = subst (All (IsResult line limits)) found c.loop-job.invariant.searched;
       wins = subst (λ (b : Bool). WinsAreLast side b c.next_job.new.searched.items) (sym flag) (subst (WinsAreLast side c.loop-job.grants.seat.flag) found c.loop-job.invariant.wins);
       jobs = subst (All (λ (h : SearchedJob). h.job < c.args.desk.now.jobs)) found c.loop-job.invariant.jobs;
       drawn = λ job. times_drawn job c.args.desk.now.jobs c.args.seat.numbers c.into_seat-seat.result.numbers c.next_job.new.searched.items
-          (subst (λ (s : SeatView). AddsOverdraw c.args.desk.now.jobs (c.args.seat.numbers ++ jobs_of c.next_job.new.searched.items) s.numbers) (sym seat) drawn);
+          (subst (λ (s : SeatModel). AddsOverdraw c.args.desk.now.jobs (c.args.seat.numbers ++ jobs_of c.next_job.new.searched.items) s.numbers) (sym seat) drawn);
       spent = λ total is. omega (arith, sum, c.loop-job.invariant.spent, c.next_job.ensures.counts.0, (tally.1 total is).0);
       refused = λ h. refused_total c.args.desk.now.total c.into_seat-seat.result.grants last.granted last.refused tally
           (c.next_job.ensures.counts.1 ∙ c.loop-job.invariant.refused (subst SomeTotal c.next_job.ensures.searched h));

@@ -1,11 +1,11 @@
 use Rattle.std.proofs.Common.{rules, subst}
 use Rattle.tt_game.specs.declared.frame.Frame.{Frame}
-use Rattle.tt_proof.specs.Outlines.{outline_of, IsOrderly}
+use Rattle.tt_proof.specs.Outlines.{outline_of, IsOutlineInOrder}
 use Rattle.tt_text.proofs.Checks.{goes_deep_at, shared_loses_at, shared_wins_at, unfit_at, unread_at}
 use Rattle.tt_text.proofs.checking.check_shared.Goals as goal
 
 pub replay_shared_cert-requires : goal.replay_shared_cert-requires
-replay_shared_cert-requires c = subst (λ (g : Frame). IsOrderly g.size (outline_of c.in-Ok.outline)) c.frame.ensures.value c.in-Ok.ensures.orderly
+replay_shared_cert-requires c = subst (λ (g : Frame). IsOutlineInOrder g.size (outline_of c.in-Ok.outline)) c.frame.ensures.value c.in-Ok.ensures.orderly
 
 pub returns-in-Ok-Some-true : goal.returns-in-Ok-Some-true
 returns-in-Ok-Some-true c =

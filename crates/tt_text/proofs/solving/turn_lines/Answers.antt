@@ -15,8 +15,8 @@ value_after_turn-value-requires-clause-legal g c =
     let there : IsLegal c.args.line.now.frame c.args.line.now.state turn = legal_there c.args.line.now items n turn c.loop-turn.invariant.all lt is in
     search (rules, there)
 
-pub put_value_line-requires : goal.put_value_line-requires
-put_value_line-requires g c =
+pub put_turn_value_line-requires : goal.put_turn_value_line-requires
+put_turn_value_line-requires g c =
     let items : List Turn = c.as_slice-turn-items.result.now in
     let n : ℕ = c.loop-turn.turn-index in
     let turn : Turn = c.turn-item.result in
@@ -35,7 +35,7 @@ loop-turn-preserved g c =
     record {
       all = c.loop-turn.invariant.all;
       lines = next_line c.args.line.now c.args.options.limits c.args.options.total items n turn c.loop-turn.lines.items _ c.value_after_turn-value.result lt is
-          c.loop-turn.invariant.lines c.value_after_turn-value.ensures c.in_ok-put_value_line.ensures;
+          c.loop-turn.invariant.lines c.value_after_turn-value.ensures c.in_ok-put_turn_value_line.ensures;
     }
 
 pub returns : goal.returns

@@ -1,6 +1,6 @@
 use Rattle.std.proofs.Common.{◌≡◌, rules, subst, sym}
 use Rattle.tt_game.specs.declared.frame.Side.{Side}
-use Rattle.tt_game.specs.Game.{HasValue, value_for}
+use Rattle.tt_game.specs.Game.{HasValue, value_won_by}
 use Rattle.tt_proof.specs.ProofClaim.{ProofClaim}
 use Rattle.tt_share.specs.declared.answer.Answer.{Answer}
 use Rattle.tt_share.specs.Answers.{IsAnswer, IsSettledAnswer}
@@ -12,7 +12,7 @@ returns-in-Settled c =
     let same : c.in-Settled.proof.value ≡ c.deref.result.now = search (rules, c.deref.ensures) in
     let settled = subst (λ (p : ProofClaim). IsSettledAnswer c.args.line.now c.args.limits.now p c.in-Settled.first) same
     (subst (λ (a : Answer). IsAnswer c.args.line.now c.args.limits.now c.args.total a) c.in-Settled.is c.requires.answer) in
-    subst (λ (side : Side). HasValue c.args.line.now.frame c.args.line.now.state (value_for side)) (sym c.side.ensures.side)
+    subst (λ (side : Side). HasValue c.args.line.now.frame c.args.line.now.state (value_won_by side)) (sym c.side.ensures.side)
     (settled_value c.args.line.now c.requires.state c.args.limits.now c.deref.result.now c.in-Settled.first settled c.side.ensures.wins)
 
 pub returns-in-Unsettled : goal.returns-in-Unsettled

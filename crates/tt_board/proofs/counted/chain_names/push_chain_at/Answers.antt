@@ -4,8 +4,8 @@ use Rattle.std.proofs.lemmas.List.Elements.{Contains-push, Contains-push_cases, 
 use Rattle.tt_board.specs.inside.Chains.{name_at}
 use Rattle.tt_board.proofs.counted.chain_names.push_chain_at.Goals as goal
 
-pub returns-then-is_fresh-clause-added : goal.returns-then-is_fresh-clause-added
-returns-then-is_fresh-clause-added c m =
+pub returns-then-is_not_yet_found-clause-added : goal.returns-then-is_not_yet_found-clause-added
+returns-then-is_not_yet_found-clause-added c m =
     let ns = c.args.names.now in let xs = c.args.found.now.items in let e = name_at ns c.in-Some.q in
     let all : c.push.new.self.items ≡ xs ++ e ∷ [] = search rules in (
       λ has. elim (Contains-push_cases xs e m (subst (λ ys. Contains ys m) all has)) [

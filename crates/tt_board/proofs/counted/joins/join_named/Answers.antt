@@ -1,5 +1,5 @@
 use Rattle.std.proofs.Common.{◌≡◌, ◌≢◌, ◌≤◌, inl, inr, refl, sym, ap, subst, arith, ◌∙◌}
-use Rattle.tt_board.specs.declared.counted.play_kind.TheConstants.{NO_POINT_NAME}
+use Rattle.tt_board.specs.declared.counted.play_kind.TheConstants.{OFF_BOARD_NAME}
 use Rattle.tt_board.specs.inside.Chains.{name_at, root_of, AreGathered, Touches}
 use Rattle.tt_board.proofs.JoinLemmas.{gathered_united, joined_united}
 use Rattle.tt_board.proofs.counted.joins.join_named.Goals as goal
@@ -9,7 +9,7 @@ returns-then-names-root_of-clause-gathered c =
     let s = c.args.size in let ns = c.args.names.now in let p = c.args.p in let m = c.args.name in let codes = c.if-name-own.true in
     let there : name_at ns (root_of m) ≡ m = ap (name_at ns) (sym c.root_of.ensures.value) ∙ c.if-names-root_of.true in
     let living : 512 ≤ m = omega (arith, codes, c.requires.stone) in
-    let touch : m ≢ NO_POINT_NAME → Touches s ns m p = λ apart. c.requires.near living apart there in
+    let touch : m ≢ OFF_BOARD_NAME → Touches s ns m p = λ apart. c.requires.near living apart there in
     elim c.unite.ensures.renamed [
       | inl e ↦ subst (λ new. AreGathered s ns new p) (sym e)
           (gathered_united s ns p m _ _ c.requires.on_board c.requires.counts.ends c.requires.stone c.if-name-own-2.true codes (inl (refl, refl)) touch)

@@ -1,6 +1,6 @@
 use Rattle.std.proofs.Common.{◌≢◌, arith, ◌∙◌}
 use Rattle.tt_sgf.specs.laws.SizeLaws.{point_count_is_bounded}
-use Rattle.tt_board.specs.declared.counted.play_kind.TheConstants.{NO_POINT_NAME}
+use Rattle.tt_board.specs.declared.counted.play_kind.TheConstants.{OFF_BOARD_NAME}
 use Rattle.tt_board.proofs.JoinLemmas.{roots_apart}
 use Rattle.tt_board.proofs.NameLemmas.{near_off}
 use Rattle.tt_board.proofs.PlayKindLemmas.{roots_below}
@@ -31,6 +31,6 @@ returns-clause-still_counted c =
     c.take_liberty_beside.new.liberties c.args.near.now.empty (omega (arith, point_count_is_bounded c.args.size, c.requires.wide.2, c.take_liberty_beside.auto.liberties))
     ((near_off c.args.size c.args.names.now c.args.p c.args.name c.requires.on_board (omega (arith, point_count_is_bounded c.args.size, c.requires.wide.0)) _ c.requires.near).bare)
     (λ m some t.
-    let there : m ≢ NO_POINT_NAME = λ e. c.requires.coloured t.0 (t.2.1 ∙ e) in
+    let there : m ≢ OFF_BOARD_NAME = λ e. c.requires.coloured t.0 (t.2.1 ∙ e) in
     c.take_liberty_beside.ensures.fewer m ((c.requires.near.touching m there).1 t) some there)
     (λ r away. c.take_liberty_beside.ensures.same r (λ m one some there. away m some ((c.requires.near.touching m there).0 one)))

@@ -30,9 +30,9 @@ returns c =
         bare_index ns _ _ h2,
         bare_index ns _ _ h3,
         bare_index ns _ _ h4,
-        c.empty_count.ensures,
-        c.empty_count-2.ensures,
-        c.empty_count-3.ensures,
-        c.empty_count-4.ensures,
+        c.one_if_empty.ensures,
+        c.one_if_empty-2.ensures,
+        c.one_if_empty-3.ensures,
+        c.one_if_empty-4.ensures,
       );
     }

@@ -1,7 +1,7 @@
 use Rattle.std.proofs.Common.{◌≡◌, ◌-◌, length, take, drop, sym, ap, subst, ◌∙◌}
 use Rattle.std.proofs.lemmas.List.{take_rest, drop-map}
 use Rattle.tt_board.specs.Position.{Position}
-use Rattle.tt_game.specs.GameHistory.{HasBeen, colourings, so_far}
+use Rattle.tt_game.specs.GameHistory.{IsInHistory, colourings, so_far}
 use Rattle.tt_game.proofs.history.History.stone_has_stood.Goals as goal
 
 pub returns : goal.returns
@@ -9,4 +9,4 @@ returns c = λ col has stone.
     let from = c.args.from in let there = c.boards.result.now in
     let behind : drop from (so_far c.args.self.now) ≡ colourings (take (length there - from) (drop from there)) =
     ap (drop from) (sym c.boards.ensures.colourings) ∙ drop-map (λ (b : Position). b.points) from there ∙ ap colourings (sym (take_rest there from)) in
-    c.stone_stood.ensures col (subst (λ h. HasBeen h col) behind has) stone
+    c.stone_stood.ensures col (subst (λ h. IsInHistory h col) behind has) stone

@@ -1,7 +1,7 @@
 use Rattle.std.proofs.Common.{rules, ◌≡◌, ◌≤◌, ◌∷◌, ◌++◌, [], reverse}
 use Rattle.std.specs.Arc.{arc_value}
 use Rattle.tt_game.specs.declared.line.Undo.TheVariants.{UndoPlay}
-use Rattle.tt_game.specs.GameHistory.{with_colouring}
+use Rattle.tt_game.specs.GameHistory.{with_next_colouring}
 use Rattle.tt_game.specs.Game.{opponent}
 use Rattle.tt_game.specs.inside.Undoing.{state_at}
 use Rattle.tt_game.specs.inside.Roots.{AreRooted}
@@ -14,7 +14,7 @@ invariant_of-self-2 c =
     let bs = (arc_value i.root).begun in
     let most : i.history.passes ≤ 2 = search rules in
     let pushed : c.push.new.self.items ≡ i.pushes.items ++ UndoPlay i.history.passes ∷ [] = search rules in
-    let stack : c.push_counted.new.self ≡ with_colouring i.history c.present.result.now.points = search rules in
+    let stack : c.push_counted.new.self ≡ with_next_colouring i.history c.present.result.now.points = search rules in
     let below : c.push-2.new.self.below ≡ i.stack.present ∷ i.stack.below = search rules in
     let game_after_turn : c.opponent-self-inside.result ≡ opponent i.to_move = search rules in
     let rooted : AreRooted bs (state_at c.push_counted.new.self c.opponent-self-inside.result) (reverse c.push.new.self.items) =

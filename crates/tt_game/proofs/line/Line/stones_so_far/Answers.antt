@@ -42,10 +42,10 @@ returns c = λ col p has on stone.
           let stones : AreStonesOf k root.begun c.stones_on_any_board.result.now.words = subst (λ (r : Rooted). AreStonesOf k r.begun c.stones_on_any_board.result.now.words) two c.stones_on_any_board.ensures in
           let sizes : All (λ (b : Position). b.size ≡ root.frame.size) root.begun = subst (λ (r : Rooted). All (λ (b : Position). b.size ≡ r.frame.size) r.begun) one c.board_count.ensures.sizes in
           let same : root.frame ≡ f = c.self.invariant.same_frame ∙ sym framed in
-          ap (λ b. b || bit_in c.stones_of-later.result.words p) (stones col p (subst (λ x. Contains x col) begins early)
+          ap (λ b. b || bit_in c.union_of_stones-later.result.words p) (stones col p (subst (λ x. Contains x col) begins early)
           (λ j d lt. subst (λ (g : Size). p < point_count g) (sym (sizes j d lt ∙ ap (λ (g : Frame). g.size) same)) on) stone)
       | inr late ↦
-          ap (λ b. bit_in c.stones_on_any_board.result.now.words p || b) (c.stones_of-later.ensures col p (subst (λ x. Contains x col) (sym c.boards_since.ensures.colourings) late)
+          ap (λ b. bit_in c.stones_on_any_board.result.now.words p || b) (c.union_of_stones-later.ensures col p (subst (λ x. Contains x col) (sym c.boards_since.ensures.colourings) late)
           (λ j d lt. subst (λ (g : Size). p < point_count g) (sym (c.boards_since.ensures.sizes j d lt ∙ c.self.invariant.size ∙ ap (λ (g : Frame). g.size) (sym framed))) on) stone)
           ∙ or_true (bit_in c.stones_on_any_board.result.now.words p)
     ]

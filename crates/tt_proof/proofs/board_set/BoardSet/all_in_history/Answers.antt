@@ -1,6 +1,6 @@
 use Rattle.std.proofs.Common.{rules, ◌≡◌, ◌<◌, ◌≤◌, length, get_or, IsTrue, Bool, false, sym, ◌∙◌, subst, ap, arith}
 use Rattle.std.proofs.lemmas.Bool.{false≢true}
-use Rattle.tt_game.specs.Line.{HasBoard}
+use Rattle.tt_game.specs.Line.{HasBoardInHistory}
 use Rattle.tt_proof.proofs.SharedLemmas.{shown_at, one_more_place, stands_in}
 use Rattle.tt_proof.proofs.board_set.BoardSet.all_in_history.Goals as goal
 
@@ -12,13 +12,13 @@ loop-held-preserved c =
     let lt : n < length items = search rules in
     let is : c.held-item.result ≡ get_or items n c.held-item.result = search rules in
     let shows : c.board.result.now ≡ c.held-item.result = search rules in
-    let has : IsTrue c.has_board.result = search rules in
-    one_more_place c.args.self.now (λ x. HasBoard line.frame line.state x) n c.held-item.result c.loop-held.invariant
+    let has : IsTrue c.has_board_in_history.result = search rules in
+    one_more_place c.args.self.now (λ x. HasBoardInHistory line.frame line.state x) n c.held-item.result c.loop-held.invariant
     (shown_at items c.args.self.now n c.held-item.result c.self.view_is lt is)
-    (subst (λ x. HasBoard line.frame line.state x) shows (c.has_board.ensures.0 has))
+    (subst (λ x. HasBoardInHistory line.frame line.state x) shows (c.has_board_in_history.ensures.0 has))
 
-pub returns-then-not-has_board : goal.returns-then-not-has_board
-returns-then-not-has_board c =
+pub returns-then-not-has_board_in_history : goal.returns-then-not-has_board_in_history
+returns-then-not-has_board_in_history c =
     let items = c.self.inside.boards.items in
     let line = c.args.line.now in
     let n = c.loop-held.held-index in
@@ -26,10 +26,10 @@ returns-then-not-has_board c =
     let long = ap length c.self.view_is in
     let is : c.held-item.result ≡ get_or items n c.held-item.result = search rules in
     let shows : c.board.result.now ≡ c.held-item.result = search rules in
-    let off : c.has_board.result ≡ false = search rules in
+    let off : c.has_board_in_history.result ≡ false = search rules in
     let there = stands_in c.args.self.now n c.held-item.result (omega (arith, lt, long)) (shown_at items c.args.self.now n c.held-item.result c.self.view_is lt is) in (
       λ y. absurd (false≢true y),
-      λ h. absurd (false≢true (sym off ∙ c.has_board.ensures.1 (subst (λ x. HasBoard line.frame line.state x) (sym shows) (h c.held-item.result there)))),
+      λ h. absurd (false≢true (sym off ∙ c.has_board_in_history.ensures.1 (subst (λ x. HasBoardInHistory line.frame line.state x) (sym shows) (h c.held-item.result there)))),
     )
 
 pub returns : goal.returns
@@ -38,6 +38,6 @@ returns c =
     let line = c.args.line.now in
     let all : length items ≤ c.loop-held.held-index = search rules in
     let long = ap length c.self.view_is in (
-      λ yes b m. let lt = m.1 in subst (λ x. HasBoard line.frame line.state x) m.2 (c.loop-held.invariant m.0 b (omega (arith, lt, all, long))),
+      λ yes b m. let lt = m.1 in subst (λ x. HasBoardInHistory line.frame line.state x) m.2 (c.loop-held.invariant m.0 b (omega (arith, lt, all, long))),
       λ h. search rules,
     )

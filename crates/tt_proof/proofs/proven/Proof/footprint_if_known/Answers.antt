@@ -2,28 +2,28 @@ use Rattle.std.proofs.Common.{◌≡◌, ◌-◌, All, Contains, length, take, d
 use Rattle.std.proofs.lemmas.List.{take_rest}
 use Rattle.tt_board.specs.Position.{Position}
 use Rattle.tt_game.specs.Game.{history}
-use Rattle.tt_proof.specs.BoardBounds.{IsWithin}
+use Rattle.tt_proof.specs.BoardSetBounds.{MayContainBoard}
 use Rattle.tt_proof.specs.ProofClaim.{ProofClaim, IsWinningTree}
 use Rattle.tt_proof.specs.KeptFootprints.{IsFootprint}
 use Rattle.tt_proof.proofs.TakenLemmas.{footprint_taken}
 use Rattle.tt_proof.proofs.proven.Proof.footprint_if_known.Goals as goal
 
-pub returns-then-are_outside_or_made-clause-exact : goal.returns-then-are_outside_or_made-clause-exact
-returns-then-are_outside_or_made-clause-exact c =
+pub returns-then-are_outside_or_in_snapshot-clause-exact : goal.returns-then-are_outside_or_in_snapshot-clause-exact
+returns-then-are_outside_or_in_snapshot-clause-exact c =
     let p = c.args.self.now in
     let line = c.args.line.now in
     let own = c.self.inside.footprint in
     let boards = c.history in
-    let n = c.common_beginning_length.result in
+    let n = c.known_common_history_length.result in
     let behind : take (length boards.result.now - n) (drop n boards.result.now) ≡ drop n boards.result.now = take_rest boards.result.now n in
-    let known : All (λ (b : Position). IsWithin own.met b → Contains (history c.self.inside.snapshot.state) b.points)
+    let known : All (λ (b : Position). MayContainBoard own.met b → Contains (history c.self.inside.snapshot.state) b.points)
     (take (length (drop n boards.result.now) - 1) (drop n boards.result.now)) =
-    subst (λ bs. All (λ (b : Position). IsWithin own.met b → Contains (history c.self.inside.snapshot.state) b.points) (take (length bs - 1) bs)) behind
-    (rw (← c.saturating_sub.ensures) (c.are_outside_or_made.ensures c.if-are_outside_or_made.true)) in
-    let low = subst (λ (q : ProofClaim). All (λ (b : Position). IsWithin own.met b → Contains (history q.state) b.points)
+    subst (λ bs. All (λ (b : Position). MayContainBoard own.met b → Contains (history c.self.inside.snapshot.state) b.points) (take (length bs - 1) bs)) behind
+    (rw (← c.saturating_sub.ensures) (c.are_outside_or_in_snapshot.ensures c.if-are_outside_or_in_snapshot.true)) in
+    let low = subst (λ (q : ProofClaim). All (λ (b : Position). MayContainBoard own.met b → Contains (history q.state) b.points)
     (take (length (drop n boards.result.now) - 1) (drop n boards.result.now))) c.self.view_is known in
     let alike : take n (history line.state) ≡ take n (history p.state) =
-    c.common_beginning_length.ensures.alike ∙ ap (λ (q : ProofClaim). take n (history q.state)) c.self.view_is in
+    c.known_common_history_length.ensures.alike ∙ ap (λ (q : ProofClaim). take n (history q.state)) c.self.view_is in
     let won = subst (λ (q : ProofClaim). IsWinningTree q.side q.frame q.state q.tree) c.self.view_is c.self.invariant.won in
     let foot = subst (λ (q : ProofClaim). IsFootprint q.frame q.state q.tree own) c.self.view_is c.self.invariant.footprint in
     footprint_taken p line.frame line.state own boards.result.now boards.ensures.colourings boards.ensures.sizes n

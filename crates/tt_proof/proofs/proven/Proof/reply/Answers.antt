@@ -5,7 +5,7 @@ use Rattle.tt_game.specs.Game.{IsLegal, after, opponent}
 use Rattle.tt_game.specs.Line.{SnapshotState}
 use Rattle.tt_game.specs.laws.TurnLaws.{contains-legal_turns}
 use Rattle.tt_game.specs.declared.turns.Turn.{Turn}
-use Rattle.tt_proof.specs.ProofClaim.{AreChildren, trees_by_turn, turns_of}
+use Rattle.tt_proof.specs.ProofClaim.{AreReplyChildren, trees_by_turn, turns_of}
 use Rattle.tt_proof.specs.KeptFootprints.{IsFootprint}
 use Rattle.tt_proof.specs.Strategy.{reply, entries_of}
 use Rattle.tt_game.specs.laws.Members.{IsIn, contains_of_in}
@@ -24,7 +24,7 @@ add_entry-requires-clause-legal c =
 
 pub add_entry-requires-clause-board : goal.add_entry-requires-clause-board
 add_entry-requires-clause-board c =
-    let left = subst (λ xs. AreChildren c.args.line.now.frame c.args.line.now.state xs) c.in-Some.ensures.steps.0 c.loop-turn.invariant.left in
+    let left = subst (λ xs. AreReplyChildren c.args.line.now.frame c.args.line.now.state xs) c.in-Some.ensures.steps.0 c.loop-turn.invariant.left in
     board_there c.in-Some.child _ _ _ c.present-board.ensures left.0.stands
 
 pub loop-turn-preserved : goal.loop-turn-preserved
@@ -33,7 +33,7 @@ loop-turn-preserved c =
     let s = c.args.line.now.state in
     let turn = c.in-Some.turn in
     let child = c.in-Some.child in
-    let left = subst (λ xs. AreChildren f s xs) c.in-Some.ensures.steps.0 c.loop-turn.invariant.left in
+    let left = subst (λ xs. AreReplyChildren f s xs) c.in-Some.ensures.steps.0 c.loop-turn.invariant.left in
     let legal = subst (λ xs. (t : Turn) → IsIn (turns_of xs) t → IsLegal f s t) c.in-Some.ensures.steps.0 c.loop-turn.invariant.legal in
     let behind = foot_moved _ f _ (after f s turn) _ _ left.0.stands.0 left.0.stands.1 c.into_tree_and_footprint-measured_tree.ensures.footprint in
     record {

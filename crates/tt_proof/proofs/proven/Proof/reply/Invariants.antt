@@ -3,7 +3,7 @@ use Rattle.std.specs.Vec.Iter.{into_iter_items}
 use Rattle.tt_game.specs.Game.{IsLegal}
 use Rattle.tt_game.specs.declared.turns.Turn.{Turn}
 use Rattle.tt_proof.specs.Strategy.{reply, entries_of}
-use Rattle.tt_proof.specs.ProofClaim.{AreChildren, trees_by_turn, turns_of}
+use Rattle.tt_proof.specs.ProofClaim.{AreReplyChildren, trees_by_turn, turns_of}
 use Rattle.tt_proof.specs.KeptFootprints.{IsFootprint}
 use Rattle.tt_game.specs.laws.Members.{IsIn}
 use Rattle.tt_proof.proofs.ProvenLemmas.{AllWon}
@@ -14,7 +14,7 @@ invariant-loop-turn l = record {
   order : l.yielded ++ into_iter_items l.turn-iterator ≡ l.fn.children.items;
   same : l.replies ≡ trees_by_turn l.yielded;
   won : AllWon l.yielded;
-  left : AreChildren l.line.frame l.line.state (into_iter_items l.turn-iterator);
+  left : AreReplyChildren l.line.frame l.line.state (into_iter_items l.turn-iterator);
   legal : (t : Turn) → IsIn (turns_of (into_iter_items l.turn-iterator)) t → IsLegal l.line.frame l.line.state t;
   joined : IsFootprint l.line.frame l.line.state (reply (entries_of (trees_by_turn l.yielded))) l.footprint;
 }

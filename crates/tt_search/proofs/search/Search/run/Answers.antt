@@ -1,6 +1,6 @@
 use Rattle.std.proofs.Common.{◌∙◌, sym, ap, subst, arith}
 use Rattle.tt_search.specs.SearchState.{SearchState}
-use Rattle.tt_search.specs.RunEnds.{HasRunTo, HasSpent}
+use Rattle.tt_search.specs.RunEnds.{HasRunTo, HasGrantPerExpansion}
 use Rattle.tt_search.specs.declared.limits.Limits.{Limits}
 use Rattle.tt_search.specs.declared.descent.StopAfter.TheVariants.{NumbersChange}
 use Rattle.tt_search.proofs.Advanced.{advanced_falls, advanced_reached, settled_reached, stuck_reached}
@@ -43,11 +43,11 @@ returns-in-Err g c =
     let first = g.G.Grants.asked c.args.grants.now in
     let new = g.G.Grants.asked c.advance.new.grants in
     let reached = settled_reached NumbersChange c.args.self c.loop-search.search c.advance.new.self run.reached c.in-Settled.ensures.advanced in
-    let spent : HasSpent c.args.self first c.advance.new.self new = omega (arith, run.spent, c.advance.ensures.spent) in
+    let spent : HasGrantPerExpansion c.args.self first c.advance.new.self new = omega (arith, run.spent, c.advance.ensures.spent) in
     let same = settled_refused NumbersChange (g.G.Grants.asked c.loop-search.grants) new c.in-Settled.ensures.asked in
     let stays = sym c.proof.ensures.same in record {
       end = (subst (HasRunTo c.args.self) stays reached, tt);
-      spent = (subst (λ (s : SearchState). HasSpent c.args.self first s new) stays spent, same ∙ run.same);
+      spent = (subst (λ (s : SearchState). HasGrantPerExpansion c.args.self first s new) stays spent, same ∙ run.same);
       source = c.advance.ensures.source ∙ run.source;
       few = omega (arith, spent, c.advance.ensures.few, ap (λ (l : Limits). l.budget) reached.problem.limits);
     }
@@ -57,7 +57,7 @@ returns-in-Stuck g c =
     let run = c.loop-search.invariant in
     let first = g.G.Grants.asked c.args.grants.now in
     let new = g.G.Grants.asked c.advance.new.grants in
-    let spent : HasSpent c.args.self first c.advance.new.self new = omega (arith, run.spent, c.advance.ensures.spent) in
+    let spent : HasGrantPerExpansion c.args.self first c.advance.new.self new = omega (arith, run.spent, c.advance.ensures.spent) in
     let end = stuck_reached NumbersChange c.args.self c.loop-search.search c.advance.new.self c.in-Stuck.reason run.reached c.in-Stuck.ensures.advanced in record {
       end = end;
       source = c.advance.ensures.source ∙ run.source;

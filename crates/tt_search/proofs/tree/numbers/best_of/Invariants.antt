@@ -1,5 +1,5 @@
 use Rattle.std.proofs.Common.{◌≡◌, ◌<◌, ◌≤◌, length, min, take, drop}
-use Rattle.tt_search.specs.Numbers.{numbers, infinite, least}
+use Rattle.tt_search.specs.Numbers.{child_numbers, infinite, least}
 use Rattle.tt_search.specs.MostProving.{index_of_best}
 use Rattle.tt_search.specs.inside.Children.{children_of}
 use Rattle.tt_search.specs.inside.Edges.{edge_trees, grown_in}
@@ -10,8 +10,8 @@ abbrev pub invariant-loop-i : goal.invariant-loop-i
 invariant-loop-i l = record {
   most : l.least ≤ infinite;
   higher : l.from < l.least;
-  index : best_from l.index l.least l.i (numbers l.mover (children_of (edge_trees (drop l.i l.edges) l.rest))) ≡ index_of_best l.mover (children_of (edge_trees l.edges l.grown));
-  least : min l.least (least (numbers l.mover (children_of (edge_trees (drop l.i l.edges) l.rest)))) ≡ least (numbers l.mover (children_of (edge_trees l.edges l.grown)));
+  index : best_from l.index l.least l.i (child_numbers l.mover (children_of (edge_trees (drop l.i l.edges) l.rest))) ≡ index_of_best l.mover (children_of (edge_trees l.edges l.grown));
+  least : min l.least (least (child_numbers l.mover (children_of (edge_trees (drop l.i l.edges) l.rest)))) ≡ least (child_numbers l.mover (children_of (edge_trees l.edges l.grown)));
   looked_at : l.index ≤ l.i;
   few : l.passed ≤ l.i;
   fewer : l.rank ≤ l.i;

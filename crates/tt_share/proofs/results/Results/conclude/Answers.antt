@@ -10,7 +10,7 @@ use Rattle.tt_search.specs.declared.limits.Reason.TheVariants.{Total}
 use Rattle.tt_share.specs.declared.jobs.JobResult.TheVariants as result
 use Rattle.tt_share.specs.inside.Beginning.{BeginsWith}
 use Rattle.tt_share.specs.inside.Jobs.{AreResults, EndsBehind, IsJob, IsStuckOrWon, end_of}
-use Rattle.tt_share.specs.Answers.{IsAnswer, spent_if_total_of}
+use Rattle.tt_share.specs.Answers.{IsAnswer, counts_if_total_spent_of}
 use Rattle.tt_share.specs.inside.Results.{ResultsSoFar, AreNoted, HasEnd, HaveLost, IsLost, AllStuckOrWon, NoWin, IsStuckAt}
 use Rattle.tt_share.proofs.Lost.{legal_job, lesser_lose, one_more}
 use Rattle.tt_share.proofs.Placing.{seen, shown}
@@ -20,8 +20,8 @@ use Rattle.tt_share.proofs.Wins.{all_filled, none_at, least_at, same_turn, stuck
 use Rattle.tt_share.proofs.Wins.{stuck_within, job_here, rest_same, not_missing, lost_side, win_within, ends_here}
 use Rattle.tt_share.proofs.results.Results.conclude.Goals as goal
 
-pub pick_answer-requires-clause-legal : goal.pick_answer-requires-clause-legal
-pick_answer-requires-clause-legal c =
+pub answer_by_winning_turn-requires-clause-legal : goal.answer_by_winning_turn-requires-clause-legal
+answer_by_winning_turn-requires-clause-legal c =
     let within : c.in-Some.job < length c.as_slice-turns.result.now =
     (let wins = win_within c.to_move.result c.as_slice.result.now c.in-Some.job c.in-Some.ensures.least.wins in
     let ends = ap (λ (l : List (Option JobResult)). length l) c.as_slice.ensures.value in
@@ -32,8 +32,8 @@ pick_answer-requires-clause-legal c =
     (c.as_slice-turns.ensures.value ∙ c.self.inside.jobs.listed) refl within c.index-turns-job.is in
     legal_job c.self.inside.jobs.line.now c.in-Some.job c.index-turns-job.result job
 
-pub pick_answer-requires-clause-child : goal.pick_answer-requires-clause-child
-pick_answer-requires-clause-child c =
+pub answer_by_winning_turn-requires-clause-child : goal.answer_by_winning_turn-requires-clause-child
+answer_by_winning_turn-requires-clause-child c =
     let within : c.in-Some.job < length c.as_slice-turns.result.now =
     (let wins = win_within c.to_move.result c.as_slice.result.now c.in-Some.job c.in-Some.ensures.least.wins in
     let ends = ap (λ (l : List (Option JobResult)). length l) c.as_slice.ensures.value in
@@ -54,10 +54,10 @@ returns-in-Some-clause-picks c =
     let turns : c.as_slice-turns.result.now ≡ legal_turns c.args.self.line.frame c.args.self.line.state =
     c.as_slice-turns.ensures.value ∙ (c.self.inside.jobs.listed ∙ ap (λ (p : ResultsSoFar). legal_turns p.line.frame p.line.state) c.self.view_is) in
     λ job turn win at.
-    subst (λ (t : Turn). IfOk c.pick_answer.result (BeginsWith (Some t)))
+    subst (λ (t : Turn). IfOk c.answer_by_winning_turn.result (BeginsWith (Some t)))
     (same_turn c.args.self.line.state.to_move c.args.self.ends c.as_slice-turns.result.now c.in-Some.job c.index-turns-job.result least c.index-turns-job.is job turn win
     (subst (λ (ts : List Turn). slice_get ts job ≡ Some turn) (sym turns) at))
-    c.pick_answer.ensures.begins
+    c.answer_by_winning_turn.ensures.begins
 
 pub returns-in-Some-clause-stuck : goal.returns-in-Some-clause-stuck
 returns-in-Some-clause-stuck c =
@@ -95,9 +95,9 @@ returns-in-Some-Stuck-clause-answer c =
     let none : NoWin c.args.self.line.state.to_move c.args.self.ends = none_at c.args.self.line.state.to_move c.to_move.result c.args.self.ends c.as_slice.result.now
     side ends c.in_default.ensures.least in
     let noted = subst (λ (p : ResultsSoFar). AreNoted p.line p.limits p.ends p.spent) c.self.view_is c.self.invariant.noted in
-    let spent_if_total = c.spent_if_total.ensures ∙ ap (λ (p : ResultsSoFar). spent_if_total_of c.in-Some-Stuck.reason p.spent) c.self.view_is in
+    let counts_if_total_spent = c.counts_if_total_spent.ensures ∙ ap (λ (p : ResultsSoFar). counts_if_total_spent_of c.in-Some-Stuck.reason p.spent) c.self.view_is in
     λ total all. says c.args.self.line c.args.self.limits total _
-    (legal_job c.args.self.line i turn job) lesser c.args.self.spent c.in-Some-Stuck.reason c.in-Some-Stuck.search refl behind spent_if_total
+    (legal_job c.args.self.line i turn job) lesser c.args.self.spent c.in-Some-Stuck.reason c.in-Some-Stuck.search refl behind counts_if_total_spent
     (λ held reason holds. spent_told c.args.self total i turn held taken.0 noted (all_filled c.args.self.line.state.to_move c.args.self.ends none c.requires.ready) there
     (is ∙ (ap (λ (r : Reason). Stuck r c.in-Some-Stuck.search) reason ∙ ap (λ (o : Option SearchState). Stuck Total o) holds))
     job all)
@@ -125,12 +125,12 @@ returns-in-Some-Stuck-clause-stuck c =
     let taken = c.in-Some-Stuck.ensures.taken in
     let there : HasEnd c.args.self.ends i taken.0 = ap (λ (p : ResultsSoFar). slice_get p.ends i) (sym c.self.view_is) ∙ (sym (c.loop-job.invariant.same i (omega arith)) ∙ taken.1) in
     let is : end_of taken.0 ≡ Stuck c.in-Some-Stuck.reason c.in-Some-Stuck.search = sym taken.2 ∙ c.in-Some-Stuck.field-0-is in
-    let spent_if_total = c.spent_if_total.ensures ∙ ap (λ (p : ResultsSoFar). spent_if_total_of c.in-Some-Stuck.reason p.spent) c.self.view_is in
+    let counts_if_total_spent = c.counts_if_total_spent.ensures ∙ ap (λ (p : ResultsSoFar). counts_if_total_spent_of c.in-Some-Stuck.reason p.spent) c.self.view_is in
     λ other t reason search none least at.
     (let here : IsStuckAt c.args.self.ends i = (taken.0, there, stuck_of taken.0 c.in-Some-Stuck.reason c.in-Some-Stuck.search is) in
     let same = same_stuck c.args.self.line c.args.self.ends i other turn t c.in-Some-Stuck.reason reason c.in-Some-Stuck.search search taken.0
     (stuck_same c.args.self.ends i other reason search here c.loop-job.invariant.unstuck least) there is least job at in
-    (same.0, same.1, same.2, spent_if_total ∙ ap (λ (r : Reason). spent_if_total_of r c.args.self.spent) same.1))
+    (same.0, same.1, same.2, counts_if_total_spent ∙ ap (λ (r : Reason). counts_if_total_spent_of r c.args.self.spent) same.1))
 
 pub returns-in-Some-Stuck-clause-replies : goal.returns-in-Some-Stuck-clause-replies
 returns-in-Some-Stuck-clause-replies c =
@@ -188,13 +188,13 @@ loop-job-preserved c =
       unstuck = not_stuck_more c.args.self.ends i c.loop-job.invariant.unstuck (settled_here c.args.self.ends i taken.0 child there is);
     }
 
-pub reply_answer-requires-clause-lost : goal.reply_answer-requires-clause-lost
-reply_answer-requires-clause-lost c =
+pub answer_by_lost_turns-requires-clause-lost : goal.answer_by_lost_turns-requires-clause-lost
+answer_by_lost_turns-requires-clause-lost c =
     seen (λ l m. HaveLost l m c.loop-job.children.items) c.self.inside.jobs.line.now c.self.inside.jobs.limits c.self.inside.ends.items c.self.inside.spent.items c.args.self c.self.view_is
     c.loop-job.invariant.lost
 
-pub reply_answer-requires-clause-all : goal.reply_answer-requires-clause-all
-reply_answer-requires-clause-all c =
+pub answer_by_lost_turns-requires-clause-all : goal.answer_by_lost_turns-requires-clause-all
+answer_by_lost_turns-requires-clause-all c =
     let all = ap (λ (l : List Turn). length l) (c.as_slice-turns.ensures.value ∙ c.self.inside.jobs.listed) in
     omega (arith, all, c.loop-job.invariant.noted, c.loop-job-test.false)
 
@@ -217,10 +217,10 @@ returns-clause-stuck c =
 
 pub returns-in-Some-clause-answer : goal.returns-in-Some-clause-answer
 returns-in-Some-clause-answer c = λ total all. shown
-    (λ l m es. IfOk c.pick_answer.result (IsAnswer l m total)) c.self.inside.jobs.line.now c.self.inside.jobs.limits c.self.inside.ends.items c.self.inside.spent.items c.args.self c.self.view_is
-    (c.pick_answer.ensures.answer total)
+    (λ l m es. IfOk c.answer_by_winning_turn.result (IsAnswer l m total)) c.self.inside.jobs.line.now c.self.inside.jobs.limits c.self.inside.ends.items c.self.inside.spent.items c.args.self c.self.view_is
+    (c.answer_by_winning_turn.ensures.answer total)
 
 pub returns-clause-answer : goal.returns-clause-answer
 returns-clause-answer c = λ total all. shown
-    (λ l m es. IfOk c.reply_answer.result (IsAnswer l m total)) c.self.inside.jobs.line.now c.self.inside.jobs.limits c.self.inside.ends.items c.self.inside.spent.items c.args.self c.self.view_is
-    (c.reply_answer.ensures.answer total)
+    (λ l m es. IfOk c.answer_by_lost_turns.result (IsAnswer l m total)) c.self.inside.jobs.line.now c.self.inside.jobs.limits c.self.inside.ends.items c.self.inside.spent.items c.args.self c.self.view_is
+    (c.answer_by_lost_turns.ensures.answer total)

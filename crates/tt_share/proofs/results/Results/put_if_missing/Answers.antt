@@ -17,21 +17,21 @@ invariant_of-self c =
     let job = c.args.searched.job in
     let found : IsResultOf line limits job c.args.searched.end =
     seen (λ l m. IsResultOf l m job c.args.searched.end) line limits c.self.inside.ends.items c.self.inside.spent.items c.args.self.now c.self.view_is c.requires.searched.0 in
-    let this : IsResultOf line limits job c.dropped_if_past_stuck.result =
-    subst (IsResultOf line limits job) (sym c.dropped_if_past_stuck.ensures) (kept_result line limits job c.is_past_stuck-past_stuck.result c.args.searched.end found) in
-    let all = one_more_result line limits c.self.inside.ends.items job c.dropped_if_past_stuck.result c.self.invariant.are this in
+    let this : IsResultOf line limits job c.dropped_if_lesser_stuck.result =
+    subst (IsResultOf line limits job) (sym c.dropped_if_lesser_stuck.ensures) (kept_result line limits job c.is_some_lesser_stuck-past_stuck.result c.args.searched.end found) in
+    let all = one_more_result line limits c.self.inside.ends.items job c.dropped_if_lesser_stuck.result c.self.invariant.are this in
     let ends : c.self.inside.ends.items ≡ c.args.self.now.ends = ap (λ (p : ResultsSoFar). p.ends) c.self.view_is in
     let free : slice_get c.self.inside.ends.items job ≡ Some None = ap (λ (l : List (Option JobResult)). slice_get l job) ends ∙ c.is_missing.ensures.free.0 c.if-is_missing.true in
     let note = c.note_spent.ensures.noted in
     let count : IsJobCount line limits job c.args.searched.spent c.args.searched.end =
     seen (λ l m. IsJobCount l m job c.args.searched.spent c.args.searched.end) line limits c.self.inside.ends.items c.self.inside.spent.items c.args.self.now c.self.view_is c.requires.searched.1 in
-    let kept : IsJobCount line limits job c.args.searched.spent c.dropped_if_past_stuck.result = subst (IsJobCount line limits job c.args.searched.spent) (sym c.dropped_if_past_stuck.ensures)
-    (kept_count line limits job c.is_past_stuck-past_stuck.result c.args.searched.spent c.args.searched.end count) in
-    let noted = noted_put line limits c.self.inside.ends.items c.self.inside.spent.items job note.0 c.self.invariant.noted free note.1 c.dropped_if_past_stuck.result c.args.searched.spent kept in
+    let kept : IsJobCount line limits job c.args.searched.spent c.dropped_if_lesser_stuck.result = subst (IsJobCount line limits job c.args.searched.spent) (sym c.dropped_if_lesser_stuck.ensures)
+    (kept_count line limits job c.is_some_lesser_stuck-past_stuck.result c.args.searched.spent c.args.searched.end count) in
+    let noted = noted_put line limits c.self.inside.ends.items c.self.inside.spent.items job note.0 c.self.invariant.noted free note.1 c.dropped_if_lesser_stuck.result c.args.searched.spent kept in
     record {
       are = subst (AreResults line limits) (sym c.write_result.ensures.filled) all;
       noted = subst (λ (l : List (Option JobResult)). AreNoted line limits l c.note_spent.new.spent.items) (sym c.write_result.ensures.filled)
-          (subst (AreNoted line limits (slice_set c.self.inside.ends.items job (Some c.dropped_if_past_stuck.result))) (sym note.2) noted);
+          (subst (AreNoted line limits (slice_set c.self.inside.ends.items job (Some c.dropped_if_lesser_stuck.result))) (sym note.2) noted);
       one_each = c.write_result.ensures.len ∙ c.self.invariant.one_each;
     }
 
@@ -60,15 +60,15 @@ pub returns-then-is_missing-clause-puts : goal.returns-then-is_missing-clause-pu
 returns-then-is_missing-clause-puts c =
     let job = c.args.searched.job in
     let ends : c.self.inside.ends.items ≡ c.args.self.now.ends = ap (λ (p : ResultsSoFar). p.ends) c.self.view_is in
-    let past : IsTrue c.is_past_stuck-past_stuck.result ↔ IsPastStuck c.args.self.now.ends job =
-    subst (λ (l : List (Option JobResult)). IsTrue c.is_past_stuck-past_stuck.result ↔ IsPastStuck l job) (c.as_slice.ensures.value ∙ ends) c.is_past_stuck-past_stuck.ensures in
-    let put : c.write_result.new.ends.items ≡ slice_set c.args.self.now.ends job (Some (kept_of c.is_past_stuck-past_stuck.result c.args.searched.end)) =
-    c.write_result.ensures.filled ∙ ap (λ l. slice_set l job (Some c.dropped_if_past_stuck.result)) ends
-    ∙ ap (λ (e : JobResult). slice_set c.args.self.now.ends job (Some e)) c.dropped_if_past_stuck.ensures in
+    let past : IsTrue c.is_some_lesser_stuck-past_stuck.result ↔ IsPastStuck c.args.self.now.ends job =
+    subst (λ (l : List (Option JobResult)). IsTrue c.is_some_lesser_stuck-past_stuck.result ↔ IsPastStuck l job) (c.as_slice.ensures.value ∙ ends) c.is_some_lesser_stuck-past_stuck.ensures in
+    let put : c.write_result.new.ends.items ≡ slice_set c.args.self.now.ends job (Some (kept_of c.is_some_lesser_stuck-past_stuck.result c.args.searched.end)) =
+    c.write_result.ensures.filled ∙ ap (λ l. slice_set l job (Some c.dropped_if_lesser_stuck.result)) ends
+    ∙ ap (λ (e : JobResult). slice_set c.args.self.now.ends job (Some e)) c.dropped_if_lesser_stuck.ensures in
     record {
-      put = λ free. (c.is_past_stuck-past_stuck.result, past, put);
+      put = λ free. (c.is_some_lesser_stuck-past_stuck.result, past, put);
       dropped = λ other. absurd (other (c.is_missing.ensures.free.0 c.if-is_missing.true));
-      len = ap (λ (l : List (Option JobResult)). length l) c.write_result.ensures.filled ∙ length-set c.self.inside.ends.items job (Some c.dropped_if_past_stuck.result)
+      len = ap (λ (l : List (Option JobResult)). length l) c.write_result.ensures.filled ∙ length-set c.self.inside.ends.items job (Some c.dropped_if_lesser_stuck.result)
           ∙ ap (λ (l : List (Option JobResult)). length l) ends;
     }
 

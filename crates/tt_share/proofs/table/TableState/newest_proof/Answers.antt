@@ -5,12 +5,12 @@ use Rattle.tt_share.proofs.SlotLemmas.{has_key_at}
 use Rattle.tt_share.proofs.Newest.{among_all, among_fewer, read_side, none_is_newest, found_is_newest}
 use Rattle.tt_game.specs.Keys.{key_of}
 use Rattle.tt_search.specs.Stores.{HasKeyAndSide}
-use Rattle.tt_share.specs.Table.{slots_of}
+use Rattle.tt_share.specs.Table.{slots_with_key}
 use Rattle.tt_share.proofs.table.TableState.newest_proof.Goals as goal
 
 pub loop-left-init : goal.loop-left-init
 loop-left-init c =
-    let slots = c.slots-slots.ensures ∙ ap (λ k. slots_of k c.args.self.now) c.key-key.ensures in
+    let slots = c.slots-slots.ensures ∙ ap (λ k. slots_with_key k c.args.self.now) c.key-key.ensures in
     (slots, omega arith, among_all c.args.line.now c.args.s c.args.self.now c.slots-slots.result.now slots)
 
 pub loop-left-preserved-else-eq : goal.loop-left-preserved-else-eq

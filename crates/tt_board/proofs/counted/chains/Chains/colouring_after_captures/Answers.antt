@@ -7,16 +7,16 @@ use Rattle.tt_board.specs.inside.Chains.{name_at}
 use Rattle.tt_board.proofs.MakeLemmas.{lifting_more, lifted_gone, lifted_kept, made_no_capture, made_suicide}
 use Rattle.tt_board.proofs.counted.chains.Chains.colouring_after_captures.Goals as goal
 
-pub lift-requires-clause-living : goal.lift-requires-clause-living
-lift-requires-clause-living c =
+pub lift_off_colouring-requires-clause-living : goal.lift_off_colouring-requires-clause-living
+lift_off_colouring-requires-clause-living c =
     let xs = c.as_slice-name-items.result.now in let l = c.play_effect-look.ensures in
     l.living (name_at xs c.loop-name.name-index)
     (subst (λ ys. Contains ys (name_at xs c.loop-name.name-index)) c.as_slice-name-items.ensures.value (Contains-get_or xs c.loop-name.name-index 0 c.loop-name-test.true))
 
 pub loop-name-preserved : goal.loop-name-preserved
 loop-name-preserved c =
-    let b = c.args.self.now in let xs = c.as_slice-name-items.result.now in let r = c.lift.ensures in
-    lifting_more b.names b.points xs c.loop-name.name-index c.loop-name.points c.lift.new.points c.loop-name.invariant r.fits r.gone r.kept
+    let b = c.args.self.now in let xs = c.as_slice-name-items.result.now in let r = c.lift_off_colouring.ensures in
+    lifting_more b.names b.points xs c.loop-name.name-index c.loop-name.points c.lift_off_colouring.new.points c.loop-name.invariant r.fits r.gone r.kept
 
 pub returns-then-not-look : goal.returns-then-not-look
 returns-then-not-look c =

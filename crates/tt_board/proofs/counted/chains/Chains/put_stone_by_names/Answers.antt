@@ -45,6 +45,6 @@ invariant_of-self c =
       alive = subst (AllHaveLiberties b.size) (sym c.set.ensures) alive;
       rest = λ q past.
           ap (λ xs. entry_at xs q) c.set.ensures
-          ∙ get_or-set_other b.points p q (Some k) None (λ same. omega (arith, past, c.later_end-self-inside.ensures.other, same))
-          ∙ i.rest q (omega (arith, past, c.later_end-self-inside.ensures.one));
+          ∙ get_or-set_other b.points p q (Some k) None (λ same. omega (arith, past, c.greater_end-self-inside.ensures.other, same))
+          ∙ i.rest q (omega (arith, past, c.greater_end-self-inside.ensures.one));
     }

@@ -3,21 +3,21 @@ use Rattle.tt_board.specs.inside.Chains.{name_at, AreNames, AreCounted}
 use Rattle.tt_board.proofs.LinkLemmas.{named_bare}
 use Rattle.tt_board.proofs.OverLemmas.{over_all, over_counted}
 use Rattle.tt_board.proofs.counted.chains.Chains.set_to.Goals as goal
-use Rattle.tt_board.proofs.counted.chains.Chains.set_to.Goals.{then-end-le-FEW_POINTS, else-end-le-FEW_POINTS}
+use Rattle.tt_board.proofs.counted.chains.Chains.set_to.Goals.{then-end-le-MOST_COPIED_IN_PARTS, else-end-le-MOST_COPIED_IN_PARTS}
 
 pub invariant_of-self : goal.invariant_of-self
 invariant_of-self c =
-    let b = c.other.inside in let i = c.other.invariant in let a = c.self.inside in let j = c.self.invariant in let n = c.later_end-end.result in
-    let bare_b : (q : ℕ) → n ≤ q → name_at b.counts.names q ≡ 0 = λ q past. named_bare _ _ (i.named.named q) (i.rest q (omega (arith, past, c.later_end-end.ensures.other))) in
-    let bare_a : (q : ℕ) → n ≤ q → name_at a.counts.names q ≡ 0 = λ q past. named_bare _ _ (j.named.named q) (j.rest q (omega (arith, past, c.later_end-end.ensures.one))) in
-    elim c.if-end-le-FEW_POINTS.branch [
-      | then-end-le-FEW_POINTS w ↦
-          let names = w.copy_first in let stones = w.copy_first-then-end-le-FEW_POINTS in let liberties = w.copy_first-then-end-le-FEW_POINTS-2 in
-          let same : names.new.entries ≡ b.counts.names = names.ensures ∙ over_all n b.counts.names a.counts.names (omega (arith, w.if-end-le-FEW_POINTS.true, i.wide.0))
+    let b = c.other.inside in let i = c.other.invariant in let a = c.self.inside in let j = c.self.invariant in let n = c.greater_end-end.result in
+    let bare_b : (q : ℕ) → n ≤ q → name_at b.counts.names q ≡ 0 = λ q past. named_bare _ _ (i.named.named q) (i.rest q (omega (arith, past, c.greater_end-end.ensures.other))) in
+    let bare_a : (q : ℕ) → n ≤ q → name_at a.counts.names q ≡ 0 = λ q past. named_bare _ _ (j.named.named q) (j.rest q (omega (arith, past, c.greater_end-end.ensures.one))) in
+    elim c.if-end-le-MOST_COPIED_IN_PARTS.branch [
+      | then-end-le-MOST_COPIED_IN_PARTS w ↦
+          let names = w.copy_first in let stones = w.copy_first-then-end-le-MOST_COPIED_IN_PARTS in let liberties = w.copy_first-then-end-le-MOST_COPIED_IN_PARTS-2 in
+          let same : names.new.entries ≡ b.counts.names = names.ensures ∙ over_all n b.counts.names a.counts.names (omega (arith, w.if-end-le-MOST_COPIED_IN_PARTS.true, i.wide.0))
           (i.wide.0 ∙ sym j.wide.0) (sym (ap length names.ensures) ∙ names.auto.entries ∙ j.wide.0 ∙ sym i.wide.0) bare_b bare_a in
           let counted : AreCounted b.size b.counts.names stones.new.entries liberties.new.entries = rw (stones.ensures, liberties.ensures)
           (over_counted b.size n b.counts.names b.counts.stones b.counts.liberties a.counts.stones a.counts.liberties i.counted bare_b
-          (omega (arith, w.if-end-le-FEW_POINTS.true, i.wide.1)) (omega (arith, w.if-end-le-FEW_POINTS.true, i.wide.2))) in
+          (omega (arith, w.if-end-le-MOST_COPIED_IN_PARTS.true, i.wide.1)) (omega (arith, w.if-end-le-MOST_COPIED_IN_PARTS.true, i.wide.2))) in
           rw (w.self-inside-is, c.set_to.ensures) (record {
             fits = i.fits;
             wide = (names.auto.entries ∙ j.wide.0, stones.auto.entries ∙ j.wide.1, liberties.auto.entries ∙ j.wide.2);
@@ -26,5 +26,5 @@ invariant_of-self c =
             alive = i.alive;
             rest = i.rest;
           })
-      | else-end-le-FEW_POINTS w ↦ rw (w.self-inside-is, c.set_to.ensures) (record { fits = i.fits; wide = i.wide; named = i.named; counted = i.counted; alive = i.alive; rest = i.rest })
+      | else-end-le-MOST_COPIED_IN_PARTS w ↦ rw (w.self-inside-is, c.set_to.ensures) (record { fits = i.fits; wide = i.wide; named = i.named; counted = i.counted; alive = i.alive; rest = i.rest })
     ]

@@ -8,4 +8,4 @@ pub returns : goal.returns
 returns c =
     let is = c.self.view_is in
     let frame : c.frame.result.now ≡ c.args.self.now.frame = c.frame.ensures ∙ ap (λ (r : Rooted). r.frame) c.deref.ensures ∙ ap (λ (p : SnapshotState). p.frame) is in
-    c.key_at.ensures ∙ key_told _ _ _ _ frame c.present.ensures.points (ap (λ (p : SnapshotState). p.state.to_move) is) (ap (λ (p : SnapshotState). p.state.passes) is)
+    c.key_from_parts.ensures ∙ key_told _ _ _ _ frame c.present.ensures.points (ap (λ (p : SnapshotState). p.state.to_move) is) (ap (λ (p : SnapshotState). p.state.passes) is)

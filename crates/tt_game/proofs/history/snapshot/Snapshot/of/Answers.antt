@@ -15,9 +15,9 @@ use Rattle.tt_game.proofs.history.snapshot.Snapshot.of.Goals as goal
 pub of-requires : goal.of-requires
 of-requires c =
     let root = arc_value c.args.root.now in
-    let base = arc_value c.base.result.now in
+    let base = arc_value c.delta_base.result.now in
     let found : c.deref.result.now ≡ root = search rules in
-    let same : c.args.history.now.size ≡ base.size = c.requires.size ∙ sym (c.base.ensures ∙ ap (λ (r : Rooted). r.frame.size) found) in
+    let same : c.args.history.now.size ≡ base.size = c.requires.size ∙ sym (c.delta_base.ensures ∙ ap (λ (r : Rooted). r.frame.size) found) in
     subst (λ bs. All (λ (b : Position). b.size ≡ base.size) bs) (sym (take_rest c.boards.result.now c.board_count.result))
     (All-drop (λ (b : Position). b.size ≡ base.size) c.board_count.result c.boards.result.now
     (subst (λ (z : Size). All (λ (b : Position). b.size ≡ z) c.boards.result.now) same c.boards.ensures.sizes))

@@ -1,9 +1,0 @@
-use Rattle.std.proofs.Common.{◌≡◌, length}
-use Rattle.tt_game.specs.Records.{run_nodes}
-use Rattle.tt_game.proofs.records.play_all_nodes.Given as goal
-
-abbrev pub invariant-loop-node : goal.invariant-loop-node
-invariant-loop-node l = run_nodes l.last l.rest ≡ run_nodes l.initial.last l.nodes
-
-abbrev pub decreases-loop-node : goal.decreases-loop-node
-decreases-loop-node l = length l.rest

@@ -1,4 +1,0 @@
-use Rattle.tt_proof.proofs.board_bounds.is_within.Goals as goal
-
-pub returns-in-Some : goal.returns-in-Some
-returns-in-Some c = rw c.in-Some.is c.has.ensures

@@ -1,5 +1,0 @@
-use Rattle.tt_proof.proofs.CarryLemmas.{footprint_carried}
-use Rattle.tt_proof.proofs.laws.footprints_carry_over.Goals as goal
-
-pub returns : goal.returns
-returns c = footprint_carried

@@ -1,9 +1,0 @@
-use Rattle.std.proofs.Common.{ℕ, ◌<◌, get_or, Contains}
-use Rattle.tt_board.specs.Position.{Position}
-use Rattle.tt_game.specs.Game.{history}
-use Rattle.tt_proof.specs.BoardBounds.{IsWithin}
-use Rattle.tt_proof.proofs.proven.are_outside_or_made.Given as goal
-
-abbrev pub invariant-loop-board : goal.invariant-loop-board
-invariant-loop-board l =
-    (k : ℕ) (d : Position) → k < l.board-index → IsWithin l.bound (get_or l.boards k d) → Contains (history l.snapshot.state) (get_or l.boards k d).points

@@ -1,4 +1,0 @@
-use Rattle.tt_share.proofs.alone.finish.Goals as goal
-
-pub returns-in-Err : goal.returns-in-Err
-returns-in-Err g c = λ total all. c.no_memory_answer.ensures c.args.results.line c.args.results.limits total
