@@ -8,8 +8,8 @@ use Rattle.tt_board.specs.Play.{other}
 use Rattle.tt_game.specs.declared.frame.Side.{Side}
 use Rattle.tt_game.specs.declared.turns.Turn.{Turn}
 use Rattle.tt_game.specs.declared.turns.Turn.TheVariants.{Play, Pass}
-use Rattle.tt_game.specs.Game.{IsLegal, after, side_colour}
-use Rattle.tt_game.specs.Line.{LineWithUndo}
+use Rattle.tt_game.specs.Game.{IsLegal, side_colour}
+use Rattle.tt_game.specs.Line.{LineWithUndo, problem_after_turn}
 use Rattle.tt_proof.specs.CertificateText.{IsTooDeep}
 use Rattle.tt_proof.specs.ProofClaim.{first_turn_of}
 use Rattle.tt_proof.specs.Strategy.{Strategy, Entries, done, pick, reply, none, entry}
@@ -73,17 +73,13 @@ module _ (p : LineWithUndo) where
 
   -- ---- the first turn
 
-  -- the problem after a turn
-  abbrev pub problem_after_turn : Turn → LineWithUndo
-  problem_after_turn t = record { frame = p.frame; state = after p.frame p.state t; before = p.state ∷ [] }
-
   -- `After Black C7=ca:`
   abbrev pub after_turn_heading : Turn → List ℕ
   after_turn_heading t = codes "After " ++ (colour_name (side_colour p.frame p.state.to_move) ++ (space ∷ (both_turn_names p.frame.size t ++ codes ":\n")))
 
   -- that, and the board then
   abbrev pub after_turn_text : Turn → List ℕ
-  after_turn_text t = after_turn_heading t ++ board_text (problem_after_turn t)
+  after_turn_text t = after_turn_heading t ++ board_text (problem_after_turn p t)
 
   -- the side is to move, and begins with this turn, which is legal
   abbrev pub IsLegalFirstTurn : Side → Strategy → Turn → Type 0

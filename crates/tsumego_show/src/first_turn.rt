@@ -2,7 +2,7 @@
 ghost use Rattle.std.specs.Prelude.{◌≡◌, ◌↔◌, ◌++◌, ℕ, List, IfOk, IfSome, IsTrue, MatchOption, OnOk};
 ghost use Rattle.tt_game.specs.Game.{IsLegal};
 ghost use Rattle.tt_proof.specs.Strategy.{IsInOrder, IsTurnOnBoardOfSize, strategy_of};
-ghost use Rattle.tsumego_show.specs.StrategyListing.{IsLegalFirstTurn, IsFirstTurnAndBoard, both_turn_names, problem_after_turn, after_turn_heading, after_turn_text};
+ghost use Rattle.tsumego_show.specs.StrategyListing.{IsLegalFirstTurn, IsFirstTurnAndBoard, both_turn_names, after_turn_heading, after_turn_text};
 
 use crate::hints::put_both_point_names;
 use crate::picture::{colour_name, put_board, side_colour};
@@ -29,16 +29,6 @@ pub fn legal_first_turn(line: &Line, side: Side, tree: &Tree) -> Option<Turn>
         return tree.first();
     }
     None
-}
-
-/// The problem after a legal turn.
-fn line_after_turn(line: &Line, turn: Turn) -> Result<Line, NoMemory>
-    requires { IsLegal line.now.frame line.now.state turn }
-    ensures { IfOk result (λ l. l ≡ problem_after_turn line.now turn) }
-{
-    let mut next = line.try_clone()?;
-    next.push_legal(turn)?;
-    Ok(next)
 }
 
 /// Writes a turn by both names of its point behind the text.
@@ -85,7 +75,7 @@ fn put_after_turn_text(
     requires legal { IsLegal line.now.frame line.now.state turn.now }
     ensures { OnOk result (out.new.items ≡ out.old.items ++ after_turn_text line.now turn.now) }
 {
-    let next = line_after_turn(line, *turn)?;
+    let next = line.after(*turn)?;
     put_after_turn_heading(alloc, out, line, *turn)?;
     put_board(alloc, out, &next)
 }

@@ -1,5 +1,5 @@
 -- Lines: a frame, a state, and what pops lead back to. Why a turn is refused, and what a push does.
-use Rattle.std.specs.Prelude.{◌≡◌, ◌≢◌, ℕ, ◌<◌, List, ◌∷◌, None, IsTrue}
+use Rattle.std.specs.Prelude.{◌≡◌, ◌≢◌, ℕ, ◌<◌, List, [], ◌∷◌, None, IsTrue}
 use Rattle.std.specs.FinSet as set
 use Rattle.tt_sgf.specs.Sizes.{point_count}
 use Rattle.tt_board.specs.Position.{Position}
@@ -28,6 +28,10 @@ pub record LineWithUndo : Type 0 where
   pub frame : Frame
   pub state : State
   pub before : List State
+
+-- the problem after a turn, which alone may be undone
+abbrev pub problem_after_turn : LineWithUndo → Turn → LineWithUndo
+problem_after_turn p t = record { frame = p.frame; state = after p.frame p.state t; before = p.state ∷ [] }
 
 -- where a line stood: its frame and its state
 pub record SnapshotState : Type 0 where

@@ -2,6 +2,7 @@
 
 ghost use Rattle.std.specs.Prelude.{◌≡◌, ◌≢◌, ℕ, ◌+◌, ◌-◌, ◌<◌, ◌≤◌, ◌↔◌, ◌∷◌, length, slice_set, IsTrue, IsSome, IfSome, MatchOption, Contains, All};
 ghost use Rattle.tt_game.specs.GameHistory.{IsInHistory, colourings};
+ghost use Rattle.tt_game.specs.Line.{problem_after_turn};
 ghost use Rattle.tt_game.specs.Mixing.{mix_board};
 ghost use Rattle.tt_board.specs.Position.{Colouring};
 ghost use Rattle.tt_sgf.specs.Sizes.{point_count};
@@ -475,5 +476,15 @@ impl Line {
             to_move: self.to_move,
             pushes: Vec::new(alloc),
         })
+    }
+
+    /// The line after a legal turn, which alone may be undone in it.
+    pub fn after(&self, t: Turn) -> Result<Line, NoMemory>
+        requires { IsLegal self.now.frame self.now.state t }
+        ensures { IfOk result (λ l. l ≡ problem_after_turn self.now t) }
+    {
+        let mut next = self.try_clone()?;
+        next.push_legal(t)?;
+        Ok(next)
     }
 }

@@ -136,17 +136,6 @@ impl<'a> Jobs<'a> {
         }
     }
 
-    /// The line after a legal turn.
-    fn line_after(&self, turn: Turn) -> Result<Line, NoMemory>
-        requires legal { IsLegal self.now.line.now.frame self.now.line.now.state turn }
-        ensures frame { IfOk result (λ l. l.frame ≡ self.now.line.now.frame) }
-        ensures state { IfOk result (λ l. l.state ≡ after self.now.line.now.frame self.now.line.now.state turn) }
-    {
-        let mut behind = self.line.try_clone()?;
-        behind.push_legal(turn)?;
-        Ok(behind)
-    }
-
     /// A search of the line after a job's turn, with the same budget and a depth one less. Nothing of it is expanded yet.
     fn begin_search(&self, job: usize) -> Result<Search, NoMemory>
         requires job { job < length self.now.turns.items }
@@ -154,7 +143,7 @@ impl<'a> Jobs<'a> {
         ensures new { IfOk result (λ s. s.tree ≡ new_leaf s.line.frame s.line.state) }
     {
         let limits = self.limits_after();
-        let behind = self.line_after(self.turns.as_slice()[job])?;
+        let behind = self.line.after(self.turns.as_slice()[job])?;
         Search::new(self.alloc, behind, limits)
     }
 

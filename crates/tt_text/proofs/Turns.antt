@@ -6,12 +6,12 @@ use Rattle.tt_game.specs.declared.frame.Side.{Side}
 use Rattle.tt_game.specs.declared.turns.Turn.{Turn}
 use Rattle.tt_game.specs.declared.turns.Turn.TheVariants.{Play, Pass}
 use Rattle.tt_game.specs.Game.{IsLegal}
-use Rattle.tt_game.specs.Line.{LineWithUndo}
+use Rattle.tt_game.specs.Line.{LineWithUndo, problem_after_turn}
 use Rattle.tt_game.specs.Turns.{IsTurnOnBoard, legal_turns}
 use Rattle.tt_game.specs.laws.TurnLaws.{contains-legal_turns}
 use Rattle.tt_search.specs.declared.limits.Limits.{Limits}
 use Rattle.tt_search.specs.declared.limits.Reason.{Reason}
-use Rattle.tt_text.specs.Solving.{AreTurnLines, IsValueOrReason, IsAnswerText, TurnLinesFollowIfAsked, IsVerdict, line_after, turn_value_line}
+use Rattle.tt_text.specs.Solving.{AreTurnLines, IsValueOrReason, IsAnswerText, TurnLinesFollowIfAsked, IsVerdict, turn_value_line}
 use Rattle.tt_text.specs.declared.options.Options.{Options}
 
 -- a turn in the list of legal turns is legal
@@ -28,7 +28,7 @@ legal_turn_is_on_board p Pass l = tt
 module _ (p : LineWithUndo) (limits : Limits) (total : Option ℕ) where
   -- one more line behind the lines
   one_more : (ts : List Turn) (t : Turn) (lines : List ℕ) (value : Result Side Reason) → AreTurnLines p limits total ts lines
-      → IsValueOrReason (line_after p t) limits total value → AreTurnLines p limits total (ts ++ t ∷ []) (lines ++ turn_value_line p.frame.size t value)
+      → IsValueOrReason (problem_after_turn p t) limits total value → AreTurnLines p limits total (ts ++ t ∷ []) (lines ++ turn_value_line p.frame.size t value)
   one_more [] t lines value h v =
       (value, [], v, ap (λ (x : List ℕ). x ++ turn_value_line p.frame.size t value) h ∙ sym (append-nil (turn_value_line p.frame.size t value)), refl)
   one_more (u ∷ us) t lines value h v = (
@@ -41,7 +41,7 @@ module _ (p : LineWithUndo) (limits : Limits) (total : Option ℕ) where
 
   -- the line of the next turn in the list
   pub next_line : (ts : List Turn) (n : ℕ) (t : Turn) (lines after : List ℕ) (value : Result Side Reason) → n < length ts → t ≡ get_or ts n t
-      → AreTurnLines p limits total (take n ts) lines → IsValueOrReason (line_after p t) limits total value
+      → AreTurnLines p limits total (take n ts) lines → IsValueOrReason (problem_after_turn p t) limits total value
       → after ≡ lines ++ turn_value_line p.frame.size t value → AreTurnLines p limits total (take (n + 1) ts) after
   next_line ts n t lines after value lt is h v e =
       let more : take n ts ++ t ∷ [] ≡ take (n + 1) ts = ap (λ (u : Turn). take n ts ++ u ∷ []) is ∙ sym (take_more ts n t lt) in

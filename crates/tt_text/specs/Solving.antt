@@ -9,7 +9,7 @@ use Rattle.tt_game.specs.declared.frame.Side.{Side}
 use Rattle.tt_game.specs.declared.turns.Turn.{Turn}
 use Rattle.tt_game.specs.Faults.{code_of}
 use Rattle.tt_game.specs.Game.{HasValue, IsLegal, after, value_won_by}
-use Rattle.tt_game.specs.Line.{LineWithUndo}
+use Rattle.tt_game.specs.Line.{LineWithUndo, problem_after_turn}
 use Rattle.tt_game.specs.Problems.{problem_of}
 use Rattle.tt_game.specs.Sides.{verdict_word}
 use Rattle.tt_game.specs.Turns.{legal_turns}
@@ -107,14 +107,10 @@ abbrev pub IsValueOrReason : LineWithUndo → Limits → Option ℕ → Result S
 IsValueOrReason p limits total (Ok side) = HasValue p.frame p.state (value_won_by side)
 IsValueOrReason p limits total (Err reason) = IsUnsettledFor p limits total reason
 
--- the problem behind a turn, which alone may be undone
-abbrev pub line_after : LineWithUndo → Turn → LineWithUndo
-line_after p t = record { frame = p.frame; state = after p.frame p.state t; before = p.state ∷ [] }
-
 -- a line for each of the turns, with the value behind it, or why that isn't known under the same limits
 abbrev pub AreTurnLines : LineWithUndo → Limits → Option ℕ → List Turn → List ℕ → Type 0
 AreTurnLines p limits total [] lines = lines ≡ []
-AreTurnLines p limits total (t ∷ ts) lines = (value : Result Side Reason) × (rest : List ℕ) × IsValueOrReason (line_after p t) limits total value
+AreTurnLines p limits total (t ∷ ts) lines = (value : Result Side Reason) × (rest : List ℕ) × IsValueOrReason (problem_after_turn p t) limits total value
     × (lines ≡ turn_value_line p.frame.size t value ++ rest) × AreTurnLines p limits total ts rest
 
 -- nothing follows, or a line for each legal turn, in rising order, where they are asked for

@@ -8,7 +8,8 @@ ghost use Rattle.tt_proof.specs.CertificateText.{certificate_text};
 ghost use Rattle.tt_proof.specs.declared.tree.TheConstants.{MOST_DEPTH};
 ghost use Rattle.tt_proof.specs.ProofClaim.{StandsAt};
 ghost use Rattle.tt_share.specs.Answers.{IsAnswer};
-ghost use Rattle.tt_text.specs.Solving.{AreTurnLines, IsValueOrReason, IsAnswerText, Solves, TurnLinesFollowIfAsked, IsVerdict, line_after};
+ghost use Rattle.tt_text.specs.Solving.{AreTurnLines, IsValueOrReason, IsAnswerText, Solves, TurnLinesFollowIfAsked, IsVerdict};
+ghost use Rattle.tt_game.specs.Line.{problem_after_turn};
 
 use crate::options::{CertKind, Options};
 use crate::outcome::TreeOutcome;
@@ -206,16 +207,6 @@ fn value_at<X: Threads + Wait + Sync>(
     }
 }
 
-/// The line behind a legal turn.
-fn line_after(line: &Line, turn: Turn) -> Result<Line, NoMemory>
-    requires { IsLegal line.now.frame line.now.state turn }
-    ensures { IfOk result (λ l. l ≡ line_after line.now turn) }
-{
-    let mut next = line.try_clone()?;
-    next.push_legal(turn)?;
-    Ok(next)
-}
-
 /// Which side wins behind a legal turn, or why that isn't known.
 fn value_after_turn<X: Threads + Wait + Sync>(
     rt: &X,
@@ -226,9 +217,9 @@ fn value_after_turn<X: Threads + Wait + Sync>(
 ) -> Result<Side, Reason>
     requires state { IsWellFormedState line.now.frame line.now.state }
     requires legal { IsLegal line.now.frame line.now.state turn }
-    ensures { IsValueOrReason (line_after line.now turn) options.limits options.total result }
+    ensures { IsValueOrReason (problem_after_turn line.now turn) options.limits options.total result }
 {
-    match line_after(line, turn) {
+    match line.after(turn) {
         Ok(next) => value_at(rt, alloc, &next, options),
         Err(NoMemory) => Err(Reason::Memory),
     }
