@@ -1,6 +1,7 @@
 -- Lemmas on what nodes say: who moves, where triangles stand without squares, and which comments go on too far.
-use Rattle.std.proofs.Common.{◌≡◌, ℕ, ◌+◌, ◌==◌, nat_eq, Bool, true, false, List, [], ◌∷◌, Some, None, refl}
-use Rattle.std.specs.List.{starts_with}
+use Rattle.std.proofs.Common.{◌≡◌, ℕ, ◌+◌, ◌==◌, ◌&&◌, ◌||◌, not, nat_eq, Bool, true, false, List, [], ◌∷◌, Some, None, refl}
+use Rattle.std.specs.List.{list_any, starts_with}
+use Rattle.std.proofs.Math.Bool.{and-false}
 use Rattle.tt_sgf.specs.Bytes.{close_value}
 use Rattle.tt_sgf.specs.declared.nodes.Node.{Node}
 use Rattle.tt_game.specs.Nodes.{SQ, TR, has}
@@ -35,19 +36,33 @@ pub without_further : (k : ℕ) (n : Node) (ns : List Node) → has TR n ≡ fal
 unfolding unsquared_triangle_node
 without_further k n ns h = rw h refl
 
-pub left_none : (name : List ℕ) (before : Bool) → is_opener_unclosed name before [] ≡ before
-unfolding is_opener_unclosed
-left_none name before = refl
+-- an opener is unclosed in the rest of a value, or one was before and the rest doesn't close it
+unfoldable pub is_opener_left : List ℕ → Bool → List ℕ → Bool
+is_opener_left name found rest = (found && not (list_any (λ c. c == close_value) rest)) || is_opener_unclosed name rest
 
-module _ (name : List ℕ) (before : Bool) (b : ℕ) (bs : List ℕ) where
-  pub left_closed : nat_eq b close_value ≡ true → is_opener_unclosed name before (b ∷ bs) ≡ is_opener_unclosed name false bs
-  unfolding is_opener_unclosed
-  left_closed h = rw h refl
+pub left_new : (name value : List ℕ) → is_opener_left name false value ≡ is_opener_unclosed name value
+unfolding is_opener_left
+left_new name value = refl
 
-  pub left_here : nat_eq b close_value ≡ false → starts_with ◌==◌ (b ∷ bs) name ≡ true → is_opener_unclosed name before (b ∷ bs) ≡ is_opener_unclosed name true bs
-  unfolding is_opener_unclosed
-  left_here h some = rw (h, some) refl
+pub left_none : (name : List ℕ) (found : Bool) → is_opener_left name found [] ≡ found
+unfolding is_opener_left is_opener_unclosed
+left_none name false = refl
+left_none name true = refl
 
-  pub left_further : nat_eq b close_value ≡ false → starts_with ◌==◌ (b ∷ bs) name ≡ false → is_opener_unclosed name before (b ∷ bs) ≡ is_opener_unclosed name before bs
-  unfolding is_opener_unclosed
-  left_further h none = rw (h, none) refl
+twice : (a b : Bool) → (a || (a || b)) ≡ (a || b)
+twice false b = refl
+twice true b = refl
+
+module _ (name : List ℕ) (b : ℕ) (bs : List ℕ) where
+  pub left_closed : (found : Bool) → nat_eq b close_value ≡ true → is_opener_left name found (b ∷ bs) ≡ is_opener_left name false bs
+  unfolding is_opener_left is_opener_unclosed
+  left_closed found h = rw (h, and-false found, and-false (starts_with ◌==◌ (b ∷ bs) name)) refl
+
+  pub left_here : (found : Bool) → nat_eq b close_value ≡ false → starts_with ◌==◌ (b ∷ bs) name ≡ true → is_opener_left name found (b ∷ bs) ≡ is_opener_left name true bs
+  unfolding is_opener_left is_opener_unclosed
+  left_here false h some = rw (h, some) refl
+  left_here true h some = rw (h, some) (twice (not (list_any (λ c. c == close_value) bs)) (is_opener_unclosed name bs))
+
+  pub left_further : (found : Bool) → nat_eq b close_value ≡ false → starts_with ◌==◌ (b ∷ bs) name ≡ false → is_opener_left name found (b ∷ bs) ≡ is_opener_left name found bs
+  unfolding is_opener_left is_opener_unclosed
+  left_further found h none = rw (h, none) refl

@@ -1,6 +1,6 @@
 -- What is likely wrong in a problem: that nobody says who moves, a comment that goes on too far, points that nobody can fill, stones that
 -- can be taken where nobody can play again, stones that nobody marked, and a region that is too wide.
-use Rattle.std.specs.Prelude.{ℕ, ◌/◌, ◌%◌, ◌&&◌, ◌||◌, ◌==◌, nat_eq, nat_lt, Bool, false, List, [], ◌∷◌, ◌++◌, codes, decimal, if◌then◌else◌}
+use Rattle.std.specs.Prelude.{ℕ, ◌/◌, ◌%◌, ◌&&◌, ◌||◌, ◌==◌, not, nat_eq, nat_lt, Bool, false, List, [], ◌∷◌, ◌++◌, codes, decimal, if◌then◌else◌}
 use Rattle.std.specs.List.{flat_map, list_any, range_with_len, starts_with}
 use lib.Pointwise.{pointwise}
 use Rattle.std.specs.FinSet as set
@@ -127,14 +127,14 @@ missing_mover_line ns = if is_side_to_move_given false ns then [] else codes "hi
 
 -- ---- comments that go on too far
 
--- whether these bytes, which open something, stand in a value without a `]` behind them; or whether some did before
-unfoldable pub is_opener_unclosed : List ℕ → Bool → List ℕ → Bool
-is_opener_unclosed name before [] = before
-is_opener_unclosed name before (b ∷ bs) = is_opener_unclosed name (if nat_eq b close_value then false else (starts_with ◌==◌ (b ∷ bs) name || before)) bs
+-- whether these bytes, which open something, stand in a value without a `]` behind them: a suffix begins with them and has none
+unfoldable pub is_opener_unclosed : List ℕ → List ℕ → Bool
+is_opener_unclosed name [] = false
+is_opener_unclosed name (b ∷ bs) = (starts_with ◌==◌ (b ∷ bs) name && not (list_any (λ c. c == close_value) (b ∷ bs))) || is_opener_unclosed name bs
 
 -- a comment with such bytes: its `]` is likely missing, and the property or the tree behind has become a part of it
 abbrev pub is_unclosed_comment : List ℕ → Property → Bool
-is_unclosed_comment name p = pointwise ◌==◌ p.ident (codes "C") && list_any (is_opener_unclosed name false) p.values
+is_unclosed_comment name p = pointwise ◌==◌ p.ident (codes "C") && list_any (is_opener_unclosed name) p.values
 
 abbrev pub has_unclosed_comment : List ℕ → Node → Bool
 has_unclosed_comment name n = list_any (is_unclosed_comment name) n.properties
@@ -145,5 +145,5 @@ unclosed_comment_line name ns = if list_any (has_unclosed_comment name) ns then 
 -- the lines on who moves, the marks, the stones and the next tree
 abbrev pub unclosed_comment_lines : List Node → List ℕ
 unclosed_comment_lines ns =
-    unclosed_comment_line (codes "PL[") ns ++ (unclosed_comment_line (codes "TR[") ns ++ (unclosed_comment_line (codes "SQ[") ns ++ (unclosed_comment_line (codes "AB[") ns ++ (unclosed_comment_line (codes "AW[") ns
-    ++ unclosed_comment_line (codes "(;") ns))))
+    unclosed_comment_line (codes "PL[") ns ++ (unclosed_comment_line (codes "TR[") ns ++ (unclosed_comment_line (codes "SQ[") ns
+    ++ (unclosed_comment_line (codes "AB[") ns ++ (unclosed_comment_line (codes "AW[") ns ++ unclosed_comment_line (codes "(;") ns))))

@@ -329,9 +329,9 @@ pub fn put_missing_mover_line(out: &mut Vec<u8>, nodes: &[Node]) -> Result<(), N
 }
 
 /// Whether these bytes, which open something, stand in a value without a `]` behind them.
-#[tactic(auto, using(crate::proofs::Said::left_none, crate::proofs::Said::left_closed, crate::proofs::Said::left_here, crate::proofs::Said::left_further))]
+#[tactic(auto, using(crate::proofs::Said::left_new, crate::proofs::Said::left_none, crate::proofs::Said::left_closed, crate::proofs::Said::left_here, crate::proofs::Said::left_further))]
 fn is_opener_unclosed(name: &[u8], value: &[u8]) -> bool
-    ensures { result ≡ is_opener_unclosed name.now false value.now }
+    ensures { result ≡ is_opener_unclosed name.now value.now }
 {
     let mut found = false;
     let mut rest = value;
@@ -348,7 +348,7 @@ fn is_opener_unclosed(name: &[u8], value: &[u8]) -> bool
 
 /// Whether such bytes stand in a value of a property.
 fn has_unclosed_opener(property: &Property, name: &[u8]) -> bool
-    ensures { result ≡ list_any (is_opener_unclosed name.now false) property.now.values }
+    ensures { result ≡ list_any (is_opener_unclosed name.now) property.now.values }
 {
     let values = property.values.as_slice();
     values
