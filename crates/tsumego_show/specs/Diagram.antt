@@ -1,7 +1,7 @@
 -- The diagram of a problem as SVG 1.1: black and white as in books, the part of the board that matters, with the coordinates of
 -- editors. A cell is 24 wide; the middle of the first one is at 36, 36.
-use Rattle.std.specs.Prelude.{ℕ, zero, suc, ◌+◌, ◌-◌, ◌*◌, ◌%◌, ◌&&◌, ◌||◌, not, max, min, nat_eq, nat_lt, Bool, true, false, List, [], ◌∷◌, ◌++◌, codes, decimal, Option, Some, None, if◌then◌else◌}
-use Rattle.std.specs.List.{flat_map, range_with_len}
+use Rattle.std.specs.Prelude.{ℕ, zero, suc, ◌+◌, ◌-◌, ◌*◌, ◌%◌, ◌&&◌, ◌||◌, not, max, min, nat_eq, nat_lt, Bool, true, false, List, [], ◌∷◌, ◌++◌, length, codes, decimal, Option, Some, None, if◌then◌else◌}
+use Rattle.std.specs.List.{enumerate_from, filter, flat_map, range_with_len}
 use Rattle.std.specs.FinSet as set
 use Rattle.tt_sgf.specs.declared.size.Size.{Size}
 use Rattle.tt_sgf.specs.Sizes.{point_count}
@@ -271,19 +271,13 @@ unfoldable pub note_head : ℕ → ℕ → ℕ → List ℕ
 note_head x y n = codes "<text x='" ++ (decimal x ++ (codes "' y='" ++ (decimal y ++ (codes "'>" ++ (decimal n ++ codes " at ")))))
 
 module _ (p : LineWithUndo) (plays : List ℕ) where
-  -- `7 at 1`, or `5 at B6`
-  unfoldable pub note : ℕ → ℕ → ℕ → ℕ → List ℕ
-  note x y n q = note_head x y n ++ (noted_point_text p.frame.size q (number_on_point p plays q) ++ codes "</text>\n")
+  -- the plays that have a note, with their numbers
+  abbrev pub noted_plays : List (ℕ × ℕ)
+  noted_plays = filter (λ m. has_note m.0 (number_on_point p plays m.1)) (enumerate_from 1 plays)
 
-  -- how many of the plays from number n on have a note
-  abbrev pub note_count : ℕ → List ℕ → ℕ
-  note_count n [] = 0
-  note_count n (q ∷ qs) = if has_note n (number_on_point p plays q) then note_count (n + 1) qs + 1 else note_count (n + 1) qs
-
-  -- their notes, from y on downwards
-  abbrev pub notes : ℕ → ℕ → ℕ → List ℕ → List ℕ
-  notes x y n [] = []
-  notes x y n (q ∷ qs) = if has_note n (number_on_point p plays q) then note x y n q ++ notes x (y + 14) (n + 1) qs else notes x y (n + 1) qs
+  -- `7 at 1`, or `5 at B6`: the note with this number below y
+  unfoldable pub note : ℕ → ℕ → ℕ × (ℕ × ℕ) → List ℕ
+  note x y (i, (n, q)) = note_head x (y + 14 * i) n ++ (noted_point_text p.frame.size q (number_on_point p plays q) ++ codes "</text>\n")
 
 -- ---- the document
 
@@ -297,9 +291,9 @@ module _ (p : LineWithUndo) (plays : List ℕ) (w : Window) where
 
   abbrev pub svg_of_window : Option Side → List ℕ
   svg_of_window winner =
-      svg_head (width w) (height w + 14 * note_count p plays 1 plays) ++ (flat_map (column_line_and_letter p.frame.size w) (range_with_len 0 (shown_column_count w))
+      svg_head (width w) (height w + 14 * length (noted_plays p plays)) ++ (flat_map (column_line_and_letter p.frame.size w) (range_with_len 0 (shown_column_count w))
       ++ (flat_map (row_line_and_number p.frame.size w) (range_with_len 0 (shown_row_count w)) ++ (flat_map row_points_shapes (range_with_len 0 (shown_row_count w))
-      ++ (caption p winner w ++ (notes p plays (document_centre w) (caption_baseline w + 14) 1 plays ++ codes "</svg>\n")))))
+      ++ (caption p winner w ++ (flat_map (note p plays (document_centre w) (caption_baseline w)) (enumerate_from 1 (noted_plays p plays)) ++ codes "</svg>\n")))))
 
 -- the problem with these plays, numbered from 1 on, and with who wins, where that is said
 abbrev pub svg_text : LineWithUndo → List ℕ → Option Side → List ℕ

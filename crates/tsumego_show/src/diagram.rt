@@ -1,13 +1,13 @@
 //! The diagram of a problem as SVG.
-ghost use Rattle.std.specs.Prelude.{◌≡◌, ◌++◌, ◌<◌, ◌≤◌, OnOk, codes};
-ghost use Rattle.std.specs.List.{flat_map, range_with_len};
+ghost use Rattle.std.specs.Prelude.{◌≡◌, ◌++◌, ◌<◌, ◌≤◌, OnOk, codes, length};
+ghost use Rattle.std.specs.List.{enumerate_from, flat_map, range_with_len};
 ghost use Rattle.tt_sgf.specs.Sizes.{point_count};
 ghost use Rattle.tt_board.specs.Reach.{entry_at};
 ghost use Rattle.tt_game.specs.Game.{side_colour};
 ghost use Rattle.tsumego_show.specs.inside.Plays.{AreNumberedPlays};
 ghost use Rattle.tsumego_show.specs.inside.Windows.{IsWindow};
 ghost use Rattle.tsumego_show.specs.Diagram.{grid_bottom, caption, cell_shapes, document_centre, column_line_and_letter, numbered_stone_colour, column_path_and_text_head, shown_column_count, stone_number_text, stone_if_any_text, numbered_stone_if_any, grid_overhang, has_square, fill_colour};
-ghost use Rattle.tsumego_show.specs.Diagram.{square_fill, mark_colour, mark_text, has_note, note, note_count, note_head, noted_point_text, notes, number_end, number_head, first_play_number_at, number_on_point, numbered_stone, point_shapes, row_points_shapes, grid_right, row_line_and_number, row_path_and_text, shown_row_count, square_text, stone_head, stone_text};
+ghost use Rattle.tsumego_show.specs.Diagram.{square_fill, mark_colour, mark_text, has_note, note, note_head, noted_plays, noted_point_text, number_end, number_head, first_play_number_at, number_on_point, numbered_stone, point_shapes, row_points_shapes, grid_right, row_line_and_number, row_path_and_text, shown_row_count, square_text, stone_head, stone_text};
 ghost use Rattle.tsumego_show.specs.Diagram.{svg_head, svg_text, triangle_head, triangle_text, winner_text};
 ghost use Rattle.tsumego_show.specs.Picture.{colour_name};
 
@@ -615,7 +615,7 @@ fn has_note(n: usize, on_point: Option<usize>) -> bool
 /// How many plays have a note.
 fn note_count(line: &Line, plays: &[usize]) -> usize
     requires { AreNumberedPlays line.now.frame.size plays.now }
-    ensures value { result ≡ note_count line.now plays.now 1 plays.now }
+    ensures value { result ≡ length (noted_plays line.now plays.now) }
     ensures most { result ≤ 99 }
 {
     let mut count = 0;
@@ -663,7 +663,7 @@ fn put_noted_point(
     }
 }
 
-/// Writes the note of the play with number n on a point behind the text.
+/// Writes the note with number i below y, of the play with number n on a point, behind the text.
 #[tactic(auto, unfolding(crate::specs::Diagram::note))]
 fn put_note(
     alloc: Global,
@@ -672,13 +672,16 @@ fn put_note(
     plays: &[usize],
     x: usize,
     y: usize,
+    i: usize,
     n: usize,
     number: usize,
 ) -> Result<(), NoMemory>
-    requires { number < point_count line.now.frame.size }
-    ensures { OnOk result (out.new.items ≡ out.old.items ++ note line.now plays.now x y n number) }
+    requires on_board { number < point_count line.now.frame.size }
+    requires y { y ≤ 1000 }
+    requires i { i ≤ 99 }
+    ensures { OnOk result (out.new.items ≡ out.old.items ++ note line.now plays.now x y (i, (n, number))) }
 {
-    put_note_head(alloc, out, x, y, n)?;
+    put_note_head(alloc, out, x, y + 14 * i, n)?;
     put_noted_point(
         alloc,
         out,
@@ -690,7 +693,7 @@ fn put_note(
     Ok(())
 }
 
-/// Writes the notes behind the text, from y on downwards.
+/// Writes the notes behind the text, one below the other, below y.
 fn put_notes(
     alloc: Global,
     out: &mut Vec<u8>,
@@ -701,13 +704,13 @@ fn put_notes(
 ) -> Result<(), NoMemory>
     requires plays { AreNumberedPlays line.now.frame.size plays.now }
     requires y { y ≤ 1000 }
-    ensures { OnOk result (out.new.items ≡ out.old.items ++ notes line.now plays.now x y 1 plays.now) }
+    ensures { OnOk result (out.new.items ≡ out.old.items ++ flat_map (note line.now plays.now x y) (enumerate_from 1 (noted_plays line.now plays.now))) }
 {
-    let mut below = y;
+    let mut count = 0;
     for i in 0..plays.len() {
         if has_note(i + 1, number_on_point(line, plays, plays[i])) {
-            put_note(alloc, out, line, plays, x, below, i + 1, plays[i])?;
-            below += 14;
+            count += 1;
+            put_note(alloc, out, line, plays, x, y, count, i + 1, plays[i])?;
         }
     }
     Ok(())
@@ -737,7 +740,7 @@ pub fn put_svg(
     put_row_lines_and_numbers(alloc, out, size, w)?;
     put_all_points_shapes(alloc, out, line, plays, w)?;
     put_caption(alloc, out, line, winner, w)?;
-    put_notes(alloc, out, line, plays, x, extent + 86)?;
+    put_notes(alloc, out, line, plays, x, extent + 72)?;
     out.extend_from_slice(b"</svg>\n")?;
     Ok(())
 }
