@@ -9,7 +9,7 @@ use tt_sgf::number;
 
 /// What a line of words has to be.
 pub const USAGE: &str =
-    "write tsumego-show < FILE, tsumego-show --svg < FILE, tsumego-show --sgf [--depth N] < FILE, with N from 1 to 512, or tsumego-show --mark [POINT] < FILE, with a stone as POINT: C18 or cb";
+    "write tsumego-show < FILE, tsumego-show --svg < FILE, tsumego-show --sgf [--depth N] < FILE, with N from 1 to 512, or tsumego-show --mark [POINT] < FILE, with a stone as POINT: C18 or cb. Editors' columns have no I, and rows are 1 to 19";
 
 /// The column that a capital letter names in editors, who leave out I.
 fn column_of_editor_letter(letter: u8) -> Option<usize>
