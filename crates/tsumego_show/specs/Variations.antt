@@ -98,6 +98,11 @@ abbrev pub kept_property : List ℕ → List Node → List ℕ
 kept_property name [] = []
 kept_property name (n ∷ ns) = first_value_text name (values_of name n.properties)
 
+-- its comment, where this text of a strategy is empty or begins with a variation: else it begins with a comment, and a node has one at most
+abbrev pub kept_comment : List Node → List ℕ → List ℕ
+kept_comment ns [] = kept_property (codes "C") ns
+kept_comment ns (b ∷ bs) = if nat_eq b newline then kept_property (codes "C") ns else []
+
 -- ---- the variations
 
 -- the point of a play, and nothing for a pass
@@ -190,7 +195,8 @@ module _ (p : LineWithUndo) where
   strategy_variations depth no_strategy = []
   strategy_variations depth (found side u) = variations p.frame p.state u (shown_depth depth u)
 
-  -- the problem of these nodes with the game's name, in its character set, and the strategy that was found, to so many turns deep at the most
+  -- the problem of these nodes with the game's name and the comment, in their character set, and the strategy that was found, to so many turns deep at the most
   abbrev pub sgf_text : List Node → ℕ → List ℕ → FollowingStrategy → List ℕ
   sgf_text ns depth without b =
-      root_text p ++ (kept_property (codes "CA") ns ++ (kept_property (codes "GN") ns ++ (name_property without b ++ (strategy_variations depth b ++ codes ")\n"))))
+      root_text p ++ (kept_property (codes "CA") ns ++ (kept_property (codes "GN") ns ++ (name_property without b
+      ++ (kept_comment ns (strategy_variations depth b) ++ (strategy_variations depth b ++ codes ")\n")))))

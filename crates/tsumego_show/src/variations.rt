@@ -7,13 +7,15 @@ ghost use Rattle.tt_game.specs.Nodes.{values_of};
 ghost use Rattle.tt_proof.specs.Strategy.{AreInOrder, IsInOrder, IsTurnOnBoardOfSize, entries_of_reply, strategy_of};
 ghost use Rattle.tsumego_show.specs.inside.Trees.{found_of};
 ghost use Rattle.tsumego_show.specs.Picture.{colour_name};
-ghost use Rattle.tsumego_show.specs.Variations.{bracketed, colour_letter, cut_comment, ending_text, strategy_variations, game_text, is_point_written, variation_if_legal, first_value_text, kept_property, list_property_name, point_list_property, listed_value, listed_values};
+ghost use Rattle.tsumego_show.specs.Variations.{bracketed, colour_letter, cut_comment, ending_text, strategy_variations, game_text, is_point_written, variation_if_legal, first_value_text, kept_comment, kept_property, list_property_name, point_list_property, listed_value, listed_values};
 ghost use Rattle.tsumego_show.specs.Variations.{move_value_text, variation_head, mover_property, name_property, turns_or_ending, owner_or_words_text, reply_variations, root_text, sgf_text, size_text, variations, why_won, won_text};
 
 use crate::depths::shown_depth;
 use crate::diagram::has_square;
 use crate::node_values::first_value;
-use crate::picture::{colour_name, earlier_position_count, put_earlier_position_count, side_colour};
+use crate::picture::{
+    colour_name, earlier_position_count, put_earlier_position_count, side_colour,
+};
 use crate::points::{has_stone_of_colour, is_target, point_numbered};
 use std::alloc::Global;
 use tt_board::Colour;
@@ -215,6 +217,16 @@ fn put_kept_property(out: &mut Vec<u8>, name: &[u8], nodes: &[Node]) -> Result<(
     match nodes.first() {
         Some(node) => put_first_value(out, name, node.properties.as_slice()),
         None => Ok(()),
+    }
+}
+
+/// Writes the comment of the first node behind the text, where this text of a strategy has none for the node.
+fn put_kept_comment(out: &mut Vec<u8>, nodes: &[Node], variations: &[u8]) -> Result<(), NoMemory>
+    ensures { OnOk result (out.new.items ≡ out.old.items ++ kept_comment nodes.now variations.now) }
+{
+    match variations.first() {
+        None | Some(b'\n') => put_kept_property(out, b"C", nodes),
+        Some(_) => Ok(()),
     }
 }
 
@@ -465,7 +477,10 @@ pub fn put_sgf(
     put_kept_property(out, b"CA", nodes)?;
     put_kept_property(out, b"GN", nodes)?;
     put_name_property(alloc, out, line, without, found)?;
-    put_variations(out, line, found, depth)?;
+    let mut variations = Vec::new(alloc);
+    put_variations(&mut variations, line, found, depth)?;
+    put_kept_comment(out, nodes, variations.as_slice())?;
+    out.extend_from_slice(variations.as_slice())?;
     out.extend_from_slice(b")\n")?;
     Ok(())
 }
