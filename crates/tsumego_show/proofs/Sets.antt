@@ -1,6 +1,9 @@
 -- Sets that are made point by point and step by step, and proposals.
-use Rattle.std.proofs.Common.{◌≡◌, ℕ, zero, suc, ◌+◌, ◌-◌, ◌/◌, ◌%◌, ◌<◌, ◌≤◌, Bool, true, false, None, inl, inr, refl, sym, ap, subst, ◌∙◌, arith}
-use Rattle.std.proofs.lemmas.Bool.{cases_eq, ne_eqb, false≢true}
+use Rattle.std.proofs.Common.{◌≡◌, ℕ, zero, suc, ◌+◌, ◌-◌, ◌/◌, ◌%◌, ◌<◌, ◌≤◌, Bool, true, false, not, nat_le, ◌||◌, None, inl, inr, refl, sym, ap, subst, ◌∙◌, arith, zero-add}
+use Rattle.std.specs.List.{list_any, range_with_len}
+use Rattle.std.proofs.lemmas.Bool.{cases_eq, cases_lt, false_from_ne_true, le-leb, lt-leb, ne_eqb, false≢true}
+use Rattle.std.proofs.lemmas.List.Folds.{list_any_at}
+use Rattle.std.proofs.lemmas.List.FromFn.{length-range_with_len, get_or-range_with_len}
 use Rattle.std.proofs.lemmas.Nat.{div-add-mod', div_below, mul-add-lt}
 use Rattle.std.specs.Cmp.{nat_cmp_total, unsigned_tied}
 use Rattle.std.specs.Ordering.{nat_cmp}
@@ -112,3 +115,21 @@ one_lies size q h = λ p held. elim (cases_eq p q) [
   | inl e ↦ rw e h
   | inr d ↦ absurd (false≢true (sym (set.contains-insert nat_cmp_total set.empty q p ∙ rw (unsigned_tied p q, ne_eqb p q d, set.contains-empty nat_cmp p) refl) ∙ held))
 ]
+
+-- a test that no number passes
+none_passes : (f : ℕ → Bool) (a n : ℕ) → ((r : ℕ) → r < a + n → f r ≡ false) → list_any f (range_with_len a n) ≡ false
+none_passes f a zero h = refl
+none_passes f a (suc n) h = ap (λ b. b || list_any f (range_with_len (a + 1) n)) (h a (omega arith)) ∙ none_passes f (a + 1) n (λ r l. h r (omega arith))
+
+-- a set has a number below q where its least is one
+pub first_by_least : (s : PointNumberSet) (p q : ℕ) → set.contains s p ≡ true → ((r : ℕ) → set.contains s r ≡ true → p ≤ r)
+    → nat_le q p ≡ not (list_any (set.contains s) (range_with_len 0 q))
+first_by_least s p q held least = elim (cases_lt p q) [
+  | inl low ↦ let e : list_any (set.contains s) (range_with_len 0 q) ≡ true =
+      list_any_at (set.contains s) (range_with_len 0 q) p 0 (omega (arith, low, length-range_with_len 0 q)) (ap (set.contains s) (get_or-range_with_len 0 q p 0 low ∙ zero-add p) ∙ held) in
+      lt-leb q p low ∙ sym (ap not e)
+  | inr high ↦ le-leb q p high ∙ sym (ap not (none_passes (set.contains s) 0 q (λ r l. false_from_ne_true _ (λ e. let far = least r e in omega arith))))
+]
+
+pub first_of_none : (s : PointNumberSet) (q : ℕ) → s ≡ set.empty → true ≡ not (list_any (set.contains s) (range_with_len 0 q))
+first_of_none s q e = sym (ap not (none_passes (set.contains s) 0 q (λ r l. ap (λ (t : PointNumberSet). set.contains t r) e ∙ set.contains-empty nat_cmp r)))

@@ -1,11 +1,12 @@
 -- The marks that are proposed for a problem without them, and what is written then.
-use Rattle.std.specs.Prelude.{ℕ, zero, suc, ◌+◌, ◌-◌, ◌*◌, ◌&&◌, ◌||◌, nat_eq, nat_lt, nat_le, Bool, true, false, if◌then◌else◌, Option, Some, None, Ok, Err}
+use Rattle.std.specs.Prelude.{ℕ, zero, suc, is_some, not, ◌+◌, ◌-◌, ◌*◌, ◌&&◌, ◌||◌, nat_eq, nat_lt, nat_le, Bool, true, false, if◌then◌else◌, Option, Some, None, Ok, Err}
 use Rattle.std.specs.Prelude.{List, [], ◌∷◌, ◌++◌, codes, decimal, drop, length, take, slice_get}
 use Rattle.std.specs.List.{list_any}
 use Rattle.std.specs.declared.result.Result.{Result}
 use Rattle.std.specs.FinSet as set
 use Rattle.tt_sgf.specs.declared.size.Size.{Size}
 use Rattle.tt_sgf.specs.declared.nodes.Node.{Node}
+use Rattle.tt_sgf.specs.Points.{passing}
 use Rattle.tt_sgf.specs.Sizes.{point_count}
 use Rattle.tt_board.specs.declared.Colour.{Colour}
 use Rattle.tt_board.specs.declared.Colour.TheVariants.{Black, White}
@@ -25,10 +26,10 @@ use Rattle.tsumego_show.specs.declared.mode.StonePlace.TheVariants.{FromAbove, F
 use Rattle.tsumego_show.specs.declared.mark_proposals.StoneWithPoints.{StoneWithPoints}
 use Rattle.tsumego_show.specs.declared.tree_bytes.LexicalState.TheVariants.{Outside}
 use Rattle.tsumego_show.specs.declared.variations.RootPointProperty.TheVariants.{Squares, Triangles}
-use Rattle.tsumego_show.specs.Hints.{both_point_names, unclosed_comment_lines, hints, missing_mover_line, point_names_line}
+use Rattle.tsumego_show.specs.Hints.{both_point_names, unclosed_comment_lines, hints, missing_mover_line, point_names_line, points_line_if_any}
 use Rattle.tsumego_show.specs.Picture.{colour_name}
 use Rattle.tsumego_show.specs.Refusals.{refusal_and_why_text, refusal_line}
-use Rattle.tsumego_show.specs.Regions.{nearby_empties, is_closed, is_inner, proposed_region, stones_of_colour, ways_out}
+use Rattle.tsumego_show.specs.Regions.{nearby_empties, chain, is_closed, is_first_of_chain, is_inner, proposed_region, stones_of_colour, ways_out}
 use Rattle.tsumego_show.specs.TreeBytes.{semicolon_end, from_first_parenthesis, tree_as_given}
 use Rattle.tsumego_show.specs.Variations.{point_list_property}
 
@@ -98,6 +99,23 @@ module _ (s : GameState) where
   -- the problem with a triangle on the stone, and squares on its region
   abbrev pub problem_with_proposal : StoneWithPoints → LineWithUndo
   problem_with_proposal m = posed_problem s m.points (set.insert set.empty m.stone) m.colour
+
+-- ---- which other groups are enclosed
+
+module _ (s : GameState) where
+  -- the stone on q, where one is there, isn't in this set, and is the first of a chain that is enclosed
+  abbrev pub is_first_of_other_enclosed_chain : PointNumberSet → ℕ → Option Colour → Bool
+  is_first_of_other_enclosed_chain known q None = false
+  is_first_of_other_enclosed_chain known q (Some k) = not (set.contains known q) && is_first_of_chain s.size s.present k q && is_some (proposal_if_closed s false q (Some k))
+
+  -- the first stones of the enclosed chains that are neither m's nor in its region
+  unfoldable pub other_enclosed_chains : StoneWithPoints → PointNumberSet
+  other_enclosed_chains m = passing (λ q. is_first_of_other_enclosed_chain (set.union (chain s.size s.present m.colour m.stone) m.points) q (entry_at s.present q)) (point_count s.size)
+
+  -- they are told where nobody named a stone of the group
+  abbrev pub other_enclosed_chains_line : Option StonePlace → StoneWithPoints → List ℕ
+  other_enclosed_chains_line (Some place) m = []
+  other_enclosed_chains_line None m = points_line_if_any s.size (codes "hint: other groups are enclosed too: name a stone of the one that is meant:") (other_enclosed_chains m)
 
 -- ---- which group is open least
 
@@ -193,7 +211,7 @@ module _ (s : GameState) where
   -- what is written of the game with this mark in the node of this number, or without one
   abbrev pub proposal_or_reason : Bool → Option StonePlace → ℕ → ℕ → List ℕ → Option StoneWithPoints → List ℕ
   proposal_or_reason is_squared place k n tree None = refusal_line k (code_of NoTarget) ++ (codes "why: " ++ (why_unmarked is_squared place ++ tree_as_given tree))
-  proposal_or_reason is_squared place k n tree (Some m) = hints_and_marked_tree n (problem_with_proposal s m) tree
+  proposal_or_reason is_squared place k n tree (Some m) = other_enclosed_chains_line s place m ++ hints_and_marked_tree n (problem_with_proposal s m) tree
 
 -- what is written of a main line without triangles: up to where it asks it comes to a game, and perhaps nobody says who moves there, and
 -- comments go on too far; or it is refused

@@ -1,6 +1,7 @@
 -- The region that is proposed for the chain of a stone: what is inside the wall. The wall are the stones of the other colour that can't be
 -- taken from inside.
-use Rattle.std.specs.Prelude.{ℕ, zero, suc, ◌+◌, ◌-◌, ◌%◌, ◌&&◌, ◌||◌, nat_le, nat_lt, Bool}
+use Rattle.std.specs.Prelude.{ℕ, zero, suc, ◌+◌, ◌-◌, ◌%◌, ◌&&◌, ◌||◌, nat_le, nat_lt, Bool, not}
+use Rattle.std.specs.List.{list_any, range_with_len}
 use Rattle.std.specs.FinSet as set
 use Rattle.tt_sgf.specs.declared.size.Size.{Size}
 use Rattle.tt_sgf.specs.Points.{passing}
@@ -60,6 +61,10 @@ module _ (size : Size) (c : Colouring) where
     module _ (q : ℕ) where
       unfoldable pub chain : PointNumberSet
       chain = reached size (stones_of_colour k) (set.insert set.empty q)
+
+      -- no lower point is in its chain
+      abbrev pub is_first_of_chain : Bool
+      is_first_of_chain = not (list_any (set.contains chain) (range_with_len 0 q))
 
       -- the wall: first all stones of the other colour, then, so many times, those that can't be taken from inside
       unfoldable pub wall_after : ℕ → PointNumberSet

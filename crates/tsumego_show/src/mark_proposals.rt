@@ -2,11 +2,11 @@
 ghost use Rattle.std.specs.Prelude.{◌≡◌, ℕ, ◌<◌, IfSome};
 ghost use Rattle.tt_sgf.specs.Sizes.{point_count};
 ghost use Rattle.tt_board.specs.Reach.{entry_at};
-ghost use Rattle.tsumego_show.specs.Marking.{proposal_for_place, proposal_if_closed, proposal_for_point, one_with_fewer_points, fewest_squares_proposal, stone_with_fewest_ways_out, ways_out_at, point_of_place, point_if_on_board, proposal_unless_squared};
+ghost use Rattle.tsumego_show.specs.Marking.{proposal_for_place, proposal_if_closed, proposal_for_point, one_with_fewer_points, fewest_squares_proposal, stone_with_fewest_ways_out, ways_out_at, point_of_place, point_if_on_board, proposal_unless_squared, is_first_of_other_enclosed_chain, other_enclosed_chains};
 
 use crate::mode::StonePlace;
 use crate::points::point_numbered;
-use crate::regions::{proposed_region, ways_out};
+use crate::regions::{chain, is_first_of_chain, proposed_region, ways_out};
 use tt_board::Colour;
 use tt_game::Game;
 use tt_sgf::{Point, PointSet, Size};
@@ -140,6 +140,36 @@ pub fn proposal_unless_squared(
         return None;
     }
     proposal_for_place(game, place)
+}
+
+/// Whether the stone on a point, where one is there, isn't in the set, and is the first of a chain that is enclosed.
+fn is_first_of_other_enclosed_chain(game: &Game, known: &PointSet, stone: Point) -> bool
+    requires { stone < point_count game.now.size }
+    ensures { result ≡ is_first_of_other_enclosed_chain game.now known.now stone (entry_at game.now.present stone) }
+{
+    let Some(colour) = game.present().at(stone) else {
+        return false;
+    };
+    !known.has(stone)
+        && is_first_of_chain(game.present(), colour, stone)
+        && proposal_if_closed(game, false, stone).is_some()
+}
+
+/// The first stones of the enclosed chains that are neither that of a mark nor in its region.
+#[tactic(auto, using(crate::proofs::Sets::none_passed, crate::proofs::Sets::one_in, crate::proofs::Sets::one_out), unfolding(crate::specs::Marking::other_enclosed_chains))]
+pub fn other_enclosed_chains(game: &Game, mark: &StoneWithPoints) -> PointSet
+    ensures { result ≡ other_enclosed_chains game.now mark.now }
+{
+    let size = game.size();
+    let known = chain(game.present(), mark.colour, mark.stone).or(&mark.points);
+    let mut made = PointSet::empty();
+    for number in 0..size.point_count() {
+        let point = point_numbered(size, number);
+        if is_first_of_other_enclosed_chain(game, &known, point) {
+            made = made.with(point);
+        }
+    }
+    made
 }
 
 /// The stone on a point with its ways out, where a stone is there and has some.

@@ -6,7 +6,7 @@ ghost use Rattle.tt_board.specs.declared.Colour.TheVariants.{Black, White};
 ghost use Rattle.tt_board.specs.Reach.{entry_at};
 ghost use Rattle.tt_game.specs.Nodes.{SQ, TR, has};
 ghost use Rattle.tt_game.specs.Problems.{node_count_before_solution, game_of};
-ghost use Rattle.tsumego_show.specs.Marking.{nodes_before_solution, chain_name, game_marked_or_kept, is_some_with_property, is_proposal_missing, is_last_problem_node_squared, is_colour_on_board, has_triangles, is_game_left_unmarked, is_left_unmarked};
+ghost use Rattle.tsumego_show.specs.Marking.{nodes_before_solution, chain_name, game_marked_or_kept, other_enclosed_chains_line, is_some_with_property, is_proposal_missing, is_last_problem_node_squared, is_colour_on_board, has_triangles, is_game_left_unmarked, is_left_unmarked};
 ghost use Rattle.tsumego_show.specs.Marking.{tree_marked_or_kept, problem_with_proposal, no_enclosed_group_text, hints_and_marked_tree, unsquared_triangle_node, off_board_line, open_group_line, open_text, ways_out_or_nearby_text, kept_problem_text, proposal_unless_squared, why_no_group_enclosed, chain_and_ways_out_text, why_unmarked_at_point};
 ghost use Rattle.tsumego_show.specs.Marking.{why_unmarked, why_unmarked_at_place, why_unmarked_or_off_board, proposal_or_reason, tree_with_marks, unsquared_node_line};
 ghost use Rattle.tsumego_show.specs.Refusals.{refusal_and_why_text};
@@ -14,10 +14,11 @@ ghost use Rattle.tsumego_show.specs.TreeBytes.{tree_as_given};
 
 use crate::hints::{
     put_both_point_names, put_hints, put_missing_mover_line, put_point_names_line,
-    put_unclosed_comment_lines,
+    put_points_line_if_any, put_unclosed_comment_lines,
 };
 use crate::mark_proposals::{
-    StoneWithPoints, point_of_place, proposal_unless_squared, stone_with_fewest_ways_out,
+    StoneWithPoints, other_enclosed_chains, point_of_place, proposal_unless_squared,
+    stone_with_fewest_ways_out,
 };
 use crate::mode::StonePlace;
 use crate::node_values::has_property;
@@ -332,6 +333,28 @@ fn put_game_with_proposal(
     put_hints_and_marked_tree(alloc, out, &line, number, tree)
 }
 
+/// Writes which other groups are enclosed than that of a mark, where nobody named a stone, behind the text.
+fn put_other_enclosed_chains_line(
+    alloc: Global,
+    out: &mut Vec<u8>,
+    game: &Game,
+    place: Option<StonePlace>,
+    mark: &StoneWithPoints,
+) -> Result<(), NoMemory>
+    ensures { OnOk result (out.new.items ≡ out.old.items ++ other_enclosed_chains_line game.now place mark.now) }
+{
+    if place.is_some() {
+        return Ok(());
+    }
+    put_points_line_if_any(
+        alloc,
+        out,
+        game.size(),
+        b"hint: other groups are enclosed too: name a stone of the one that is meant:",
+        &other_enclosed_chains(game, mark),
+    )
+}
+
 /// Writes a tree with the mark for a stone of its game behind the text, or why there is none, and says whether there is none.
 fn put_proposal_or_reason(
     alloc: Global,
@@ -351,6 +374,7 @@ fn put_proposal_or_reason(
     match proposal_unless_squared(&game, is_squared, place) {
         Some(mark) => {
             let node = node_count_before_solution(nodes);
+            put_other_enclosed_chains_line(alloc, out, &game, place, &mark)?;
             put_game_with_proposal(alloc, out, game, mark, node, tree)?;
             Ok(false)
         }

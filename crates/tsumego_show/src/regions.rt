@@ -1,7 +1,7 @@
 //! The region that is proposed for the chain of a stone.
 ghost use Rattle.std.specs.Prelude.{◌≡◌, ◌<◌};
 ghost use Rattle.tt_sgf.specs.Sizes.{point_count};
-ghost use Rattle.tsumego_show.specs.Regions.{nearby_empties, chain, empties, reached_within_wall, is_closed, is_inner, is_adjacent_to, adjacent_points, reached, reached_in_steps, proposed_region, stones_of_colour, chains_with_liberty_outside, wall, ways_out};
+ghost use Rattle.tsumego_show.specs.Regions.{nearby_empties, chain, empties, reached_within_wall, is_closed, is_first_of_chain, is_inner, is_adjacent_to, adjacent_points, reached, reached_in_steps, proposed_region, stones_of_colour, chains_with_liberty_outside, wall, ways_out};
 
 use crate::points::{has_point_numbered, point_numbered};
 use tt_board::{Board, Colour};
@@ -104,11 +104,21 @@ pub fn reached(size: Size, passable: &PointSet, start: PointSet) -> PointSet
 
 /// The chain of a stone of this colour.
 #[tactic(auto, unfolding(crate::specs::Regions::chain))]
-fn chain(board: &Board, colour: Colour, stone: Point) -> PointSet
+pub fn chain(board: &Board, colour: Colour, stone: Point) -> PointSet
     ensures { result ≡ chain board.now.size board.now.points colour stone }
 {
     let passable = stones_of_colour(board, colour);
     reached(board.size(), &passable, PointSet::empty().with(stone))
+}
+
+/// Whether no lower point than that of a stone of this colour is in its chain.
+pub fn is_first_of_chain(board: &Board, colour: Colour, stone: Point) -> bool
+    ensures { result ≡ is_first_of_chain board.now.size board.now.points colour stone }
+{
+    match chain(board, colour, stone).least() {
+        Some(first) => stone.number() <= first.number(),
+        None => true,
+    }
 }
 
 /// What is reached from a point without passing a wall.
