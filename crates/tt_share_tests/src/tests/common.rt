@@ -8,7 +8,7 @@ use std::test::Fail;
 use std::thread::Threads;
 use tt_game::{Line, Side, Turn, problem};
 use tt_proof::{Proof, put_turn, read_cert, write_cert};
-use tt_search::{End, AlwaysGranting, Limits, NoStore, Reason, Search};
+use tt_search::{AlwaysGranting, End, Limits, NoStore, Reason, Search};
 use tt_sgf::{Size, read_tree};
 use tt_share::{Answer, CertLog, Gate, Stuck, solve};
 

@@ -7,7 +7,7 @@ use std::test::Fail;
 use std::thread;
 use std::thread::Threads;
 use tt_sgf::NoMemory;
-use tt_share::{DeskCounts, Desk, Seat};
+use tt_share::{Desk, DeskCounts, Seat};
 
 // Draws until there is no job left, and counts the jobs.
 fn draw_all(desk: &Desk, jobs: &AtomicU64, mut seat: Seat) -> Seat
