@@ -183,6 +183,10 @@ no_enclosed_group_text size (Some m) = codes "no group is enclosed with 2 to 40 
 abbrev pub off_board_line : Size → List ℕ
 off_board_line size = codes "the board has no such point: it is " ++ (decimal size.columns ++ (codes " by " ++ (decimal size.rows ++ newline ∷ [])))
 
+-- no stone stands on this point
+abbrev pub empty_point_line : Size → ℕ → List ℕ
+empty_point_line size q = codes "no stone stands on " ++ (both_point_names size q ++ newline ∷ [])
+
 module _ (s : GameState) where
   -- where there are black stones, and white ones: no group is enclosed; without both there is no wall
   abbrev pub why_no_group_enclosed : Bool → Bool → List ℕ
@@ -192,7 +196,7 @@ module _ (s : GameState) where
   why_no_group_enclosed false false = codes "no stone is on the board\n"
 
   abbrev pub why_unmarked_at_point : ℕ → Option Colour → List ℕ
-  why_unmarked_at_point q None = codes "no stone stands there\n"
+  why_unmarked_at_point q None = empty_point_line s.size q
   why_unmarked_at_point q (Some k) = open_group_line s.size s.present k q
 
   abbrev pub why_unmarked_or_off_board : Option ℕ → List ℕ

@@ -7,7 +7,7 @@ ghost use Rattle.tt_board.specs.Reach.{entry_at};
 ghost use Rattle.tt_game.specs.Nodes.{SQ, TR, has};
 ghost use Rattle.tt_game.specs.Problems.{node_count_before_solution, game_of};
 ghost use Rattle.tsumego_show.specs.Marking.{nodes_before_solution, chain_name, game_marked_or_kept, other_enclosed_chains_line, is_some_with_property, is_proposal_missing, is_last_problem_node_squared, is_colour_on_board, has_triangles, is_game_left_unmarked, is_left_unmarked};
-ghost use Rattle.tsumego_show.specs.Marking.{tree_marked_or_kept, problem_with_proposal, no_enclosed_group_text, hints_and_marked_tree, unsquared_triangle_node, off_board_line, open_group_line, open_text, ways_out_or_nearby_text, kept_problem_text, proposal_unless_squared, why_no_group_enclosed, chain_and_ways_out_text, why_unmarked_at_point};
+ghost use Rattle.tsumego_show.specs.Marking.{tree_marked_or_kept, problem_with_proposal, no_enclosed_group_text, hints_and_marked_tree, unsquared_triangle_node, empty_point_line, off_board_line, open_group_line, open_text, ways_out_or_nearby_text, kept_problem_text, proposal_unless_squared, why_no_group_enclosed, chain_and_ways_out_text, why_unmarked_at_point};
 ghost use Rattle.tsumego_show.specs.Marking.{why_unmarked, why_unmarked_at_place, why_unmarked_or_off_board, proposal_or_reason, tree_with_marks, unsquared_node_line};
 ghost use Rattle.tsumego_show.specs.Refusals.{refusal_and_why_text};
 ghost use Rattle.tsumego_show.specs.TreeBytes.{tree_as_given};
@@ -138,6 +138,22 @@ fn put_open_group_line(
     put_open_chain(alloc, out, board.size(), colour, stone, &ways, &others)
 }
 
+/// Writes that no stone stands on a point behind the text.
+fn put_empty_point(
+    alloc: Global,
+    out: &mut Vec<u8>,
+    size: Size,
+    point: Point,
+) -> Result<(), NoMemory>
+    requires { point < point_count size }
+    ensures { OnOk result (out.new.items ≡ out.old.items ++ empty_point_line size point) }
+{
+    out.extend_from_slice(b"no stone stands on ")?;
+    put_both_point_names(alloc, out, size, usize::from(point.number()))?;
+    out.push(b'\n')?;
+    Ok(())
+}
+
 /// Writes why no mark is proposed for what stands on a point behind the text.
 fn put_why_unmarked_at_point(
     alloc: Global,
@@ -150,7 +166,7 @@ fn put_why_unmarked_at_point(
 {
     match game.present().at(stone) {
         Some(colour) => put_open_group_line(alloc, out, game.present(), colour, stone),
-        None => Ok(out.extend_from_slice(b"no stone stands there\n")?),
+        None => put_empty_point(alloc, out, game.size(), stone),
     }
 }
 
