@@ -142,8 +142,7 @@ has_unclosed_comment name n = list_any (is_unclosed_comment name) n.properties
 abbrev pub unclosed_comment_line : List ℕ → List Node → List ℕ
 unclosed_comment_line name ns = if list_any (has_unclosed_comment name) ns then codes "hint: a comment holds " ++ (name ++ codes ": is its ] missing?\n") else []
 
--- the lines on who moves, the marks, the stones and the next tree
+-- the lines on who moves, the marks, the stones, the size, the name and the next tree
 abbrev pub unclosed_comment_lines : List Node → List ℕ
 unclosed_comment_lines ns =
-    unclosed_comment_line (codes "PL[") ns ++ (unclosed_comment_line (codes "TR[") ns ++ (unclosed_comment_line (codes "SQ[") ns
-    ++ (unclosed_comment_line (codes "AB[") ns ++ (unclosed_comment_line (codes "AW[") ns ++ unclosed_comment_line (codes "(;") ns))))
+    flat_map (λ name. unclosed_comment_line name ns) (codes "PL[" ∷ codes "TR[" ∷ codes "SQ[" ∷ codes "AB[" ∷ codes "AW[" ∷ codes "SZ[" ∷ codes "GN[" ∷ codes "(;" ∷ [])

@@ -399,9 +399,9 @@ fn put_unclosed_comment_line(out: &mut Vec<u8>, nodes: &[Node], name: &[u8]) -> 
     Ok(())
 }
 
-/// Writes a line for each of `PL[`, `TR[`, `SQ[`, `AB[`, `AW[` and `(;` that stands in a comment of a main line, with no `]` behind it,
-/// behind the text: the `]` of the comment is likely missing, so that the property or the tree is a part of it. `NoMemory` where memory
-/// was refused; a part may stand there then.
+/// Writes a line for each of `PL[`, `TR[`, `SQ[`, `AB[`, `AW[`, `SZ[`, `GN[` and `(;` that stands in a comment of a main line, with no `]`
+/// behind it, behind the text: the `]` of the comment is likely missing, so that the property or the tree is a part of it. `NoMemory`
+/// where memory was refused; a part may stand there then.
 pub fn put_unclosed_comment_lines(out: &mut Vec<u8>, nodes: &[Node]) -> Result<(), NoMemory>
     ensures { OnOk result (out.new.items ≡ out.old.items ++ unclosed_comment_lines nodes.now) }
 {
@@ -410,5 +410,8 @@ pub fn put_unclosed_comment_lines(out: &mut Vec<u8>, nodes: &[Node]) -> Result<(
     put_unclosed_comment_line(out, nodes, b"SQ[")?;
     put_unclosed_comment_line(out, nodes, b"AB[")?;
     put_unclosed_comment_line(out, nodes, b"AW[")?;
-    put_unclosed_comment_line(out, nodes, b"(;")
+    put_unclosed_comment_line(out, nodes, b"SZ[")?;
+    put_unclosed_comment_line(out, nodes, b"GN[")?;
+    put_unclosed_comment_line(out, nodes, b"(;")?;
+    Ok(())
 }
