@@ -9,6 +9,7 @@ use Rattle.tsumego_show.specs.declared.mode.Mode.{Mode}
 use Rattle.tsumego_show.specs.declared.mode.Mode.TheVariants.{Diagram, Marks, Picture, Variations}
 use Rattle.tsumego_show.specs.declared.mode.StonePlace.{StonePlace}
 use Rattle.tsumego_show.specs.declared.mode.StonePlace.TheVariants.{FromAbove, FromBelow}
+use Rattle.tsumego_show.specs.FaultDetails.{value_if_unread}
 
 -- ---- points
 
@@ -96,3 +97,10 @@ mode_of_words [] = Some Picture
 mode_of_words (w ∷ ws) =
     if pointwise ◌==◌ w (codes "--svg") then svg_mode ws else (if pointwise ◌==◌ w (codes "--mark") then mark_mode ws
     else (if pointwise ◌==◌ w (codes "--sgf") then sgf_mode ws else None))
+
+-- the word behind `--mark`, where it is no point
+abbrev pub unreadable_point_word : List (List ℕ) → Option (List ℕ)
+unreadable_point_word [] = None
+unreadable_point_word (w ∷ []) = None
+unreadable_point_word (w ∷ v ∷ []) = if pointwise ◌==◌ w (codes "--mark") then value_if_unread v (place_of_word v) else None
+unreadable_point_word (w ∷ v ∷ u ∷ ws) = None

@@ -1,7 +1,7 @@
 //! Reads the words behind the program's name.
-ghost use Rattle.std.specs.Prelude.{◌≡◌, map, string_bytes};
+ghost use Rattle.std.specs.Prelude.{◌≡◌, MatchOption, None, Some, map, string_bytes};
 ghost use Rattle.tt_sgf.specs.Values.{number_of};
-ghost use Rattle.tsumego_show.specs.CommandLine.{column_of_editor_letter, coordinate_of_sgf_letter, svg_mode, mode_of_words, editor_place, mark_mode, place_of_word, sgf_row, sgf_mode, sgf_mode_to_depth};
+ghost use Rattle.tsumego_show.specs.CommandLine.{column_of_editor_letter, coordinate_of_sgf_letter, svg_mode, mode_of_words, editor_place, mark_mode, place_of_word, sgf_row, sgf_mode, sgf_mode_to_depth, unreadable_point_word};
 
 use crate::mode::{Mode, StonePlace};
 use tt_proof::MOST_DEPTH;
@@ -9,7 +9,7 @@ use tt_sgf::number;
 
 /// What a line of words has to be.
 pub const USAGE: &str =
-    "write tsumego-show < FILE, tsumego-show --svg < FILE, tsumego-show --sgf [--depth N] < FILE, with N from 1 to 512, or tsumego-show --mark [POINT] < FILE, with a stone as POINT: C18 or cb. Editors' columns have no I, and rows are 1 to 19";
+    "write tsumego-show < FILE, tsumego-show --svg < FILE, tsumego-show --sgf [--depth N] < FILE, with N from 1 to 512, or tsumego-show --mark [POINT] < FILE, with a stone as POINT: C18 or cb";
 
 /// The column that a capital letter names in editors, who leave out I.
 fn column_of_editor_letter(letter: u8) -> Option<usize>
@@ -137,6 +137,19 @@ pub fn mode_of_words(words: &[String]) -> Option<Mode>
     }
     if first == b"--sgf".as_slice() {
         return sgf_mode(rest);
+    }
+    None
+}
+
+/// The word behind `--mark` that should be a point, and is none.
+pub fn unreadable_point_word(words: &[String]) -> Option<&String>
+    ensures { MatchOption result (unreadable_point_word (map string_bytes words.now) ≡ None) (λ w. unreadable_point_word (map string_bytes words.now) ≡ Some (string_bytes w.now)) }
+{
+    let [name, word] = words else {
+        return None;
+    };
+    if name.as_bytes() == b"--mark".as_slice() && place_of_word(word.as_bytes()).is_none() {
+        return Some(word);
     }
     None
 }

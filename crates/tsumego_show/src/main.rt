@@ -27,38 +27,31 @@ mod unfolding;
 mod variations;
 mod windows;
 
-use arguments::{USAGE, mode_of_words};
+use arguments::{USAGE, mode_of_words, unreadable_point_word};
 use devices::Watched;
 use mode::Mode;
 use running::run;
-use std::alloc::AllocError;
 use std::env;
 use std::io::IsTerminal;
 use std::process::ExitCode;
 
-/// What the words behind the program's name ask for, if anything.
-fn requested_mode(rt: &HostRuntime) -> Option<Mode> {
-    match command_line_words(rt) {
-        Some(words) => mode_after_program_name(words.as_slice()),
-        None => None,
-    }
-}
-
-/// The words, where they are text and memory for them wasn't refused.
+/// The words behind the program's name, where they are text and memory for them wasn't refused.
 fn command_line_words(rt: &HostRuntime) -> Option<Vec<String>> {
-    match env::args(rt) {
-        Ok(words) => match words.collect(rt.alloc()) {
-            Ok(words) => Some(words),
-            Err(AllocError) => None,
-        },
-        Err(_) => None,
-    }
+    let mut words = env::args(rt).ok()?;
+    let _name = words.next();
+    words.collect(rt.alloc()).ok()
 }
 
-/// What the words ask for, of which the first is the program's name.
-fn mode_after_program_name(words: &[String]) -> Option<Mode> {
-    let (_name, words) = words.split_first()?;
-    mode_of_words(words)
+/// Says why the words ask for nothing: one of them is no point, or they are no words of the program.
+fn tell_refused_words(rt: &HostRuntime, word: Option<&String>) {
+    let _ = match word {
+        Some(word) => {
+            eprintln!(rt;
+                "tsumego-show: {word} is no point: write C18 (columns without I, rows 1 to 19) or cb"
+            )
+        }
+        None => eprintln!(rt; "tsumego-show: {USAGE}"),
+    };
 }
 
 /// Says that trees were left without marks, where nobody reads the reasons: they went to a file or to a program.
@@ -69,8 +62,10 @@ fn tell_unmarked(rt: &HostRuntime, mode: Mode, status: u8) {
 }
 
 fn main(rt: HostRuntime) -> ExitCode {
-    let Some(mode) = requested_mode(&rt) else {
-        let _ = eprintln!(rt; "tsumego-show: {USAGE}");
+    let words = command_line_words(&rt);
+    let words = words.as_deref();
+    let Some(mode) = words.and_then(mode_of_words) else {
+        tell_refused_words(&rt, words.and_then(unreadable_point_word));
         return ExitCode::from(2);
     };
     let mut reader = Watched::new(rt.stdin());
