@@ -80,10 +80,11 @@ abbrev pub stones_before : Colour → Result GameState GameFault → PointNumber
 stones_before k (Ok s) = stones_of_colour s.size s.present k
 stones_before k (Err e) = set.empty
 
--- they have to be known: the game in front of a solution is that in front of the node, and the node has no move
+-- whether the points of a fault are told by the stones after the setup
 abbrev pub needs_stones_after_setup : GameFault → Bool
 needs_stones_after_setup e = nat_eq (code_of e) (code_of StoneWithoutLiberty) || (nat_eq (code_of e) (code_of EmptyTarget) || nat_eq (code_of e) (code_of MixedTargets))
 
+-- they are known where the game in front of a solution is that in front of the node, and the node has no move
 abbrev pub are_stones_after_setup_known : List Node → Node → Bool
 are_stones_after_setup_known front n = nat_eq (node_count_before_solution false front) (length front) && not (nat_le 1 (move_count n))
 

@@ -139,10 +139,15 @@ is_unclosed_comment name p = pointwise ◌==◌ p.ident (codes "C") && list_any 
 abbrev pub has_unclosed_comment : List ℕ → Node → Bool
 has_unclosed_comment name n = list_any (is_unclosed_comment name) n.properties
 
-abbrev pub unclosed_comment_line : List ℕ → List Node → List ℕ
-unclosed_comment_line name ns = if list_any (has_unclosed_comment name) ns then codes "hint: a comment holds " ++ (name ++ codes ": is its ] missing?\n") else []
+abbrev pub unclosed_comment_line : List ℕ → List ℕ → List Node → List ℕ
+unclosed_comment_line opener words ns =
+    if list_any (has_unclosed_comment opener) ns then codes "hint: a comment holds " ++ (words ++ codes ": is its ] missing?\n") else []
 
--- the lines on who moves, the marks, the stones, the size, the name and the next tree
+-- the lines on who moves, the marks, the stones, the size and the name
+abbrev pub swallowed_property_lines : List Node → List ℕ
+swallowed_property_lines ns =
+    flat_map (λ name. unclosed_comment_line name name ns) (codes "PL[" ∷ codes "TR[" ∷ codes "SQ[" ∷ codes "AB[" ∷ codes "AW[" ∷ codes "SZ[" ∷ codes "GN[" ∷ [])
+
+-- and on the next tree, without the bracket at which a reader would begin
 abbrev pub unclosed_comment_lines : List Node → List ℕ
-unclosed_comment_lines ns =
-    flat_map (λ name. unclosed_comment_line name ns) (codes "PL[" ∷ codes "TR[" ∷ codes "SQ[" ∷ codes "AB[" ∷ codes "AW[" ∷ codes "SZ[" ∷ codes "GN[" ∷ codes "(;" ∷ [])
+unclosed_comment_lines ns = swallowed_property_lines ns ++ unclosed_comment_line (codes "(;") (codes "a tree") ns

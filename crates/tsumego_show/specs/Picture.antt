@@ -60,7 +60,7 @@ row_number size row = size.rows - row
 abbrev pub editor_letters_line : Size → List ℕ
 editor_letters_line size = space ∷ (spaced_columns_text editor_column_letter size.columns ++ newline ∷ [])
 
--- what is shown of the points of a row, column by column
+-- what is shown of the point in a row and a column
 abbrev pub symbol_at_coordinates : LineWithUndo → ℕ → ℕ → ℕ
 symbol_at_coordinates p row column = point_symbol p (row * p.frame.size.columns + column)
 

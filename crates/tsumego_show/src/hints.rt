@@ -5,7 +5,7 @@ ghost use Rattle.tt_sgf.specs.Sizes.{point_count};
 ghost use Rattle.tt_game.specs.Nodes.{is_setup};
 ghost use Rattle.tsumego_show.specs.Hints.{attacker_stones, both_point_names, defender_stones, editor_point_name, region_empties_and_chains, target_and_region_chains, hints, is_side_to_move_given, is_side_to_move_given_after, is_region_whole_large_board, empties_around_region, empties_around_region_line};
 ghost use Rattle.tsumego_show.specs.Hints.{points_line_if_any, point_names_if_member, point_names_line, missing_mover_line, point_names_text, other_defender_stones, other_defender_stones_line, capturable_attackers, capturable_attackers_line, target_chains};
-ghost use Rattle.tsumego_show.specs.Hints.{unclosed_comment_line, unclosed_comment_lines, has_unclosed_comment, is_opener_unclosed, is_unclosed_comment, empties_outside_region, whole_board_region_line};
+ghost use Rattle.tsumego_show.specs.Hints.{unclosed_comment_line, swallowed_property_lines, unclosed_comment_lines, has_unclosed_comment, is_opener_unclosed, is_unclosed_comment, empties_outside_region, whole_board_region_line};
 
 use crate::node_values::has_property;
 use crate::picture::editor_column_letter;
@@ -380,38 +380,50 @@ fn is_some_comment_unclosed(nodes: &[Node], name: &[u8]) -> bool
     nodes.iter().any(|node| has_unclosed_comment(node, name))
 }
 
-/// Writes which bytes stand there, and a question, behind the text.
-fn put_opener_and_question(out: &mut Vec<u8>, name: &[u8]) -> Result<(), NoMemory>
-    ensures { OnOk result (out.new.items ≡ out.old.items ++ (name.now ++ codes ": is its ] missing?\n")) }
+/// Writes what stands there, and a question, behind the text.
+fn put_words_and_question(out: &mut Vec<u8>, words: &[u8]) -> Result<(), NoMemory>
+    ensures { OnOk result (out.new.items ≡ out.old.items ++ (words.now ++ codes ": is its ] missing?\n")) }
 {
-    out.extend_from_slice(name)?;
+    out.extend_from_slice(words)?;
     Ok(out.extend_from_slice(b": is its ] missing?\n")?)
 }
 
-/// Writes the line on such a comment of these nodes behind the text.
-fn put_unclosed_comment_line(out: &mut Vec<u8>, nodes: &[Node], name: &[u8]) -> Result<(), NoMemory>
-    ensures { OnOk result (out.new.items ≡ out.old.items ++ unclosed_comment_line name.now nodes.now) }
+/// Writes the line on such a comment of these nodes, with what it holds in words, behind the text.
+fn put_unclosed_comment_line(
+    out: &mut Vec<u8>,
+    nodes: &[Node],
+    opener: &[u8],
+    words: &[u8],
+) -> Result<(), NoMemory>
+    ensures { OnOk result (out.new.items ≡ out.old.items ++ unclosed_comment_line opener.now words.now nodes.now) }
 {
-    if is_some_comment_unclosed(nodes, name) {
+    if is_some_comment_unclosed(nodes, opener) {
         out.extend_from_slice(b"hint: a comment holds ")?;
-        return put_opener_and_question(out, name);
+        return put_words_and_question(out, words);
     }
     Ok(())
 }
 
-/// Writes a line for each of `PL[`, `TR[`, `SQ[`, `AB[`, `AW[`, `SZ[`, `GN[` and `(;` that stands in a comment of a main line, with no `]`
-/// behind it, behind the text: the `]` of the comment is likely missing, so that the property or the tree is a part of it. `NoMemory`
-/// where memory was refused; a part may stand there then.
+/// Writes a line for each of `PL[`, `TR[`, `SQ[`, `AB[`, `AW[`, `SZ[` and `GN[` that stands in a comment of a main line, with no `]` behind
+/// it, behind the text.
+fn put_swallowed_property_lines(out: &mut Vec<u8>, nodes: &[Node]) -> Result<(), NoMemory>
+    ensures { OnOk result (out.new.items ≡ out.old.items ++ swallowed_property_lines nodes.now) }
+{
+    put_unclosed_comment_line(out, nodes, b"PL[", b"PL[")?;
+    put_unclosed_comment_line(out, nodes, b"TR[", b"TR[")?;
+    put_unclosed_comment_line(out, nodes, b"SQ[", b"SQ[")?;
+    put_unclosed_comment_line(out, nodes, b"AB[", b"AB[")?;
+    put_unclosed_comment_line(out, nodes, b"AW[", b"AW[")?;
+    put_unclosed_comment_line(out, nodes, b"SZ[", b"SZ[")?;
+    put_unclosed_comment_line(out, nodes, b"GN[", b"GN[")?;
+    Ok(())
+}
+
+/// Writes a line for each property and for the tree that a comment of a main line seems to have swallowed, since its `]` is missing,
+/// behind the text. No line has a `(`, at which a reader would begin. `NoMemory` where memory was refused; a part may stand there then.
 pub fn put_unclosed_comment_lines(out: &mut Vec<u8>, nodes: &[Node]) -> Result<(), NoMemory>
     ensures { OnOk result (out.new.items ≡ out.old.items ++ unclosed_comment_lines nodes.now) }
 {
-    put_unclosed_comment_line(out, nodes, b"PL[")?;
-    put_unclosed_comment_line(out, nodes, b"TR[")?;
-    put_unclosed_comment_line(out, nodes, b"SQ[")?;
-    put_unclosed_comment_line(out, nodes, b"AB[")?;
-    put_unclosed_comment_line(out, nodes, b"AW[")?;
-    put_unclosed_comment_line(out, nodes, b"SZ[")?;
-    put_unclosed_comment_line(out, nodes, b"GN[")?;
-    put_unclosed_comment_line(out, nodes, b"(;")?;
-    Ok(())
+    put_swallowed_property_lines(out, nodes)?;
+    put_unclosed_comment_line(out, nodes, b"(;", b"a tree")
 }
