@@ -28,4 +28,4 @@ RunWrites Whole Begun Earlier (Err Memory) before behind = (text : List ℕ) × 
 -- the fact holds of all that a reader had to give, or of some input where the reader doesn't tell
 abbrev pub HoldsForInput : Option (List ℕ) → (List ℕ → Type 0) → Type 0
 HoldsForInput None P = (input : List ℕ) × P input
-HoldsForInput (Some told) P = P told
+HoldsForInput (Some given) P = P given

@@ -84,8 +84,8 @@ module _ (parts : Bool) where
   writes_whole None input (Err Memory) a b w = w
 
   -- what is written on what was read up to the limit is written on what the reader had to give
-  pub writes_read : (t : Option TreeTask) (told : Option (List ℕ)) (bytes : List ℕ) (r : Result ℕ RunFault) (a b : Option (List ℕ)) → IsReadInput (MAX_BYTES + 1) told bytes
-      → WritesAnswer parts t bytes r a b → HoldsForInput told (λ input. WritesAnswer parts t input r a b)
+  pub writes_read : (t : Option TreeTask) (given : Option (List ℕ)) (bytes : List ℕ) (r : Result ℕ RunFault) (a b : Option (List ℕ)) → IsReadInput (MAX_BYTES + 1) given bytes
+      → WritesAnswer parts t bytes r a b → HoldsForInput given (λ input. WritesAnswer parts t input r a b)
   writes_read t None bytes r a b e w = (bytes, w)
   writes_read t (Some input) bytes r a b e w = writes_whole t input r a b (subst (λ (x : List ℕ). WritesAnswer parts t x r a b) e w)
 
@@ -98,7 +98,7 @@ module _ (parts : Bool) where
   nothing_written None input Memory a quiet = ([], refl, Appends-nil a)
 
   -- so it may for what the reader had to give
-  pub writes_nothing : (t : Option TreeTask) (told : Option (List ℕ)) (e : RunFault) (a : Option (List ℕ)) → is_output_fault {A = ℕ} (Err e) ≡ false
-      → HoldsForInput told (λ input. WritesAnswer parts t input (Err e) a a)
+  pub writes_nothing : (t : Option TreeTask) (given : Option (List ℕ)) (e : RunFault) (a : Option (List ℕ)) → is_output_fault {A = ℕ} (Err e) ≡ false
+      → HoldsForInput given (λ input. WritesAnswer parts t input (Err e) a a)
   writes_nothing t None e a quiet = ([], nothing_written t [] e a quiet)
   writes_nothing t (Some input) e a quiet = nothing_written t input e a quiet

@@ -57,7 +57,7 @@ pub record Progress (allowed : List Node → TreeOutcome → Type 0) (input rest
   pub reads : ReadsOutcomes allowed input os rest
   pub small : (os ≡ []) ⊎ (length input ≤ MAX_BYTES)
   pub bad : refused ≡ list_any is_refused os
-  pub told : Appends a b (outcome_lines_from 1 os)
+  pub written : Appends a b (outcome_lines_from 1 os)
 
 module _ {allowed : List Node → TreeOutcome → Type 0} {input rest : List ℕ} {number : ℕ} {refused : Bool} {a b : Option (List ℕ)} (p : Progress allowed input rest number refused a b) where
   -- how a run that writes on the trees ends
@@ -90,14 +90,14 @@ module _ {allowed : List Node → TreeOutcome → Type 0} {input rest : List ℕ
         (ReadsOutcomes-more allowed input p.os w.0 rest used t p.reads s (subst (λ (x : List Node). allowed x w.0) same w.1));
     small = inr (small_whole small);
     bad = ap₂ (λ x y. x || y) p.bad (w.2 ∙ sym (any-one w.0)) ∙ sym (list_any-append is_refused p.os (w.0 ∷ []));
-    told = subst (Appends a d) (sym (lines_more w.0)) (Appends-trans a b d _ _ p.told w.3);
+    written = subst (Appends a d) (sym (lines_more w.0)) (Appends-trans a b d _ _ p.written w.3);
   }
 
   -- a part of one more line is a part of the lines
   cut : (d : Option (List ℕ)) (o : TreeOutcome) (n : ℕ) → Appends b d (take n (outcome_line number o)) → Appends a d (take (length (outcome_lines_from 1 p.os) + n) (outcome_lines_from 1 (p.os ++ o ∷ [])))
   cut d o n w = subst (Appends a d)
       (sym (ap (take (length (outcome_lines_from 1 p.os) + n)) (lines_more o) ∙ take-append-add (outcome_lines_from 1 p.os) (outcome_line number o) n))
-      (Appends-trans a b d _ _ p.told w)
+      (Appends-trans a b d _ _ p.written w)
 
   -- the lines so far are the earlier part, where more is to be written
   earlier : (number ≡ 1) ⊎ HasOpeningParenthesis rest → EarlierTreesText allowed input (outcome_lines_from 1 p.os)
@@ -109,7 +109,7 @@ module _ {allowed : List Node → TreeOutcome → Type 0} {input rest : List ℕ
 
   -- memory was refused, and nothing more is written
   pub progress_kept : (d : Option (List ℕ)) → (number ≡ 1) ⊎ HasOpeningParenthesis rest → Keeps b d → EndsAs (Err Memory) a d
-  progress_kept d why k = (outcome_lines_from 1 p.os, earlier why, Appends-kept a b d _ p.told k)
+  progress_kept d why k = (outcome_lines_from 1 p.os, earlier why, Appends-kept a b d _ p.written k)
 
   -- a fault came where the line of one more tree was to be written
   pub progress_fault : (d : Option (List ℕ)) → (number ≡ 1) ⊎ HasOpeningParenthesis rest → (used : ℕ) (t : GameTree) (nodes : List Node) (e : RunFault) → FirstTreeEndsAt rest used t
@@ -136,7 +136,7 @@ module _ {allowed : List Node → TreeOutcome → Type 0} {input rest : List ℕ
       lines = refl;
       status_is = one ∙ sym (ap (λ x. if x then 1 else 0) (list_any-append is_refused p.os (Refused code ∷ []) ∙ or_true (list_any is_refused p.os)));
     },
-    subst (Appends a d) (sym (lines_more (Refused code))) (Appends-trans a b d _ _ p.told w),
+    subst (Appends a d) (sym (lines_more (Refused code))) (Appends-trans a b d _ _ p.written w),
   )
   progress_last d why code (Err Input) h one w = absurd w
   progress_last d why code (Err Memory) h one w = progress_kept d why w
@@ -167,7 +167,7 @@ module _ {allowed : List Node → TreeOutcome → Type 0} {input rest : List ℕ
   progress_ended more none status e = (
     outcome_lines_from 1 p.os,
     record { outcomes = p.os; are = all_read p.os rest small p.reads some none; lines = refl; status_is = e ∙ ap (λ x. if x then 1 else 0) p.bad },
-    p.told,
+    p.written,
   )
     where
       -- there is an outcome

@@ -105,7 +105,7 @@ abbrev pub AsksForCommand : Option (Text × List Row) → Command → Type 0
 AsksForCommand None c = ⊥
 AsksForCommand (Some p) Score = p.0 ≡ codes "score"
 AsksForCommand (Some p) (Check parts) = (p.0 ≡ codes "check") × HasFlag (codes "parts") p.1 parts
-AsksForCommand (Some p) (Solve options told) = (p.0 ≡ codes "solve") × HasOptions p.1 options × HasFlag (codes "progress") p.1 told
+AsksForCommand (Some p) (Solve options shows_progress) = (p.0 ≡ codes "solve") × HasOptions p.1 options × HasFlag (codes "progress") p.1 shows_progress
 
 -- flags were given that aren't taken together, or one without the one that it goes with
 abbrev pub HasContradictingFlags : Option (Text × List Row) → Type 0

@@ -18,10 +18,10 @@ MakesOutcome (Solve options) = Solves options
 abbrev pub task_of : Command → Option TreeTask
 task_of commands.Score = Some Score
 task_of (commands.Check parts) = None
-task_of (commands.Solve options told) = Some (Solve options)
+task_of (commands.Solve options shows_progress) = Some (Solve options)
 
 -- whether a certificate may share parts
 abbrev pub reads_shared_parts : Command → Bool
 reads_shared_parts commands.Score = false
 reads_shared_parts (commands.Check parts) = parts
-reads_shared_parts (commands.Solve options told) = false
+reads_shared_parts (commands.Solve options shows_progress) = false

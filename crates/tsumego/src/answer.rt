@@ -39,13 +39,13 @@ fn write_outcome_line<W: Write>(
     }
 }
 
-/// Writes what becomes of a tree by its main line, whose text has so many bytes, and says whether it was refused. How far it is may
-/// be told.
+/// Writes what becomes of a tree by its main line, whose text has so many bytes, and says whether it was refused. Its progress
+/// may be shown.
 fn answer_tree<X: Threads + Wait + Eprint + Sync, W: Write>(
     rt: &X,
     alloc: Global,
     task: &TreeTask,
-    told: bool,
+    shows_progress: bool,
     number: usize,
     main: &MainLine,
     bytes: usize,
@@ -55,7 +55,7 @@ fn answer_tree<X: Threads + Wait + Eprint + Sync, W: Write>(
     ensures written { WritesOutcome (MakesOutcome task.now) number main.now.nodes result (W.contents writer.old.device) (W.contents writer.new.device) }
     ensures failed { writer.new.failed ≡ is_output_fault result }
 {
-    let progress = Progress::for_problem(rt, alloc, told, number);
+    let progress = Progress::for_problem(rt, alloc, shows_progress, number);
     let made = task.perform(rt, alloc, main, bytes, &progress);
     progress.wipe_line();
     let Ok(outcome) = made else {
@@ -90,7 +90,7 @@ fn answer_trees<X: Threads + Wait + Eprint + Sync, W: Write>(
     rt: &X,
     alloc: Global,
     task: &TreeTask,
-    told: bool,
+    shows_progress: bool,
     input: &[u8],
     writer: &mut Watched<W>,
 ) -> Result<u8, RunFault>
@@ -106,7 +106,7 @@ fn answer_trees<X: Threads + Wait + Eprint + Sync, W: Write>(
         match read_tree(alloc, rest) {
             Ok((main, used)) => {
                 rest = &rest[used..];
-                match answer_tree(rt, alloc, task, told, number, &main, used, writer) {
+                match answer_tree(rt, alloc, task, shows_progress, number, &main, used, writer) {
                     Ok(bad) => refused |= bad,
                     Err(fault) => return Err(fault),
                 }
@@ -176,10 +176,10 @@ fn reads_shared_parts(command: &Command) -> bool
     }
 }
 
-/// Whether it is told how far a command is.
+/// Whether a command shows its progress.
 fn shows_progress(command: &Command) -> bool {
     match command {
-        Command::Solve(_, told) => *told,
+        Command::Solve(_, shows_progress) => *shows_progress,
         Command::Score | Command::Check(_) => false,
     }
 }

@@ -42,7 +42,10 @@ fn print_fault(rt: &HostRuntime, text: &str) -> io::Result<()> {
 /// The command, which tells how far it is where standard error is a terminal too.
 fn with_progress_on_terminal(command: Command, terminal: bool) -> Command {
     match command {
-        Command::Solve(options, told) => Command::Solve(options, told || terminal),
+        Command::Solve(options, shows_progress) => Command::Solve(
+            options,
+            shows_progress || terminal,
+        ),
         Command::Score | Command::Check(_) => command,
     }
 }

@@ -1,4 +1,4 @@
-//! How far a problem is, told on standard error while it is solved.
+//! How far a problem is, shown on standard error while it is solved.
 
 use std::alloc::Global;
 use std::io::Eprint;

@@ -9,6 +9,6 @@ pub enum Command {
     Score,
     /// Check the certificate that follows the first tree of the input, a problem. The flag says that it may share parts.
     Check(bool),
-    /// Solve each problem of the input. The flag says that it is told how far it is.
+    /// Solve each problem of the input. The flag says that its progress is shown.
     Solve(Options, bool),
 }

@@ -17,7 +17,7 @@ pub enum TreeTask {
 }
 
 impl TreeTask {
-    /// What becomes of a tree, whose text has so many bytes. The gate is told of a problem's first turns.
+    /// What becomes of a tree, whose text has so many bytes. The gate hears of a problem's first turns.
     pub fn perform<X: Threads + Wait + Sync, G: Gate>(
         &self,
         rt: &X,

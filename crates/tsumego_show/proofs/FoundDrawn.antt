@@ -8,7 +8,7 @@ use Rattle.tt_game.specs.Line.{LineWithUndo}
 use Rattle.tsumego_show.specs.declared.mode.Mode.TheVariants.{Marks, Variations}
 use Rattle.tsumego_show.specs.Diagram.{svg_text}
 use Rattle.tsumego_show.specs.FollowingStrategy.{FollowingStrategy, IsFollowingStrategy, claimed_winner}
-use Rattle.tsumego_show.specs.declared.mode.StonePlace.{StonePlace}
+use Rattle.tsumego_show.specs.declared.mode.PointName.{PointName}
 use Rattle.tsumego_show.specs.Marking.{kept_problem_text}
 use Rattle.tsumego_show.specs.Shown.{IsDiagram, IsProblemText, not_drawn_line, no_strategy_words}
 use Rattle.tsumego_show.specs.NumberedPlays.{numbered_plays}
@@ -35,6 +35,6 @@ several_said (Err y) k p behind old new w = w
 
 -- and a tree as it was
 pub kept_drawn : {A E : Type 0} (r : Result A E) (k : ℕ) (tree : List ℕ) (ns : List Node) (p : LineWithUndo) (old new : List ℕ) → OnOk r (new ≡ old ++ kept_problem_text k tree ns)
-    → (place : Option StonePlace) (behind : List ℕ) → OnOk r ((x : List ℕ) × IsProblemText (Marks place) k tree ns p behind x × (new ≡ old ++ x))
-kept_drawn (Ok y) k tree ns p old new w place behind = (kept_problem_text k tree ns, refl, w)
-kept_drawn (Err y) k tree ns p old new w place behind = w
+    → (name : Option PointName) (behind : List ℕ) → OnOk r ((x : List ℕ) × IsProblemText (Marks name) k tree ns p behind x × (new ≡ old ++ x))
+kept_drawn (Ok y) k tree ns p old new w name behind = (kept_problem_text k tree ns, refl, w)
+kept_drawn (Err y) k tree ns p old new w name behind = w

@@ -5,12 +5,12 @@ use Rattle.tt_sgf.specs.declared.size.Size.{Size}
 use Rattle.tt_sgf.specs.Sizes.{point_count}
 use Rattle.tt_board.specs.Play.{is_empty}
 use Rattle.tt_board.specs.Reach.{entry_at}
-use Rattle.tt_game.specs.declared.faults.Why.{Why}
+use Rattle.tt_game.specs.declared.faults.WhyIllegal.{WhyIllegal}
 use Rattle.tt_game.specs.declared.frame.Frame.{Frame}
 use Rattle.tt_game.specs.declared.turns.Turn.{Turn}
 use Rattle.tt_game.specs.declared.turns.Turn.TheVariants.{Play, Pass}
 use Rattle.tt_game.specs.Game.{State, IsLegal, after}
-use Rattle.tt_game.specs.Line.{IsLineAfterTurn, IsRefusal, LineWithUndo}
+use Rattle.tt_game.specs.Line.{IsLineAfterTurn, IsRefusalOfTurn, LineWithUndo}
 use Rattle.tt_game.specs.Turns.{is_legal, is_legal_is_exact}
 use Rattle.tt_proof.specs.Strategy.{Strategy, Entries, IsInOrder, AreInOrder, IsTurnOnBoardOfSize, turn_number_on_size, done, pick, reply, none, entry}
 use Rattle.tsumego_show.specs.Diagram.{last_below}
@@ -31,7 +31,7 @@ module _ (f : Frame) (s : State) (q : ℕ) (behind : List ℕ) where
   played l = ap line_if ((is_legal_is_exact f s (Play q)).1 l)
 
   -- a turn that is refused
-  pub refused : (why : Why) → IsRefusal f s (Play q) why → [] ≡ plays_from_turn f s (Play q) behind
+  pub refused : (why : WhyIllegal) → IsRefusalOfTurn f s (Play q) why → [] ≡ plays_from_turn f s (Play q) behind
   unfolding line_if
   refused why r = sym (ap line_if ((is_legal_is_exact f s (Play q)).2 (not_legal f s (Play q) why r)))
 

@@ -8,7 +8,7 @@ pub mod Refused
 pub mod FirstTurn
 pub mod Sets
 pub mod Texts
-pub mod Told
+pub mod TreeByTree
 pub mod NamedTrees
 pub mod Readings
 pub mod FoundDrawn

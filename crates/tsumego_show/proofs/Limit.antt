@@ -14,7 +14,7 @@ use Rattle.tsumego_show.specs.declared.mode.Mode.{Mode}
 use Rattle.tsumego_show.specs.Shown.{IsShown, IsInputText, too_long, trees}
 use Rattle.tsumego_show.specs.Writing.{WritesShown}
 
--- what is told of a part that is too long is told of the input
+-- what is written for a part that is too long is written for the input
 long_told : (mode : Mode) (input part text : List ℕ) (refused : Bool) → length part ≡ MAX_BYTES + 1 → MAX_BYTES + 1 ≤ length input → IsInputText mode part text refused
     → IsInputText mode input text refused
 long_told mode input part text refused e le (too_long long) = too_long (omega arith)
@@ -35,8 +35,8 @@ writes_whole mode input (Err Output) a b w = (w.0, w.1, (w.2.0, shown_whole mode
 writes_whole mode input (Err Memory) a b w = w
 
 -- what is written on the part up to the limit is written on the input
-pub writes_read : (mode : Mode) (told : Option (List ℕ)) (bytes : List ℕ) (r : Result ℕ RunFault) (a b : Option (List ℕ)) → IsReadInput (MAX_BYTES + 1) told bytes → WritesShown mode bytes r a b
-    → HoldsForInput told (λ input. WritesShown mode input r a b)
+pub writes_read : (mode : Mode) (given : Option (List ℕ)) (bytes : List ℕ) (r : Result ℕ RunFault) (a b : Option (List ℕ)) → IsReadInput (MAX_BYTES + 1) given bytes → WritesShown mode bytes r a b
+    → HoldsForInput given (λ input. WritesShown mode input r a b)
 writes_read mode None bytes r a b e w = (bytes, w)
 writes_read mode (Some input) bytes r a b e w = writes_whole mode input r a b (subst (λ (x : List ℕ). WritesShown mode x r a b) e w)
 
@@ -47,7 +47,7 @@ nothing_written mode input Output a quiet = let bad : true ≡ false = quiet in 
 nothing_written mode input Memory a quiet = ([], refl, Appends-nil a)
 
 -- so it is where the reader tells what it had to give
-pub writes_nothing : (mode : Mode) (told : Option (List ℕ)) (e : RunFault) (a : Option (List ℕ)) → is_output_fault {A = ℕ} (Err e) ≡ false → HoldsForInput told (λ input. WritesShown mode input (Err e) a a)
+pub writes_nothing : (mode : Mode) (given : Option (List ℕ)) (e : RunFault) (a : Option (List ℕ)) → is_output_fault {A = ℕ} (Err e) ≡ false → HoldsForInput given (λ input. WritesShown mode input (Err e) a a)
 writes_nothing mode None e a quiet = ([], nothing_written mode [] e a quiet)
 writes_nothing mode (Some input) e a quiet = nothing_written mode input e a quiet
 

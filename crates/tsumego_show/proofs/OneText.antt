@@ -77,7 +77,7 @@ module _ (one : OneOutlinePerCertificate) where
       → IsProblemText mode k its ns p behind s → IsProblemText mode k its ns p behind t → s ≡ t
   problem_text_same Picture k its ns p behind s t a b = a.2 ∙ ap (λ (x : List ℕ). picture_and_hints_text k ns p ++ x) (behind_same p behind a.0 b.0 a.1 b.1) ∙ sym b.2
   problem_text_same Diagram k its ns p behind s t a b = diagram_same (is_only_tree k behind) k p behind s t a b
-  problem_text_same (Marks place) k its ns p behind s t a b = a ∙ sym b
+  problem_text_same (Marks name) k its ns p behind s t a b = a ∙ sym b
   problem_text_same (Variations depth) k its ns p behind s t a b =
       a.2 ∙ ap (λ (x : FollowingStrategy). sgf_text p ns depth (no_strategy_words behind) x) (found_same p.frame.size behind a.0 b.0 a.1 b.1) ∙ sym b.2
 
@@ -88,7 +88,7 @@ module _ (one : OneOutlinePerCertificate) where
   tree_text_same mode k its ns (Err e) behind s t a b = a ∙ sym b
 
   module _ (reading : GrammarIsUnambiguous) where
-    -- bytes are told in one way from a tree's number on
+    -- one text is written for bytes from a tree's number on
     told_same : (mode : Mode) (whole : List ℕ) (k : ℕ) (bytes s t : List ℕ) (a b : Bool) → IsTextOfRest mode whole k bytes s a → IsTextOfRest mode whole k bytes t b → (s ≡ t) × (a ≡ b)
     told_same mode whole k bytes s t a b (tree _ _ n g x more refused spells is rest) (tree _ _ m h y more' refused' spells' is' rest') =
         let same = reading bytes n m g h spells spells' in
@@ -111,7 +111,7 @@ module _ (one : OneOutlinePerCertificate) where
     told_same mode whole k bytes s t a b (stopped _ _ (inr opens) none) (ended _ _ many none') = absurd (none' opens)
     told_same mode whole k bytes s t a b (stopped _ _ why none) (stopped _ _ why' none') = (refl, refl)
 
-    -- an input is told in one way
+    -- one text is written for an input
     whole_same : (mode : Mode) (input s t : List ℕ) (a b : Bool) → IsInputText mode input s a → IsInputText mode input t b → (s ≡ t) × (a ≡ b)
     whole_same mode input s t a b (too_long long) (too_long more) = (refl, refl)
     whole_same mode input s t a b (too_long long) (trees t' b' small h) = absurd (omega arith)

@@ -7,8 +7,8 @@ use Rattle.tt_sgf.specs.Values.{number_of}
 use Rattle.tt_proof.specs.declared.tree.TheConstants.{MOST_DEPTH}
 use Rattle.tsumego_show.specs.declared.mode.Mode.{Mode}
 use Rattle.tsumego_show.specs.declared.mode.Mode.TheVariants.{Diagram, Marks, Picture, Variations}
-use Rattle.tsumego_show.specs.declared.mode.StonePlace.{StonePlace}
-use Rattle.tsumego_show.specs.declared.mode.StonePlace.TheVariants.{FromAbove, FromBelow}
+use Rattle.tsumego_show.specs.declared.mode.PointName.{PointName}
+use Rattle.tsumego_show.specs.declared.mode.PointName.TheVariants.{FromAbove, FromBelow}
 use Rattle.tsumego_show.specs.FaultDetails.{value_if_unread}
 
 -- ---- points
@@ -40,35 +40,35 @@ sgf_row [] = None
 sgf_row (b ∷ []) = coordinate_of_sgf_letter b
 sgf_row (b ∷ c ∷ bs) = None
 
-abbrev pub sgf_place : Option ℕ → ℕ → Option StonePlace
-sgf_place None row = None
-sgf_place (Some column) row = Some (FromAbove column row)
+abbrev pub sgf_point_name : Option ℕ → ℕ → Option PointName
+sgf_point_name None row = None
+sgf_point_name (Some column) row = Some (FromAbove column row)
 
 -- the number of a row is 1 to 19
-abbrev pub editor_place : Option ℕ → Option ℕ → Option StonePlace
-editor_place column None = None
-editor_place None (Some row) = None
-editor_place (Some column) (Some row) = if nat_le 1 row && nat_le row 19 then Some (FromBelow column row) else None
+abbrev pub editor_point_name : Option ℕ → Option ℕ → Option PointName
+editor_point_name column None = None
+editor_point_name None (Some row) = None
+editor_point_name (Some column) (Some row) = if nat_le 1 row && nat_le row 19 then Some (FromBelow column row) else None
 
-abbrev pub sgf_or_editor_place : ℕ → List ℕ → Option ℕ → Option StonePlace
-sgf_or_editor_place b bs None = editor_place (column_of_editor_letter (to_ascii_uppercase b)) (number_of bs)
-sgf_or_editor_place b bs (Some row) = sgf_place (coordinate_of_sgf_letter b) row
+abbrev pub sgf_or_editor_point_name : ℕ → List ℕ → Option ℕ → Option PointName
+sgf_or_editor_point_name b bs None = editor_point_name (column_of_editor_letter (to_ascii_uppercase b)) (number_of bs)
+sgf_or_editor_point_name b bs (Some row) = sgf_point_name (coordinate_of_sgf_letter b) row
 
 -- the place that a word names: `cb` as SGF does, `C18` or `c18` as editors do
-abbrev pub place_of_word : List ℕ → Option StonePlace
-place_of_word [] = None
-place_of_word (b ∷ bs) = sgf_or_editor_place b bs (sgf_row bs)
+abbrev pub point_name_of_word : List ℕ → Option PointName
+point_name_of_word [] = None
+point_name_of_word (b ∷ bs) = sgf_or_editor_point_name b bs (sgf_row bs)
 
 -- ---- words
 
-abbrev pub mark_mode_at : Option StonePlace → Option Mode
+abbrev pub mark_mode_at : Option PointName → Option Mode
 mark_mode_at None = None
-mark_mode_at (Some place) = Some (Marks (Some place))
+mark_mode_at (Some name) = Some (Marks (Some name))
 
 -- behind `--mark`
 abbrev pub mark_mode : List (List ℕ) → Option Mode
 mark_mode [] = Some (Marks None)
-mark_mode (w ∷ []) = mark_mode_at (place_of_word w)
+mark_mode (w ∷ []) = mark_mode_at (point_name_of_word w)
 mark_mode (w ∷ v ∷ ws) = None
 
 -- how many turns deep variations go where no word says so
@@ -99,8 +99,8 @@ mode_of_words (w ∷ ws) =
     else (if pointwise ◌==◌ w (codes "--sgf") then sgf_mode ws else None))
 
 -- the word behind `--mark`, where it is no point
-abbrev pub unreadable_point_word : List (List ℕ) → Option (List ℕ)
-unreadable_point_word [] = None
-unreadable_point_word (w ∷ []) = None
-unreadable_point_word (w ∷ v ∷ []) = if pointwise ◌==◌ w (codes "--mark") then value_if_unread v (place_of_word v) else None
-unreadable_point_word (w ∷ v ∷ u ∷ ws) = None
+abbrev pub unreadable_point_argument : List (List ℕ) → Option (List ℕ)
+unreadable_point_argument [] = None
+unreadable_point_argument (w ∷ []) = None
+unreadable_point_argument (w ∷ v ∷ []) = if pointwise ◌==◌ w (codes "--mark") then value_if_unread v (point_name_of_word v) else None
+unreadable_point_argument (w ∷ v ∷ u ∷ ws) = None

@@ -79,9 +79,9 @@ module _ (p : LineWithUndo) where
     bottom = last_shown (matters_along Rows) p.frame.size.rows;
   }
 
-abbrev pub board_extent_along : Size → Axis → ℕ
-board_extent_along size Columns = size.columns
-board_extent_along size Rows = size.rows
+abbrev pub point_count_along : Size → Axis → ℕ
+point_count_along size Columns = size.columns
+point_count_along size Rows = size.rows
 
 -- ---- shapes, by the middle of their cell
 

@@ -80,7 +80,7 @@ abbrev pub stones_before : Colour → Result GameState GameFault → PointNumber
 stones_before k (Ok s) = stones_of_colour s.size s.present k
 stones_before k (Err e) = set.empty
 
--- whether the points of a fault are told by the stones after the setup
+-- whether the points of a fault are found by the stones after the setup
 abbrev pub needs_stones_after_setup : GameFault → Bool
 needs_stones_after_setup e = nat_eq (code_of e) (code_of StoneWithoutLiberty) || (nat_eq (code_of e) (code_of EmptyTarget) || nat_eq (code_of e) (code_of MixedTargets))
 

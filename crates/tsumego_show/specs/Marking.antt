@@ -21,8 +21,8 @@ use Rattle.tt_game.specs.Line.{LineWithUndo}
 use Rattle.tt_game.specs.Nodes.{SQ, TR, has}
 use Rattle.tt_sgf.specs.Bytes.{newline}
 use Rattle.tt_game.specs.Problems.{node_count_before_solution, game_of, posed_problem}
-use Rattle.tsumego_show.specs.declared.mode.StonePlace.{StonePlace}
-use Rattle.tsumego_show.specs.declared.mode.StonePlace.TheVariants.{FromAbove, FromBelow}
+use Rattle.tsumego_show.specs.declared.mode.PointName.{PointName}
+use Rattle.tsumego_show.specs.declared.mode.PointName.TheVariants.{FromAbove, FromBelow}
 use Rattle.tsumego_show.specs.declared.mark_proposals.StoneWithPoints.{StoneWithPoints}
 use Rattle.tsumego_show.specs.declared.tree_bytes.LexicalState.TheVariants.{Outside}
 use Rattle.tsumego_show.specs.declared.variations.RootPointProperty.TheVariants.{Squares, Triangles}
@@ -58,9 +58,9 @@ abbrev pub point_if_on_board : Size → ℕ → ℕ → Option ℕ
 point_if_on_board size column row = if nat_lt column size.columns && nat_lt row size.rows then Some (row * size.columns + column) else None
 
 -- the point of a place; rows count from above, or from 1 below
-abbrev pub point_of_place : Size → StonePlace → Option ℕ
-point_of_place size (FromAbove column row) = point_if_on_board size column row
-point_of_place size (FromBelow column number) = if nat_lt 0 number && nat_le number size.rows then point_if_on_board size column (size.rows - number) else None
+abbrev pub point_of_name : Size → PointName → Option ℕ
+point_of_name size (FromAbove column row) = point_if_on_board size column row
+point_of_name size (FromBelow column number) = if nat_lt 0 number && nat_le number size.rows then point_if_on_board size column (size.rows - number) else None
 
 -- ---- which marks
 
@@ -88,17 +88,17 @@ module _ (s : GameState) where
   proposal_for_point (Some q) = proposal_if_closed true q (entry_at s.present q)
 
   -- that in a place, or on any point
-  abbrev pub proposal_for_place : Option StonePlace → Option StoneWithPoints
-  proposal_for_place None = fewest_squares_proposal (point_count s.size)
-  proposal_for_place (Some place) = proposal_for_point (point_of_place s.size place)
+  abbrev pub proposal_for_name : Option PointName → Option StoneWithPoints
+  proposal_for_name None = fewest_squares_proposal (point_count s.size)
+  proposal_for_name (Some name) = proposal_for_point (point_of_name s.size name)
 
   -- where there are squares none is proposed: two regions would be one
-  abbrev pub proposal_unless_squared : Bool → Option StonePlace → Option StoneWithPoints
-  proposal_unless_squared is_squared place = if is_squared then None else proposal_for_place place
+  abbrev pub proposal_unless_squared : Bool → Option PointName → Option StoneWithPoints
+  proposal_unless_squared is_squared name = if is_squared then None else proposal_for_name name
 
   -- the problem with a triangle on the stone, and squares on its region
-  abbrev pub problem_with_proposal : StoneWithPoints → LineWithUndo
-  problem_with_proposal m = posed_problem s m.points (set.insert set.empty m.stone) m.colour
+  abbrev pub problem_of_proposal : StoneWithPoints → LineWithUndo
+  problem_of_proposal m = posed_problem s m.points (set.insert set.empty m.stone) m.colour
 
 -- ---- which other groups are enclosed
 
@@ -112,9 +112,9 @@ module _ (s : GameState) where
   unfoldable pub other_enclosed_chains : StoneWithPoints → PointNumberSet
   other_enclosed_chains m = passing (λ q. is_first_of_other_enclosed_chain (set.union (chain s.size s.present m.colour m.stone) m.points) q (entry_at s.present q)) (point_count s.size)
 
-  -- they are told where nobody named a stone of the group
-  abbrev pub other_enclosed_chains_line : Option StonePlace → StoneWithPoints → List ℕ
-  other_enclosed_chains_line (Some place) m = []
+  -- they are named where nobody named a stone of the group
+  abbrev pub other_enclosed_chains_line : Option PointName → StoneWithPoints → List ℕ
+  other_enclosed_chains_line (Some name) m = []
   other_enclosed_chains_line None m = points_line_if_any s.size (codes "hint: other groups are enclosed too: name a stone of the one that is meant:") (other_enclosed_chains m)
 
 -- ---- which group is open least
@@ -203,43 +203,43 @@ module _ (s : GameState) where
   why_unmarked_or_off_board None = off_board_line s.size
   why_unmarked_or_off_board (Some q) = why_unmarked_at_point q (entry_at s.present q)
 
-  abbrev pub why_unmarked_at_place : Option StonePlace → List ℕ
-  why_unmarked_at_place None = why_no_group_enclosed (is_colour_on_board s Black) (is_colour_on_board s White)
-  why_unmarked_at_place (Some place) = why_unmarked_or_off_board (point_of_place s.size place)
+  abbrev pub why_unmarked_by_name : Option PointName → List ℕ
+  why_unmarked_by_name None = why_no_group_enclosed (is_colour_on_board s Black) (is_colour_on_board s White)
+  why_unmarked_by_name (Some name) = why_unmarked_or_off_board (point_of_name s.size name)
 
-  abbrev pub why_unmarked : Bool → Option StonePlace → List ℕ
-  why_unmarked is_squared place = if is_squared then already_squared_line else why_unmarked_at_place place
+  abbrev pub why_unmarked : Bool → Option PointName → List ℕ
+  why_unmarked is_squared name = if is_squared then already_squared_line else why_unmarked_by_name name
 
   -- ---- tree number k
 
   -- what is written of the game with this mark in the node of this number, or without one
-  abbrev pub proposal_or_reason : Bool → Option StonePlace → ℕ → ℕ → List ℕ → Option StoneWithPoints → List ℕ
-  proposal_or_reason is_squared place k n tree None = refusal_line k (code_of NoTarget) ++ (codes "why: " ++ (why_unmarked is_squared place ++ tree_as_given tree))
-  proposal_or_reason is_squared place k n tree (Some m) = other_enclosed_chains_line s place m ++ hints_and_marked_tree n (problem_with_proposal s m) tree
+  abbrev pub proposal_or_reason : Bool → Option PointName → ℕ → ℕ → List ℕ → Option StoneWithPoints → List ℕ
+  proposal_or_reason is_squared name k n tree None = refusal_line k (code_of NoTarget) ++ (codes "why: " ++ (why_unmarked is_squared name ++ tree_as_given tree))
+  proposal_or_reason is_squared name k n tree (Some m) = other_enclosed_chains_line s name m ++ hints_and_marked_tree n (problem_of_proposal s m) tree
 
 -- what is written of a main line without triangles: up to where it asks it comes to a game, and perhaps nobody says who moves there, and
 -- comments go on too far; or it is refused
-abbrev pub game_marked_or_kept : Option StonePlace → ℕ → List ℕ → List Node → Result GameState GameFault → List ℕ
-game_marked_or_kept place k tree ns (Ok s) =
+abbrev pub game_marked_or_kept : Option PointName → ℕ → List ℕ → List Node → Result GameState GameFault → List ℕ
+game_marked_or_kept name k tree ns (Ok s) =
     missing_mover_line (nodes_before_solution ns) ++ (unclosed_comment_lines ns
-    ++ proposal_or_reason s (is_last_problem_node_squared ns) place k (node_count_before_solution false ns) tree (proposal_unless_squared s (is_last_problem_node_squared ns) place))
-game_marked_or_kept place k tree ns (Err e) = refusal_and_why_text k ns e ++ tree_as_given tree
+    ++ proposal_or_reason s (is_last_problem_node_squared ns) name k (node_count_before_solution false ns) tree (proposal_unless_squared s (is_last_problem_node_squared ns) name))
+game_marked_or_kept name k tree ns (Err e) = refusal_and_why_text k ns e ++ tree_as_given tree
 
 -- what is written of a main line that is no problem, by this fault: where nothing is proposed, the tree as it was stands behind the lines
-abbrev pub tree_marked_or_kept : Option StonePlace → ℕ → List ℕ → List Node → GameFault → List ℕ
-tree_marked_or_kept place k tree ns e = if has_triangles ns then refusal_and_why_text k ns e ++ tree_as_given tree else game_marked_or_kept place k tree ns (game_of ns)
+abbrev pub tree_marked_or_kept : Option PointName → ℕ → List ℕ → List Node → GameFault → List ℕ
+tree_marked_or_kept name k tree ns e = if has_triangles ns then refusal_and_why_text k ns e ++ tree_as_given tree else game_marked_or_kept name k tree ns (game_of ns)
 
 -- and whether it is refused
 abbrev pub is_proposal_missing : Option StoneWithPoints → Bool
 is_proposal_missing None = true
 is_proposal_missing (Some m) = false
 
-abbrev pub is_game_left_unmarked : Bool → Option StonePlace → Result GameState GameFault → Bool
-is_game_left_unmarked is_squared place (Ok s) = is_proposal_missing (proposal_unless_squared s is_squared place)
-is_game_left_unmarked is_squared place (Err e) = true
+abbrev pub is_game_left_unmarked : Bool → Option PointName → Result GameState GameFault → Bool
+is_game_left_unmarked is_squared name (Ok s) = is_proposal_missing (proposal_unless_squared s is_squared name)
+is_game_left_unmarked is_squared name (Err e) = true
 
-abbrev pub is_left_unmarked : Option StonePlace → List Node → Bool
-is_left_unmarked place ns = if has_triangles ns then true else is_game_left_unmarked (is_last_problem_node_squared ns) place (game_of ns)
+abbrev pub is_left_unmarked : Option PointName → List Node → Bool
+is_left_unmarked name ns = if has_triangles ns then true else is_game_left_unmarked (is_last_problem_node_squared ns) name (game_of ns)
 
 -- ---- trees that are problems
 

@@ -56,20 +56,20 @@ abbrev pub IsProblemText : Mode → ℕ → List ℕ → List Node → LineWithU
 IsProblemText Picture k tree ns p behind text = (drawn : List ℕ) × IsFollowingText p behind drawn × (text ≡ picture_and_hints_text k ns p ++ drawn)
 IsProblemText Diagram k tree ns p behind text = IsDiagram (is_only_tree k behind) k p behind text
 IsProblemText (Variations depth) k tree ns p behind text = (b : FollowingStrategy) × IsFollowingStrategy p.frame.size behind b × (text ≡ sgf_text p ns depth (no_strategy_words behind) b)
-IsProblemText (Marks place) k tree ns p behind text = text ≡ kept_problem_text k tree ns
+IsProblemText (Marks name) k tree ns p behind text = text ≡ kept_problem_text k tree ns
 
 -- the text on tree number k with these bytes, whose main line is no problem, and whether it is refused: where marks are wanted and it has none, they may be proposed
 abbrev pub non_problem_text : Mode → ℕ → List ℕ → List Node → GameFault → List ℕ
 non_problem_text Picture k tree ns e = refusal_and_why_text k ns e
 non_problem_text Diagram k tree ns e = refusal_and_why_text k ns e
 non_problem_text (Variations depth) k tree ns e = refusal_and_why_text k ns e
-non_problem_text (Marks place) k tree ns e = tree_marked_or_kept place k tree ns e
+non_problem_text (Marks name) k tree ns e = tree_marked_or_kept name k tree ns e
 
 abbrev pub is_non_problem_refused : Mode → List Node → Bool
 is_non_problem_refused Picture ns = true
 is_non_problem_refused Diagram ns = true
 is_non_problem_refused (Variations depth) ns = true
-is_non_problem_refused (Marks place) ns = is_left_unmarked place ns
+is_non_problem_refused (Marks name) ns = is_left_unmarked name ns
 
 -- the text on tree number k with these bytes, whose main line is a problem or refused, and which is followed by the others
 abbrev pub IsGameTreeText : Mode → ℕ → List ℕ → List Node → Result LineWithUndo GameFault → List ℕ → List ℕ → Type 0
@@ -81,7 +81,7 @@ abbrev pub is_problem_refused : Mode → ℕ → List Node → List ℕ → Bool
 is_problem_refused Picture k ns behind = false
 is_problem_refused Diagram k ns behind = not (is_only_tree k behind)
 is_problem_refused (Variations depth) k ns behind = false
-is_problem_refused (Marks place) k ns behind = is_some (unsquared_triangle_node 0 ns)
+is_problem_refused (Marks name) k ns behind = is_some (unsquared_triangle_node 0 ns)
 
 abbrev pub mode_refuses_tree : Mode → ℕ → List Node → Result LineWithUndo GameFault → List ℕ → Bool
 mode_refuses_tree mode k ns (Ok p) behind = is_problem_refused mode k ns behind
@@ -97,7 +97,7 @@ pub data IsTextOfRest (mode : Mode) (input : List ℕ) : ℕ → List ℕ → Li
   ended : (k : ℕ) (bytes : List ℕ) → 1 < k → (HasOpeningParenthesis bytes → ⊥) → IsTextOfRest mode input k bytes [] false
   stopped : (k : ℕ) (bytes : List ℕ) → (k ≡ 1) ⊎ HasOpeningParenthesis bytes → HasNoTree bytes → IsTextOfRest mode input k bytes (no_tree_text k input bytes) true
 
--- the text for an input, and whether something is refused: the input is too long, or its trees are told from number 1 on
+-- the text for an input, and whether something is refused: the input is too long, or it has a text for each tree from number 1 on
 pub data IsInputText (mode : Mode) (input : List ℕ) : List ℕ → Bool → Type 0 where
   too_long : MAX_BYTES < length input → IsInputText mode input (too_long_text 1) true
   trees : (text : List ℕ) (refused : Bool) → length input ≤ MAX_BYTES → IsTextOfRest mode input 1 input text refused → IsInputText mode input text refused

@@ -1,9 +1,9 @@
 //! Reads the words behind the program's name.
 ghost use Rattle.std.specs.Prelude.{◌≡◌, MatchOption, None, Some, map, string_bytes};
 ghost use Rattle.tt_sgf.specs.Values.{number_of};
-ghost use Rattle.tsumego_show.specs.CommandLine.{column_of_editor_letter, coordinate_of_sgf_letter, svg_mode, mode_of_words, editor_place, mark_mode, place_of_word, sgf_row, sgf_mode, sgf_mode_to_depth, unreadable_point_word};
+ghost use Rattle.tsumego_show.specs.CommandLine.{column_of_editor_letter, coordinate_of_sgf_letter, svg_mode, mode_of_words, editor_point_name, mark_mode, point_name_of_word, sgf_row, sgf_mode, sgf_mode_to_depth, unreadable_point_argument};
 
-use crate::mode::{Mode, StonePlace};
+use crate::mode::{Mode, PointName};
 use tt_proof::MOST_DEPTH;
 use tt_sgf::number;
 
@@ -45,25 +45,25 @@ fn sgf_row(rest: &[u8]) -> Option<usize>
 }
 
 /// The place in this column and in the row of this number.
-fn editor_place(column: Option<usize>, row: Option<u16>) -> Option<StonePlace>
-    ensures { result ≡ editor_place column row }
+fn editor_point_name(column: Option<usize>, row: Option<u16>) -> Option<PointName>
+    ensures { result ≡ editor_point_name column row }
 {
     let row = row?;
     let column = column?;
     if row == 0 || row > 19 {
         return None;
     }
-    Some(StonePlace::FromBelow(column, usize::from(row)))
+    Some(PointName::FromBelow(column, usize::from(row)))
 }
 
 /// The place that a word names, as SGF or as editors do.
-fn place_of_word(word: &[u8]) -> Option<StonePlace>
-    ensures { result ≡ place_of_word word.now }
+fn point_name_of_word(word: &[u8]) -> Option<PointName>
+    ensures { result ≡ point_name_of_word word.now }
 {
     let (first, rest) = word.split_first()?;
     match sgf_row(rest) {
-        Some(row) => Some(StonePlace::FromAbove(coordinate_of_sgf_letter(*first)?, row)),
-        None => editor_place(
+        Some(row) => Some(PointName::FromAbove(coordinate_of_sgf_letter(*first)?, row)),
+        None => editor_point_name(
             column_of_editor_letter(first.to_ascii_uppercase()),
             number(rest),
         ),
@@ -76,7 +76,7 @@ fn mark_mode(words: &[String]) -> Option<Mode>
 {
     match words {
         [] => Some(Mode::Marks(None)),
-        [word] => Some(Mode::Marks(Some(place_of_word(word.as_bytes())?))),
+        [word] => Some(Mode::Marks(Some(point_name_of_word(word.as_bytes())?))),
         _ => None,
     }
 }
@@ -142,13 +142,13 @@ pub fn mode_of_words(words: &[String]) -> Option<Mode>
 }
 
 /// The word behind `--mark` that should be a point, and is none.
-pub fn unreadable_point_word(words: &[String]) -> Option<&String>
-    ensures { MatchOption result (unreadable_point_word (map string_bytes words.now) ≡ None) (λ w. unreadable_point_word (map string_bytes words.now) ≡ Some (string_bytes w.now)) }
+pub fn unreadable_point_argument(words: &[String]) -> Option<&String>
+    ensures { MatchOption result (unreadable_point_argument (map string_bytes words.now) ≡ None) (λ w. unreadable_point_argument (map string_bytes words.now) ≡ Some (string_bytes w.now)) }
 {
     let [name, word] = words else {
         return None;
     };
-    if name.as_bytes() == b"--mark".as_slice() && place_of_word(word.as_bytes()).is_none() {
+    if name.as_bytes() == b"--mark".as_slice() && point_name_of_word(word.as_bytes()).is_none() {
         return Some(word);
     }
     None

@@ -27,7 +27,7 @@ mod unfolding;
 mod variations;
 mod windows;
 
-use arguments::{USAGE, mode_of_words, unreadable_point_word};
+use arguments::{USAGE, mode_of_words, unreadable_point_argument};
 use devices::Watched;
 use mode::Mode;
 use running::run;
@@ -65,7 +65,7 @@ fn main(rt: HostRuntime) -> ExitCode {
     let words = command_line_words(&rt);
     let words = words.as_deref();
     let Some(mode) = words.and_then(mode_of_words) else {
-        tell_refused_words(&rt, words.and_then(unreadable_point_word));
+        tell_refused_words(&rt, words.and_then(unreadable_point_argument));
         return ExitCode::from(2);
     };
     let mut reader = Watched::new(rt.stdin());

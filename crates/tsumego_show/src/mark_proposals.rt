@@ -2,9 +2,9 @@
 ghost use Rattle.std.specs.Prelude.{◌≡◌, ℕ, ◌<◌, IfSome};
 ghost use Rattle.tt_sgf.specs.Sizes.{point_count};
 ghost use Rattle.tt_board.specs.Reach.{entry_at};
-ghost use Rattle.tsumego_show.specs.Marking.{proposal_for_place, proposal_if_closed, proposal_for_point, one_with_fewer_points, fewest_squares_proposal, stone_with_fewest_ways_out, ways_out_at, point_of_place, point_if_on_board, proposal_unless_squared, is_first_of_other_enclosed_chain, other_enclosed_chains};
+ghost use Rattle.tsumego_show.specs.Marking.{proposal_for_name, proposal_if_closed, proposal_for_point, one_with_fewer_points, fewest_squares_proposal, stone_with_fewest_ways_out, ways_out_at, point_of_name, point_if_on_board, proposal_unless_squared, is_first_of_other_enclosed_chain, other_enclosed_chains};
 
-use crate::mode::StonePlace;
+use crate::mode::PointName;
 use crate::points::point_numbered;
 use crate::regions::{chain, is_first_of_chain, proposed_region, ways_out};
 use tt_board::Colour;
@@ -35,13 +35,13 @@ fn point_if_on_board(size: Size, column: usize, row: usize) -> Option<Point>
 }
 
 /// The point of a place, where the board has it.
-pub fn point_of_place(size: Size, place: StonePlace) -> Option<Point>
-    ensures value { result ≡ point_of_place size place }
+pub fn point_of_name(size: Size, name: PointName) -> Option<Point>
+    ensures value { result ≡ point_of_name size name }
     ensures on_board { IfSome result (λ q. q < point_count size) }
 {
-    match place {
-        StonePlace::FromAbove(column, row) => point_if_on_board(size, column, row),
-        StonePlace::FromBelow(column, number) => {
+    match name {
+        PointName::FromAbove(column, row) => point_if_on_board(size, column, row),
+        PointName::FromBelow(column, number) => {
             let rows = usize::from(size.rows());
             if 0 < number && number <= rows {
                 return point_if_on_board(size, column, rows - number);
@@ -117,13 +117,13 @@ fn proposal_for_point(game: &Game, stone: Option<Point>) -> Option<StoneWithPoin
 }
 
 /// That in a place, or on any point.
-fn proposal_for_place(game: &Game, place: Option<StonePlace>) -> Option<StoneWithPoints>
-    ensures value { result ≡ proposal_for_place game.now place }
+fn proposal_for_name(game: &Game, name: Option<PointName>) -> Option<StoneWithPoints>
+    ensures value { result ≡ proposal_for_name game.now name }
     ensures on_board { IfSome result (λ m. m.stone < point_count game.now.size) }
 {
-    match place {
+    match name {
         None => fewest_squares_proposal(game),
-        Some(place) => proposal_for_point(game, point_of_place(game.size(), place)),
+        Some(name) => proposal_for_point(game, point_of_name(game.size(), name)),
     }
 }
 
@@ -131,15 +131,15 @@ fn proposal_for_place(game: &Game, place: Option<StonePlace>) -> Option<StoneWit
 pub fn proposal_unless_squared(
     game: &Game,
     is_squared: bool,
-    place: Option<StonePlace>,
+    name: Option<PointName>,
 ) -> Option<StoneWithPoints>
-    ensures value { result ≡ proposal_unless_squared game.now is_squared place }
+    ensures value { result ≡ proposal_unless_squared game.now is_squared name }
     ensures on_board { IfSome result (λ m. m.stone < point_count game.now.size) }
 {
     if is_squared {
         return None;
     }
-    proposal_for_place(game, place)
+    proposal_for_name(game, name)
 }
 
 /// Whether the stone on a point, where one is there, isn't in the set, and is the first of a chain that is enclosed.
@@ -157,11 +157,11 @@ fn is_first_of_other_enclosed_chain(game: &Game, known: &PointSet, stone: Point)
 
 /// The first stones of the enclosed chains that are neither that of a mark nor in its region.
 #[tactic(auto, using(crate::proofs::Sets::none_passed, crate::proofs::Sets::one_in, crate::proofs::Sets::one_out), unfolding(crate::specs::Marking::other_enclosed_chains))]
-pub fn other_enclosed_chains(game: &Game, mark: &StoneWithPoints) -> PointSet
-    ensures { result ≡ other_enclosed_chains game.now mark.now }
+pub fn other_enclosed_chains(game: &Game, proposal: &StoneWithPoints) -> PointSet
+    ensures { result ≡ other_enclosed_chains game.now proposal.now }
 {
     let size = game.size();
-    let known = chain(game.present(), mark.colour, mark.stone).or(&mark.points);
+    let known = chain(game.present(), proposal.colour, proposal.stone).or(&proposal.points);
     let mut made = PointSet::empty();
     for number in 0..size.point_count() {
         let point = point_numbered(size, number);

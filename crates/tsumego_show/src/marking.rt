@@ -7,8 +7,8 @@ ghost use Rattle.tt_board.specs.Reach.{entry_at};
 ghost use Rattle.tt_game.specs.Nodes.{SQ, TR, has};
 ghost use Rattle.tt_game.specs.Problems.{node_count_before_solution, game_of};
 ghost use Rattle.tsumego_show.specs.Marking.{nodes_before_solution, chain_name, game_marked_or_kept, other_enclosed_chains_line, is_some_with_property, is_proposal_missing, is_last_problem_node_squared, is_colour_on_board, has_triangles, is_game_left_unmarked, is_left_unmarked};
-ghost use Rattle.tsumego_show.specs.Marking.{tree_marked_or_kept, problem_with_proposal, no_enclosed_group_text, hints_and_marked_tree, unsquared_triangle_node, empty_point_line, off_board_line, open_group_line, open_text, ways_out_or_nearby_text, kept_problem_text, proposal_unless_squared, why_no_group_enclosed, chain_and_ways_out_text, why_unmarked_at_point};
-ghost use Rattle.tsumego_show.specs.Marking.{why_unmarked, why_unmarked_at_place, why_unmarked_or_off_board, proposal_or_reason, tree_with_marks, unsquared_node_line};
+ghost use Rattle.tsumego_show.specs.Marking.{tree_marked_or_kept, problem_of_proposal, no_enclosed_group_text, hints_and_marked_tree, unsquared_triangle_node, empty_point_line, off_board_line, open_group_line, open_text, ways_out_or_nearby_text, kept_problem_text, proposal_unless_squared, why_no_group_enclosed, chain_and_ways_out_text, why_unmarked_at_point};
+ghost use Rattle.tsumego_show.specs.Marking.{why_unmarked, why_unmarked_by_name, why_unmarked_or_off_board, proposal_or_reason, tree_with_marks, unsquared_node_line};
 ghost use Rattle.tsumego_show.specs.Refusals.{refusal_and_why_text};
 ghost use Rattle.tsumego_show.specs.TreeBytes.{tree_as_given};
 
@@ -17,10 +17,10 @@ use crate::hints::{
     put_points_line_if_any, put_unclosed_comment_lines,
 };
 use crate::mark_proposals::{
-    StoneWithPoints, other_enclosed_chains, point_of_place, proposal_unless_squared,
+    StoneWithPoints, other_enclosed_chains, point_of_name, proposal_unless_squared,
     stone_with_fewest_ways_out,
 };
-use crate::mode::StonePlace;
+use crate::mode::PointName;
 use crate::node_values::has_property;
 use crate::picture::colour_name;
 use crate::refusals::{put_refusal_and_why, put_refusal_line};
@@ -268,21 +268,21 @@ fn put_why_no_group_enclosed(alloc: Global, out: &mut Vec<u8>, game: &Game) -> R
 }
 
 /// Writes why no mark is proposed behind the text.
-fn put_why_unmarked_at_place(
+fn put_why_unmarked_by_name(
     alloc: Global,
     out: &mut Vec<u8>,
     game: &Game,
-    place: Option<StonePlace>,
+    name: Option<PointName>,
 ) -> Result<(), NoMemory>
-    ensures { OnOk result (out.new.items ≡ out.old.items ++ why_unmarked_at_place game.now place) }
+    ensures { OnOk result (out.new.items ≡ out.old.items ++ why_unmarked_by_name game.now name) }
 {
-    match place {
+    match name {
         None => put_why_no_group_enclosed(alloc, out, game),
-        Some(place) => put_why_unmarked_or_off_board(
+        Some(name) => put_why_unmarked_or_off_board(
             alloc,
             out,
             game,
-            point_of_place(game.size(), place),
+            point_of_name(game.size(), name),
         ),
     }
 }
@@ -293,16 +293,16 @@ fn put_why_unmarked(
     out: &mut Vec<u8>,
     game: &Game,
     is_squared: bool,
-    place: Option<StonePlace>,
+    name: Option<PointName>,
 ) -> Result<(), NoMemory>
-    ensures { OnOk result (out.new.items ≡ out.old.items ++ why_unmarked game.now is_squared place) }
+    ensures { OnOk result (out.new.items ≡ out.old.items ++ why_unmarked game.now is_squared name) }
 {
     if is_squared {
         return Ok(out.extend_from_slice(
             b"squares stand there already: put a triangle on a stone of the group, or take SQ out\n",
         )?);
     }
-    put_why_unmarked_at_place(alloc, out, game, place)
+    put_why_unmarked_by_name(alloc, out, game, name)
 }
 
 /// The nodes up to where a main line asks.
@@ -337,29 +337,29 @@ fn put_game_with_proposal(
     alloc: Global,
     out: &mut Vec<u8>,
     game: Game,
-    mark: StoneWithPoints,
+    proposal: StoneWithPoints,
     number: usize,
     tree: &[u8],
 ) -> Result<(), NoMemory>
-    requires { mark.stone < point_count game.size }
-    ensures { OnOk result (out.new.items ≡ out.old.items ++ hints_and_marked_tree number (problem_with_proposal game mark) tree.now) }
+    requires { proposal.stone < point_count game.size }
+    ensures { OnOk result (out.new.items ≡ out.old.items ++ hints_and_marked_tree number (problem_of_proposal game proposal) tree.now) }
 {
-    let targets = PointSet::empty().with(mark.stone);
-    let line = game.into_problem(mark.points, targets, mark.colour)?;
+    let targets = PointSet::empty().with(proposal.stone);
+    let line = game.into_problem(proposal.points, targets, proposal.colour)?;
     put_hints_and_marked_tree(alloc, out, &line, number, tree)
 }
 
-/// Writes which other groups are enclosed than that of a mark, where nobody named a stone, behind the text.
+/// Writes which other groups are enclosed than that of a proposal, where nobody named a stone, behind the text.
 fn put_other_enclosed_chains_line(
     alloc: Global,
     out: &mut Vec<u8>,
     game: &Game,
-    place: Option<StonePlace>,
-    mark: &StoneWithPoints,
+    name: Option<PointName>,
+    proposal: &StoneWithPoints,
 ) -> Result<(), NoMemory>
-    ensures { OnOk result (out.new.items ≡ out.old.items ++ other_enclosed_chains_line game.now place mark.now) }
+    ensures { OnOk result (out.new.items ≡ out.old.items ++ other_enclosed_chains_line game.now name proposal.now) }
 {
-    if place.is_some() {
+    if name.is_some() {
         return Ok(());
     }
     put_points_line_if_any(
@@ -367,7 +367,7 @@ fn put_other_enclosed_chains_line(
         out,
         game.size(),
         b"hint: other groups are enclosed too: name a stone of the one that is meant:",
-        &other_enclosed_chains(game, mark),
+        &other_enclosed_chains(game, proposal),
     )
 }
 
@@ -375,29 +375,29 @@ fn put_other_enclosed_chains_line(
 fn put_proposal_or_reason(
     alloc: Global,
     out: &mut Vec<u8>,
-    place: Option<StonePlace>,
+    name: Option<PointName>,
     number: usize,
     main: &MainLine,
     tree: &[u8],
     game: Game,
 ) -> Result<bool, NoMemory>
     ensures text { OnOk result (out.new.items ≡ out.old.items
-        ++ proposal_or_reason game (is_last_problem_node_squared main.now.nodes) place number (node_count_before_solution false main.now.nodes) tree.now (proposal_unless_squared game (is_last_problem_node_squared main.now.nodes) place)) }
-    ensures left { IfOk result (λ left. left ≡ is_proposal_missing (proposal_unless_squared game (is_last_problem_node_squared main.now.nodes) place)) }
+        ++ proposal_or_reason game (is_last_problem_node_squared main.now.nodes) name number (node_count_before_solution false main.now.nodes) tree.now (proposal_unless_squared game (is_last_problem_node_squared main.now.nodes) name)) }
+    ensures left { IfOk result (λ left. left ≡ is_proposal_missing (proposal_unless_squared game (is_last_problem_node_squared main.now.nodes) name)) }
 {
     let nodes = main.nodes.as_slice();
     let is_squared = is_last_problem_node_squared(nodes);
-    match proposal_unless_squared(&game, is_squared, place) {
-        Some(mark) => {
+    match proposal_unless_squared(&game, is_squared, name) {
+        Some(proposal) => {
             let node = node_count_before_solution(nodes);
-            put_other_enclosed_chains_line(alloc, out, &game, place, &mark)?;
-            put_game_with_proposal(alloc, out, game, mark, node, tree)?;
+            put_other_enclosed_chains_line(alloc, out, &game, name, &proposal)?;
+            put_game_with_proposal(alloc, out, game, proposal, node, tree)?;
             Ok(false)
         }
         None => {
             put_refusal_line(alloc, out, number, GameFault::NoTarget.code())?;
             out.extend_from_slice(b"why: ")?;
-            put_why_unmarked(alloc, out, &game, is_squared, place)?;
+            put_why_unmarked(alloc, out, &game, is_squared, name)?;
             put_tree_as_given(out, tree)?;
             Ok(true)
         }
@@ -423,19 +423,19 @@ fn put_refusal_why_and_tree(
 fn put_game_marked_or_kept(
     alloc: Global,
     out: &mut Vec<u8>,
-    place: Option<StonePlace>,
+    name: Option<PointName>,
     number: usize,
     main: MainLine,
     tree: &[u8],
 ) -> Result<bool, NoMemory>
-    ensures text { OnOk result (out.new.items ≡ out.old.items ++ game_marked_or_kept place number tree.now main.nodes (game_of main.nodes)) }
-    ensures left { IfOk result (λ left. left ≡ is_game_left_unmarked (is_last_problem_node_squared main.nodes) place (game_of main.nodes)) }
+    ensures text { OnOk result (out.new.items ≡ out.old.items ++ game_marked_or_kept name number tree.now main.nodes (game_of main.nodes)) }
+    ensures left { IfOk result (λ left. left ≡ is_game_left_unmarked (is_last_problem_node_squared main.nodes) name (game_of main.nodes)) }
 {
     match game_before_solution(alloc, &main) {
         Ok(game) => {
             put_missing_mover_line(out, nodes_before_solution(main.nodes.as_slice()))?;
             put_unclosed_comment_lines(out, main.nodes.as_slice())?;
-            put_proposal_or_reason(alloc, out, place, number, &main, tree, game)
+            put_proposal_or_reason(alloc, out, name, number, &main, tree, game)
         }
         Err(GameFault::NoMemory) => Err(NoMemory),
         Err(fault) => {
@@ -446,24 +446,24 @@ fn put_game_marked_or_kept(
 }
 
 /// Writes a tree whose main line is no problem, by this fault, with the mark for a stone behind the text, or why there is none, and
-/// says whether it is left without a mark.
+/// says whether it is left without a proposal.
 pub fn put_tree_marked_or_kept(
     alloc: Global,
     out: &mut Vec<u8>,
-    place: Option<StonePlace>,
+    name: Option<PointName>,
     number: usize,
     main: MainLine,
     tree: &[u8],
     fault: GameFault,
 ) -> Result<bool, NoMemory>
-    ensures text { OnOk result (out.new.items ≡ out.old.items ++ tree_marked_or_kept place number tree.now main.nodes fault) }
-    ensures left { IfOk result (λ left. left ≡ is_left_unmarked place main.nodes) }
+    ensures text { OnOk result (out.new.items ≡ out.old.items ++ tree_marked_or_kept name number tree.now main.nodes fault) }
+    ensures left { IfOk result (λ left. left ≡ is_left_unmarked name main.nodes) }
 {
     if has_triangles(main.nodes.as_slice()) {
         put_refusal_why_and_tree(alloc, out, number, main, tree, fault)?;
         return Ok(true);
     }
-    put_game_marked_or_kept(alloc, out, place, number, main, tree)
+    put_game_marked_or_kept(alloc, out, name, number, main, tree)
 }
 
 /// The number of the first node with triangles, counted from 1, where it has no squares.

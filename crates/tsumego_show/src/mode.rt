@@ -7,12 +7,12 @@ pub enum Mode {
     Picture,
     Diagram,
     Variations(usize),
-    Marks(Option<StonePlace>),
+    Marks(Option<PointName>),
 }
 
 /// A point by its column and row. Columns count from 0 on the left; rows from 0 above as in SGF, or from 1 below as in editors.
 #[derive(Clone, Copy)]
-pub enum StonePlace {
+pub enum PointName {
     FromAbove(usize, usize),
     FromBelow(usize, usize),
 }

@@ -10,7 +10,7 @@ use tt_sgf::{Point, PointSet, Size};
 /// The most points of a region that is closed.
 const MOST_ENCLOSED_POINTS: u16 = 40;
 
-/// So many steps around a chain an open region is told.
+/// So many steps around a chain its points are named, where the region is open.
 const NEARBY_STEPS: usize = 3;
 
 /// Whether a point beside the one of this number is in the set.

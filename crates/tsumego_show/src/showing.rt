@@ -179,7 +179,7 @@ fn put_non_problem(
     ensures refused { IfOk result (λ refused. refused ≡ is_non_problem_refused mode main.nodes) }
 {
     match mode {
-        Mode::Marks(place) => put_tree_marked_or_kept(alloc, out, place, number, main, tree, fault),
+        Mode::Marks(name) => put_tree_marked_or_kept(alloc, out, name, number, main, tree, fault),
         Mode::Picture | Mode::Diagram | Mode::Variations(_) => {
             put_refusal_and_why(alloc, out, number, main, fault)?;
             Ok(true)

@@ -19,7 +19,7 @@ use crate::picture::{
 use crate::points::{has_stone_of_colour, is_target, point_numbered};
 use std::alloc::Global;
 use tt_board::Colour;
-use tt_game::{Line, Refused, Side, Turn};
+use tt_game::{Line, PushError, Side, Turn};
 use tt_proof::{Tree, put_turn};
 use tt_sgf::{NoMemory, Node, Property, Size};
 
@@ -342,8 +342,8 @@ fn put_variation_if_legal(
             line.pop();
             put
         }
-        Err(Refused::Illegal(_)) => Ok(()),
-        Err(Refused::NoMemory) => Err(NoMemory),
+        Err(PushError::Illegal(_)) => Ok(()),
+        Err(PushError::NoMemory) => Err(NoMemory),
     }
 }
 

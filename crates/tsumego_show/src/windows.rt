@@ -2,7 +2,7 @@
 ghost use Rattle.std.specs.Prelude.{◌≡◌, ◌+◌, ◌-◌, ◌*◌, ◌<◌, ◌≤◌};
 ghost use Rattle.tt_sgf.specs.Sizes.{point_count};
 ghost use Rattle.tsumego_show.specs.inside.Windows.{IsWindow};
-ghost use Rattle.tsumego_show.specs.Diagram.{column_matters, board_extent_along, first_shown, last_below, is_stone_beside_region, last_shown, first_at_or_after, matters, matters_along, row_matters, window};
+ghost use Rattle.tsumego_show.specs.Diagram.{column_matters, point_count_along, first_shown, last_below, is_stone_beside_region, last_shown, first_at_or_after, matters, matters_along, row_matters, window};
 
 use crate::points::{has_point_numbered, is_in_region, is_target, point_numbered};
 use crate::regions::adjacent_points;
@@ -82,8 +82,8 @@ fn row_matters(line: &Line, row: usize) -> bool
 }
 
 /// How many columns or rows the board has.
-fn board_extent_along(size: Size, along: Axis) -> usize
-    ensures value { result ≡ board_extent_along size along }
+fn point_count_along(size: Size, along: Axis) -> usize
+    ensures value { result ≡ point_count_along size along }
     ensures some { 1 ≤ result }
     ensures few { result ≤ 19 }
 {
@@ -95,7 +95,7 @@ fn board_extent_along(size: Size, along: Axis) -> usize
 
 /// Whether such a point lies in a column or a row.
 fn matters_along(line: &Line, along: Axis, n: usize) -> bool
-    requires { n < board_extent_along line.now.frame.size along }
+    requires { n < point_count_along line.now.frame.size along }
     ensures { result ≡ matters_along line.now along n }
 {
     match along {
@@ -107,10 +107,10 @@ fn matters_along(line: &Line, along: Axis, n: usize) -> bool
 /// The first column or row with such a point, or the last one.
 #[tactic(auto, using(crate::proofs::FirstAndLast::least_end, crate::proofs::FirstAndLast::least_here, crate::proofs::FirstAndLast::least_next))]
 fn first_that_matters(line: &Line, along: Axis) -> usize
-    ensures value { result ≡ first_at_or_after (matters_along line.now along) 0 (board_extent_along line.now.frame.size along - 1) }
-    ensures bound { result ≤ board_extent_along line.now.frame.size along - 1 }
+    ensures value { result ≡ first_at_or_after (matters_along line.now along) 0 (point_count_along line.now.frame.size along - 1) }
+    ensures bound { result ≤ point_count_along line.now.frame.size along - 1 }
 {
-    let last = board_extent_along(line.frame().size, along) - 1;
+    let last = point_count_along(line.frame().size, along) - 1;
     let mut n = 0;
     while n < last {
         if matters_along(line, along, n) {
@@ -124,10 +124,10 @@ fn first_that_matters(line: &Line, along: Axis) -> usize
 /// The last column or row with such a point, or the first one.
 #[tactic(auto, using(crate::proofs::FirstAndLast::greatest_none, crate::proofs::FirstAndLast::greatest_here, crate::proofs::FirstAndLast::greatest_less))]
 fn last_that_matters(line: &Line, along: Axis) -> usize
-    ensures value { result ≡ last_below (matters_along line.now along) (board_extent_along line.now.frame.size along) }
+    ensures value { result ≡ last_below (matters_along line.now along) (point_count_along line.now.frame.size along) }
     ensures bound { result ≤ 18 }
 {
-    let mut n = board_extent_along(line.frame().size, along);
+    let mut n = point_count_along(line.frame().size, along);
     while 0 < n {
         if matters_along(line, along, n - 1) {
             return n - 1;
@@ -139,19 +139,19 @@ fn last_that_matters(line: &Line, along: Axis) -> usize
 
 /// The first column or row that is drawn.
 fn first_shown(line: &Line, along: Axis) -> usize
-    ensures value { result ≡ first_shown (matters_along line.now along) (board_extent_along line.now.frame.size along) }
-    ensures bound { result < board_extent_along line.now.frame.size along }
+    ensures value { result ≡ first_shown (matters_along line.now along) (point_count_along line.now.frame.size along) }
+    ensures bound { result < point_count_along line.now.frame.size along }
 {
     first_that_matters(line, along).saturating_sub(1)
 }
 
 /// The last column or row that is drawn.
 fn last_shown(line: &Line, along: Axis) -> usize
-    ensures value { result ≡ last_shown (matters_along line.now along) (board_extent_along line.now.frame.size along) }
-    ensures first { first_shown (matters_along line.now along) (board_extent_along line.now.frame.size along) ≤ result }
-    ensures bound { result < board_extent_along line.now.frame.size along }
+    ensures value { result ≡ last_shown (matters_along line.now along) (point_count_along line.now.frame.size along) }
+    ensures first { first_shown (matters_along line.now along) (point_count_along line.now.frame.size along) ≤ result }
+    ensures bound { result < point_count_along line.now.frame.size along }
 {
-    let last = board_extent_along(line.frame().size, along) - 1;
+    let last = point_count_along(line.frame().size, along) - 1;
     let wide = (last_that_matters(line, along) + 1).min(last);
     first_shown(line, along).max(wide)
 }

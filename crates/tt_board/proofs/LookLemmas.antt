@@ -307,7 +307,7 @@ module _ (b : ChainBoard) (k : Colour) (p : ℕ) (is : IsChainBoard b) (in_p : p
         subst (λ xs. Reaches b.size xs p None) (sym same)
         (reaches_on b.size (set b.points p (Some k)) None p r h.2.2.0 (off r apart ∙ mine ∙ sym here) reach)
 
-    -- what the play leaves, told by the names
+    -- what the play leaves, by the names
     pub no_capture_goes : taken ≡ play_of b.size b.points k p → (q : ℕ) → entry_at b.points q ≢ None → (entry_at (play_of b.size b.points k p) q ≡ None) ↔ Contains weak (name_at b.names q)
     no_capture_goes same q stone = (
       λ bare. elim (in_list weak (name_at b.names q)) [

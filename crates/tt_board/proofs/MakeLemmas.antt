@@ -31,7 +31,7 @@ play_either s c k p q = elim (clear_either s (clear s (set c p (Some k)) (other 
 ]
 
 module _ (s : Size) (c d : Colouring) (k : Colour) (p : ℕ) (ns goes : List ℕ) (fits : length c ≡ point_count s) (in_p : p < point_count s) (free : entry_at c p ≡ None)
-    (told : (q : ℕ) → entry_at c q ≢ None → (entry_at (play_of s c k p) q ≡ None) ↔ Contains goes (name_at ns q)) (d_fits : length d ≡ length c)
+    (facts : (q : ℕ) → entry_at c q ≢ None → (entry_at (play_of s c k p) q ≡ None) ↔ Contains goes (name_at ns q)) (d_fits : length d ≡ length c)
     (gone : (q : ℕ) → Contains goes (name_at ns q) → entry_at d q ≡ None) (kept : (q : ℕ) → (Contains goes (name_at ns q) → ⊥) → entry_at d q ≡ entry_at c q) where
   -- the point is still empty
   pub still_free : entry_at d p ≡ None
@@ -46,9 +46,9 @@ module _ (s : Size) (c d : Colouring) (k : Colour) (p : ℕ) (ns goes : List ℕ
             let now : entry_at (play_of s c k p) q ≡ None = elim (play_either s c k p q) [ inl b ↦ b | inr same ↦ same ∙ put ∙ bare ] in
             (elim (in_list goes (name_at ns q)) [ inl has ↦ gone q has | inr none ↦ kept q none ∙ bare ]) ∙ sym now
         | inr stone ↦ elim (in_list goes (name_at ns q)) [
-          | inl has ↦ gone q has ∙ sym ((told q stone).1 has)
+          | inl has ↦ gone q has ∙ sym ((facts q stone).1 has)
           | inr none ↦ elim (play_either s c k p q) [
-            | inl bare ↦ absurd (none ((told q stone).0 bare))
+            | inl bare ↦ absurd (none ((facts q stone).0 bare))
             | inr same ↦ kept q none ∙ sym put ∙ sym same
           ]
         ]

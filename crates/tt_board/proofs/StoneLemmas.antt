@@ -111,9 +111,9 @@ module _ (s : PointNumberSet) (n : ℕ) (small : n ≤ 361) (within : (p : ℕ) 
       → (b : Bool) → ((b ≡ true → IsWithinUnion ws xs ys) × (IsWithinUnion ws xs ys → b ≡ true)) → not b ≡ any_empty s c
   unfolding any_empty
   empty_is xs ys blacks whites =
-      let told = λ (p : ℕ) (lt : p < n). (let h : (bit_in xs p || bit_in ys p) ≡ not (is_empty (entry_at c p))
+      let facts = λ (p : ℕ) (lt : p < n). (let h : (bit_in xs p || bit_in ys p) ≡ not (is_empty (entry_at c p))
       = bits_told (entry_at c p) (bit_in xs p) (bit_in ys p) (blacks.below p lt (omega arith)) (whites.below p lt (omega arith)) in h) in
-      covers_is s n small within ws xs ys is (λ p. is_empty (entry_at c p)) (λ p lt on. told p lt ∙ ap not on) (λ p lt off. told p lt ∙ ap not off)
+      covers_is s n small within ws xs ys is (λ p. is_empty (entry_at c p)) (λ p lt on. facts p lt ∙ ap not on) (λ p lt off. facts p lt ∙ ap not off)
 
   -- over the words of one colour's stones
   pub all_is : (k : Colour) (xs : List ℕ) → AreBitsOf xs n (λ p. is_stone_of (entry_at c p) k)
@@ -121,9 +121,9 @@ module _ (s : PointNumberSet) (n : ℕ) (small : n ≤ 361) (within : (p : ℕ) 
   unfolding all_stones_of
   all_is k xs stones b h =
       let test = λ (p : ℕ). not (is_stone_of (entry_at c p) k) in
-      let told = λ (p : ℕ) (lt : p < n). (let h' : (bit_in xs p || bit_in xs p) ≡ is_stone_of (entry_at c p) k = twice (bit_in xs p) ∙ stones.below p lt (omega arith) in h') in
+      let facts = λ (p : ℕ) (lt : p < n). (let h' : (bit_in xs p || bit_in xs p) ≡ is_stone_of (entry_at c p) k = twice (bit_in xs p) ∙ stones.below p lt (omega arith) in h') in
       sym (not_not b)
-      ∙ ap not (covers_is s n small within ws xs xs is test (λ p lt on. told p lt ∙ sym (not_not _) ∙ ap not on) (λ p lt off. told p lt ∙ sym (not_not _) ∙ ap not off) b h)
+      ∙ ap not (covers_is s n small within ws xs xs is test (λ p lt on. facts p lt ∙ sym (not_not _) ∙ ap not on) (λ p lt off. facts p lt ∙ sym (not_not _) ∙ ap not off) b h)
       ∙ sym (all_or_one (λ p. is_stone_of (entry_at c p) k) (set.items s))
     where
       not_not : (b : Bool) → not (not b) ≡ b

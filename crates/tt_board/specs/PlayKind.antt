@@ -7,7 +7,7 @@ use Rattle.tt_board.specs.declared.counted.play_kind.PlayKind.TheVariants.{NoCap
 use Rattle.tt_board.specs.Position.{Colouring}
 use Rattle.tt_board.specs.Play.{play_of}
 
--- a play that captures nothing puts its stone and takes none off, a suicide of one stone leaves all as it was, and of others nothing is told
+-- a play that captures nothing puts its stone and takes none off, a suicide of one stone leaves all as it was, and of others nothing is said
 abbrev pub IsPlayOfKind : PlayKind → Size → Colouring → Colour → ℕ → Type 0
 IsPlayOfKind NoCapture s c k p = play_of s c k p ≡ slice_set c p (Some k)
 IsPlayOfKind SingleStoneSuicide s c k p = play_of s c k p ≡ c

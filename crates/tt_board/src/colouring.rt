@@ -18,7 +18,7 @@ use std::marker::Model;
 use tt_sgf::Bits;
 
 /// The entries of a board's points. Contracts see their list. Black's stones come first, here and in a board, so that a copy of a
-/// board takes them straight to their place.
+/// board takes them straight there.
 #[derive(Drop)]
 pub(crate) struct Colouring {
     black: Bits,

@@ -78,7 +78,7 @@ impl CountedBoard {
         board.set_to_colouring(self.chains.size(), self.chains.colouring());
     }
 
-    /// What is told of a play of `colour` on `p`, an empty point, by the points beside it.
+    /// What is known of a play of `colour` on `p`, an empty point, by the points beside it.
     #[inline(always)]
     pub fn play_kind(&self, colour: Colour, p: Point) -> PlayKind
         requires on_board { p < point_count self.now.size }
@@ -109,7 +109,7 @@ impl CountedBoard {
         self.after_of_kind(colour, p, self.play_kind(colour, p))
     }
 
-    /// The board after a play of `colour` on `p`, an empty point, of which this is told by the points beside it. This one stays as it is.
+    /// The board after a play of `colour` on `p`, an empty point, of which this is known by the points beside it. This one stays as it is.
     pub fn after_of_kind(&self, colour: Colour, p: Point, kind: PlayKind) -> Board
         requires on_board { p < point_count self.now.size }
         requires free { entry_at self.now.points p ≡ None }

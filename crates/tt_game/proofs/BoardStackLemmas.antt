@@ -7,7 +7,7 @@ use Rattle.tt_board.specs.declared.Colour.{Colour}
 use Rattle.tt_board.specs.Play.{play_of}
 use Rattle.tt_game.specs.inside.Undoing.{Stack, stack_at, board_on, AreMade}
 
--- the board in a place, and what a play makes of it
+-- the board at an index, and what a play makes of it
 abbrev get_or2 : Position → List Position → ℕ → Position
 get_or2 b bs k = get_or (b ∷ bs) k b
 
@@ -26,7 +26,7 @@ get_behind b bs n = let e : n + 1 ≡ suc n = omega arith in ap (λ k. get_or (b
     at : (k : ℕ) → get_or (b ∷ bs) (suc k) b ≡ get_or bs k b
     at k = refl
 
--- the boards up to a place, and the one in it
+-- the boards up to an index, and the one there
 pub below_more : (b : Position) (bs : List Position) (n : ℕ) → n ≤ length bs → reverse (take (n + 1) (b ∷ bs)) ≡ get_or (b ∷ bs) n b ∷ reverse (take n (b ∷ bs))
 below_more b bs n within = ap reverse (take_more (b ∷ bs) n b (omega arith)) ∙ reverse-append (take n (b ∷ bs)) (get_or (b ∷ bs) n b ∷ [])
 
@@ -68,7 +68,7 @@ written_split b r y bs under over k make parts long some is =
     ap (λ z. under ++ set over 0 z) (is ∙ ap make below)
     ∙ sym (ap (λ ys. set ys k new) parts ∙ set-append_right under over k k new long (omega arith) ∙ ap (λ j. under ++ set over j new) none)
 
--- the boards up to a place stay where the one above it is written over
+-- the boards up to an index stay where the one above it is written over
 set_below : (b x : Position) (bs : List Position) (n k : ℕ) → k ≤ n → get_or (b ∷ set bs n x) k b ≡ get_or (b ∷ bs) k b
 set_below b x bs n zero within = refl
 set_below b x bs n (suc k) within = get_or-set_other bs n k x b (λ e. omega (arith, e, within))

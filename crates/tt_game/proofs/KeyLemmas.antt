@@ -156,8 +156,8 @@ bit_is : (words : List ℕ) (k i : ℕ) → i < 64 → bit_at (get_or words k 0)
 unfolding bit_in
 bit_is words k i lt =
     let word : k ≡ (64 * k + i) / 64 = omega arith in
-    let place : i ≡ (64 * k + i) % 64 = omega arith in
-    ap (λ j. bit_at (get_or words j 0) i) word ∙ ap (bit_at (get_or words ((64 * k + i) / 64) 0)) place ∙ by_test _ (bit_at-lt (get_or words ((64 * k + i) / 64) 0) ((64 * k + i) % 64))
+    let offset : i ≡ (64 * k + i) % 64 = omega arith in
+    ap (λ j. bit_at (get_or words j 0) i) word ∙ ap (bit_at (get_or words ((64 * k + i) / 64) 0)) offset ∙ by_test _ (bit_at-lt (get_or words ((64 * k + i) / 64) 0) ((64 * k + i) % 64))
 
 -- six words with these bits are the words of the bits
 pub bit_words_is : (size : Size) (test : ℕ → Bool) (words : List ℕ) → length words ≡ 6 → ((k : ℕ) → get_or words k 0 < 2 ^ 64) → AreBitsOf words (point_count size) test → words ≡ bit_words size test
@@ -173,7 +173,7 @@ bit_words_is size test words wide fits alike =
     ∙ bit_is_at size test words alike (64 * k + i) (omega arith))))
     ∙ sym (word_of 6 bits k lt))
 
--- the key is told by the frame, the present colouring, the side to move and the passes
+-- the key is fixed by the frame, the present colouring, the side to move and the passes
 pub key_told : (f g : Frame) (s t : State) → f ≡ g → s.present ≡ t.present → s.to_move ≡ t.to_move → s.passes ≡ t.passes → key_of f s ≡ key_of g t
 unfolding key_of
 key_told f g s t frames presents sides counts = rw (frames, presents, sides, counts) refl

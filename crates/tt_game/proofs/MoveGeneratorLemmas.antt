@@ -1,4 +1,4 @@
--- What is told of a play where no stone of its colour has stood.
+-- What is known of a play where no stone of its colour has stood.
 use Rattle.std.proofs.Common.{◌≡◌, ◌||◌, ℕ, ◌<◌, List, [], ◌∷◌, Bool, true, false, length, set, Some, None, inl, inr, sym, ap, ◌∙◌, arith}
 use Rattle.std.specs.List.{list_any}
 use Rattle.std.proofs.lemmas.Bool.{cases_eq, cases_Bool, false≢true, cond-true, cond-false, or_cases}

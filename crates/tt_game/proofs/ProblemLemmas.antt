@@ -44,23 +44,23 @@ set_on_board size vs s q e h = elim (cases_Bool (list_all (is_entry size) vs)) [
 ]
 
 -- the way to the mark: at its end no target, then a refused node, a node without a mark, and one with it
-pub mark-nil : (s : GameSoFar) → problem_at_targets s [] ≡ Err NoTarget
+pub problem-nil : (s : GameSoFar) → problem_at_targets s [] ≡ Err NoTarget
 unfolding problem_at_targets
-mark-nil s = refl
+problem-nil s = refl
 
-pub mark-stop : (s : GameSoFar) (e : GameFault) (n : Node) (ns : List Node) → step_node s n ≡ Err e → problem_at_targets s (n ∷ ns) ≡ Err e
+pub problem-stop : (s : GameSoFar) (e : GameFault) (n : Node) (ns : List Node) → step_node s n ≡ Err e → problem_at_targets s (n ∷ ns) ≡ Err e
 unfolding problem_at_targets
-mark-stop s e n ns h = ap (λ r. and_then r (λ t. cond (has TR n) (problem_of_sets t.game (set_named t.game.size TR n) (region_of t.game.size n)) (problem_at_targets t ns))) h
+problem-stop s e n ns h = ap (λ r. and_then r (λ t. cond (has TR n) (problem_of_sets t.game (set_named t.game.size TR n) (region_of t.game.size n)) (problem_at_targets t ns))) h
 
-pub mark-step : (s t : GameSoFar) (n : Node) (ns : List Node) → step_node s n ≡ Ok t → has TR n ≡ false → problem_at_targets s (n ∷ ns) ≡ problem_at_targets t ns
+pub problem-step : (s t : GameSoFar) (n : Node) (ns : List Node) → step_node s n ≡ Ok t → has TR n ≡ false → problem_at_targets s (n ∷ ns) ≡ problem_at_targets t ns
 unfolding problem_at_targets
-mark-step s t n ns h off =
+problem-step s t n ns h off =
     ap (λ r. and_then r (λ x. cond (has TR n) (problem_of_sets x.game (set_named x.game.size TR n) (region_of x.game.size n)) (problem_at_targets x ns))) h
     ∙ ap (λ b. cond b (problem_of_sets t.game (set_named t.game.size TR n) (region_of t.game.size n)) (problem_at_targets t ns)) off
 
-pub mark-here : (s t : GameSoFar) (n : Node) (ns : List Node) → step_node s n ≡ Ok t → has TR n ≡ true → problem_at_targets s (n ∷ ns) ≡ problem_of_sets t.game (set_named t.game.size TR n) (region_of t.game.size n)
+pub problem-here : (s t : GameSoFar) (n : Node) (ns : List Node) → step_node s n ≡ Ok t → has TR n ≡ true → problem_at_targets s (n ∷ ns) ≡ problem_of_sets t.game (set_named t.game.size TR n) (region_of t.game.size n)
 unfolding problem_at_targets
-mark-here s t n ns h on =
+problem-here s t n ns h on =
     ap (λ r. and_then r (λ x. cond (has TR n) (problem_of_sets x.game (set_named x.game.size TR n) (region_of x.game.size n)) (problem_at_targets x ns))) h
     ∙ ap (λ b. cond b (problem_of_sets t.game (set_named t.game.size TR n) (region_of t.game.size n)) (problem_at_targets t ns)) on
 

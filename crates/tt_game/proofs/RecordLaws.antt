@@ -26,7 +26,7 @@ use Rattle.tt_board.specs.Stones.{PointNumberSet, any_empty}
 use Rattle.tt_board.specs.Setup.{placed}
 use Rattle.tt_game.specs.declared.faults.GameFault.{GameFault}
 use Rattle.tt_game.specs.declared.faults.GameFault.TheVariants.{NoTarget}
-use Rattle.tt_game.specs.declared.faults.Why.{Why}
+use Rattle.tt_game.specs.declared.faults.WhyIllegal.{WhyIllegal}
 use Rattle.tt_game.specs.declared.records.Record.{Record}
 use Rattle.tt_game.specs.declared.records.GameSoFar.{GameSoFar}
 use Rattle.tt_game.specs.declared.turns.Turn.{Turn}
@@ -37,7 +37,7 @@ use Rattle.tt_game.specs.Superko.{repeats, repeats_is_exact}
 use Rattle.tt_game.specs.Line.{LineWithUndo}
 use Rattle.tt_game.specs.Nodes.{AB, AE, AW, B, GM, PL, SZ, TR, W, apart, mover_of_values, has, is_go, is_setup, move_count, set_named, size_or_default, values_of}
 use Rattle.tt_game.specs.Problems.{common_colour, posed_problem, problem_of_sets, problem_of, problem_if_targets_valid, problem_if_one_colour, region_of, problem_at_targets}
-use Rattle.tt_game.specs.Records.{all_have_liberties, and_then, as_turn, begin_with_size, empty_game_for_nodes, empty_game_for_root, game_after_setup, turn_or_fault, play_node_move, record_of_game, record_of, apply_nodes, set_up_by, step_node}
+use Rattle.tt_game.specs.Records.{all_have_liberties, and_then, as_turn, empty_game_of_size, empty_game_for_nodes, empty_game_for_root, game_after_setup, turn_or_fault, play_node_move, record_of_game, record_of, apply_nodes, set_up_by, step_node}
 use Rattle.tt_game.specs.Records.{play_turn_by, play_named_turn, play_next_turn}
 use Rattle.tt_game.specs.RecordLaws.{UnmarkedAreNoProblems}
 use Rattle.tt_game.specs.RecordLaws.{AreMadeByPlays, IsByTheRules, IsFirstRefusal, IsMadeByPlay, FirstRefusalDecides, ProblemsAreGames, RefusalsCarryToProblems, RecordsAreGames, SetupsBeginHistories, RepeatsTestIsExact}
@@ -125,7 +125,7 @@ turn_made r t q e = elim (choice (r.game.passes == 2) _ _ _ e) [
   ]
 ]
   where
-    gone : (o : Option Why) → turn_or_fault r t o ≡ Ok q → (o ≡ None) × (after_turn r t ≡ q)
+    gone : (o : Option WhyIllegal) → turn_or_fault r t o ≡ Ok q → (o ≡ None) × (after_turn r t ≡ q)
     gone None h = let same : after_turn r t ≡ q = cc in (refl, same)
     gone (Some why) h = let bad : Err _ ≡ Ok q = h in cc
 
@@ -262,7 +262,7 @@ run_lawful r (n ∷ ns) q e h =
     run_lawful made.0 ns q made.2 (node_lawful r n made.0 made.1 h)
 
 -- the empty board begins a history by the rules
-empty_lawful : (o : Option Size) (q : GameSoFar) → begin_with_size o ≡ Ok q → IsLawful q
+empty_lawful : (o : Option Size) (q : GameSoFar) → empty_game_of_size o ≡ Ok q → IsLawful q
 empty_lawful None q e = let bad : Err _ ≡ Ok q = e in cc
 empty_lawful (Some size) q e =
     let same : record { game = empty_game size; turns = 0 } ≡ q = cc in
@@ -321,8 +321,8 @@ mark_lawful r (n ∷ ns) q e h =
     let made = step_made (step_node r n) _ q e in
     let next = node_lawful r n made.0 made.1 h in
     elim (choice (has TR n) _ _ _ made.2) [
-      | inl mark ↦
-          let of = of_game made.0.game (set_named made.0.game.size TR n) (region_of made.0.game.size n) q mark.1 in
+      | inl marked ↦
+          let of = of_game made.0.game (set_named made.0.game.size TR n) (region_of made.0.game.size n) q marked.1 in
           subst (λ (x : Size). IsByTheRules x (history q.state)) of.size
           (subst (λ (x : List Colouring). IsByTheRules made.0.game.size x) of.history next.0)
       | inr on ↦ mark_lawful made.0 ns q on.1 next
@@ -396,7 +396,7 @@ common_size = record { columns = 19; rows = 19; columns_in = (omega arith, omega
 -- the record without a node
 empty_record : (r : Record) × (record_of [] ≡ Ok r)
 unfolding record_of apply_nodes common_size
-empty_record = (record_of_game (empty_game common_size), ap (λ o. and_then (begin_with_size o) (λ r. and_then (apply_nodes r []) (λ q. Ok (record_of_game q.game)))) (sized_returns_size common_size))
+empty_record = (record_of_game (empty_game common_size), ap (λ o. and_then (empty_game_of_size o) (λ r. and_then (apply_nodes r []) (λ q. Ok (record_of_game q.game)))) (sized_returns_size common_size))
 
 -- a line without a node is never refused
 never_empty : (e : GameFault) → record_of [] ≡ Err e → ⊥

@@ -22,7 +22,7 @@ use Rattle.tt_game.proofs.FrameLemmas.{bools}
 
 -- the test of a repeat is what says exactly whether the colouring has been
 pub been_is : (h : List (List (Option Colour))) (c : List (Option Colour)) (r : Bool) → (IsTrue r → IsInHistory h c) × (IsInHistory h c → IsTrue r) → r ≡ repeats h c
-been_is h c r told = bools r (repeats h c) (λ y. (repeats_is_exact h c).1 (told.0 y)) (λ y. told.1 ((repeats_is_exact h c).0 y))
+been_is h c r facts = bools r (repeats h c) (λ y. (repeats_is_exact h c).1 (facts.0 y)) (λ y. facts.1 ((repeats_is_exact h c).0 y))
 
 -- a point whose stone, if any, reaches empty passes the test
 alive_at : (size : Size) (c : List (Option Colour)) (p : ℕ) → p < point_count size → (entry_at c p ≢ None → Reaches size c p None) → (is_empty (entry_at c p) || reaches size c p None) ≡ true
@@ -65,7 +65,7 @@ dead_below size c p lt some dead (suc n) k = elim (cases_eq p n) [
 pub not_alive : (size : Size) (c : List (Option Colour)) (p : ℕ) → IsLeastWithoutLiberty size c p → all_have_liberties size c ≡ false
 not_alive size c p h = dead_below size c p h.on_board h.stone h.lifeless (point_count size) h.on_board
 
--- whether two counts together reach k, 2 at most, is told by both cut off at 2
+-- whether two counts together reach k, 2 at most, is known by both cut off at 2
 counted : (k a b : ℕ) → k ≤ 2 → leb k (min 2 a + min 2 b) ≡ leb k (a + b)
 counted k a b h = bools _ _ (λ y. le-leb k (a + b) (omega (arith, leb-true k (min 2 a + min 2 b) y))) (λ y. le-leb k (min 2 a + min 2 b) (omega (arith, h, leb-true k (a + b) y)))
 

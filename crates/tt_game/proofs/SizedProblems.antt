@@ -15,7 +15,7 @@ use Rattle.tt_board.specs.Position.{Colouring}
 use Rattle.tt_board.specs.Play.{length-play_of, same_colour}
 use Rattle.tt_board.specs.Stones.{PointNumberSet, any_empty}
 use Rattle.tt_board.specs.Setup.{length-placed, placed}
-use Rattle.tt_game.specs.declared.faults.Why.{Why}
+use Rattle.tt_game.specs.declared.faults.WhyIllegal.{WhyIllegal}
 use Rattle.tt_game.specs.declared.records.GameSoFar.{GameSoFar}
 use Rattle.tt_game.specs.declared.turns.Turn.{Turn}
 use Rattle.tt_game.specs.declared.turns.Turn.TheVariants.{Play, Pass}
@@ -24,7 +24,7 @@ use Rattle.tt_game.specs.GameLaws.{IsWellFormedState, ProblemsAreStates}
 use Rattle.tt_game.specs.Line.{LineWithUndo}
 use Rattle.tt_game.specs.Nodes.{AB, AE, AW, B, GM, PL, SZ, TR, W, apart, mover_of_values, has, is_go, is_setup, move_count, set_named, size_or_default, values_of}
 use Rattle.tt_game.specs.Problems.{common_colour, posed_problem, problem_of_sets, problem_of, problem_if_targets_valid, problem_if_one_colour, region_of, problem_at_targets}
-use Rattle.tt_game.specs.Records.{all_have_liberties, as_turn, begin_with_size, empty_game_for_nodes, empty_game_for_root, game_after_setup, turn_or_fault, play_node_move, set_up_by, step_node, play_turn_by, play_named_turn, play_next_turn}
+use Rattle.tt_game.specs.Records.{all_have_liberties, as_turn, empty_game_of_size, empty_game_for_nodes, empty_game_for_root, game_after_setup, turn_or_fault, play_node_move, set_up_by, step_node, play_turn_by, play_named_turn, play_next_turn}
 use Rattle.tt_game.proofs.OpenProblems.{either, step_made}
 
 -- each colouring of the game has an entry for each point
@@ -43,7 +43,7 @@ sized_turned g (Play p) h = All-push (λ c. length c ≡ point_count g.size) (ga
 -- ---- turns
 
 -- so does a turn that was taken: alone, of a colour, by a value, or as a node's move
-sized_on : (r : GameSoFar) (t : Turn) (o : Option Why) (q : GameSoFar) → turn_or_fault r t o ≡ Ok q → IsSized r.game → IsSized q.game
+sized_on : (r : GameSoFar) (t : Turn) (o : Option WhyIllegal) (q : GameSoFar) → turn_or_fault r t o ≡ Ok q → IsSized r.game → IsSized q.game
 sized_on r t None q e h =
     let same : record { game = game_after_turn r.game t; turns = r.turns + 1 } ≡ q = cc in
     subst (λ (x : GameSoFar). IsSized x.game) same (sized_turned r.game t h)
@@ -114,7 +114,7 @@ sized_step r n q e h = elim (either (is_setup n) _ _ _ e) [
 ]
 
 -- the empty board has an entry for each point
-sized_empty : (o : Option Size) (q : GameSoFar) → begin_with_size o ≡ Ok q → IsSized q.game
+sized_empty : (o : Option Size) (q : GameSoFar) → empty_game_of_size o ≡ Ok q → IsSized q.game
 sized_empty None q e = let bad : Err _ ≡ Ok q = e in cc
 sized_empty (Some size) q e =
     let same : record { game = empty_game size; turns = 0 } ≡ q = cc in
@@ -164,7 +164,7 @@ state_nodes r (n ∷ ns) q e h =
     let made = step_made (step_node r n) _ q e in
     let next = sized_step r n made.0 made.1 h in
     elim (either (has TR n) _ _ _ made.2) [
-      | inl mark ↦ state_at made.0.game (set_named made.0.game.size TR n) (region_of made.0.game.size n) q mark next
+      | inl marked ↦ state_at made.0.game (set_named made.0.game.size TR n) (region_of made.0.game.size n) q marked next
       | inr on ↦ state_nodes made.0 ns q on next
     ]
 

@@ -47,7 +47,7 @@ won f s = elim (cases_Bool (any_empty f.targets s.present)) [
   ]
 ]
 
--- one of two things at each place: the first somewhere, or the second everywhere
+-- one of two things at each index: the first somewhere, or the second everywhere
 some_or_all : (P Q : ℕ → Type 0) (n : ℕ) → ((k : ℕ) → k < n → P k ⊎ Q k) → ((k : ℕ) × (k < n) × P k) ⊎ ((k : ℕ) → k < n → Q k)
 some_or_all P Q zero each = inr (λ k below. absurd (omega arith))
 some_or_all P Q (suc n) each =
@@ -63,7 +63,7 @@ some_or_all P Q (suc n) each =
 room : Frame → State → ℕ
 room f s = 2 * new_count (history s) (point_count f.size) + (2 - s.passes)
 
--- one side or the other, told for either of the two sides
+-- one side or the other, said for either of the two sides
 game_after_turn : (f : Frame) (side to : Side) (n : ℕ) (s : State) → Forces f Attacker n s ⊎ Forces f Defender n s → Forces f side n s ⊎ Forces f (opponent side) n s
 game_after_turn f Attacker to n s h = h
 game_after_turn f Defender to n s (inl a) = inr a

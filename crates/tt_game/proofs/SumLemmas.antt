@@ -66,12 +66,12 @@ grown s (suc n) bits p wide lt off = elim (cases_lt p 64) [
       ∙ binary_set (take 64 bits) p (omega (arith, below, wide, length-take-le 64 bits (omega (arith, wide)))) (get_or-take 64 bits p false below ∙ off) in
       let same : drop 64 (set bits p true) ≡ drop 64 bits = drop-set-lt 64 bits p true below in
       let digit : p % 64 ≡ p = omega (arith, below) in
-      let place : suc n - 1 - p / 64 ≡ n = omega (arith, below) in
+      let offset : suc n - 1 - p / 64 ≡ n = omega (arith, below) in
       ap (λ x. mix ((s * MIXER % 2 ^ 64 + x) % 2 ^ 64) (words_of n (drop 64 (set bits p true)))) here
       ∙ ap (λ x. mix ((s * MIXER % 2 ^ 64 + (b + 2 ^ p)) % 2 ^ 64) (words_of n x)) same
       ∙ ap (λ x. mix x ws) (ap (λ x. x % 2 ^ 64) (omega arith) ∙ sym (mod-add-mod (s * MIXER % 2 ^ 64 + b) (2 ^ 64) (2 ^ p)))
       ∙ shifted t (2 ^ p) ws
-      ∙ ap (λ e. (mix t ws + 2 ^ p * MIXER ^ e) % 2 ^ 64) (length-words_of n (drop 64 bits) ∙ sym place)
+      ∙ ap (λ e. (mix t ws + 2 ^ p * MIXER ^ e) % 2 ^ 64) (length-words_of n (drop 64 bits) ∙ sym offset)
       ∙ ap (λ e. (mix t ws + 2 ^ e * MIXER ^ (suc n - 1 - p / 64)) % 2 ^ 64) (sym digit)
   | inr past ↦
       let q = p - 64 in let b = value_of_bits (take 64 bits) in let t = (s * MIXER % 2 ^ 64 + b) % 2 ^ 64 in
@@ -80,12 +80,12 @@ grown s (suc n) bits p wide lt off = elim (cases_lt p 64) [
       let later : drop 64 (set bits p true) ≡ set (drop 64 bits) q true = ap (λ j. drop 64 (set bits j true)) (sym is) ∙ drop-set-add 64 bits q true in
       let bare : get_or (drop 64 bits) q false ≡ false = get_or-drop 64 bits q false ∙ ap (λ j. get_or bits j false) is ∙ off in
       let digit : q % 64 ≡ p % 64 = omega (arith, past) in
-      let place : n - 1 - q / 64 ≡ suc n - 1 - p / 64 = omega (arith, past) in
+      let offset : n - 1 - q / 64 ≡ suc n - 1 - p / 64 = omega (arith, past) in
       ap (λ x. mix ((s * MIXER % 2 ^ 64 + value_of_bits x) % 2 ^ 64) (words_of n (drop 64 (set bits p true)))) here
       ∙ ap (λ x. mix t (words_of n x)) later
       ∙ grown t n (drop 64 bits) q (omega (arith, length-drop 64 bits, wide)) (omega (arith, past, lt)) bare
       ∙ ap (λ e. (mix t (words_of n (drop 64 bits)) + 2 ^ e * MIXER ^ (n - 1 - q / 64)) % 2 ^ 64) digit
-      ∙ ap (λ e. (mix t (words_of n (drop 64 bits)) + 2 ^ (p % 64) * MIXER ^ e) % 2 ^ 64) place
+      ∙ ap (λ e. (mix t (words_of n (drop 64 bits)) + 2 ^ (p % 64) * MIXER ^ e) % 2 ^ 64) offset
 ]
 
 -- ---- a stone more

@@ -13,7 +13,7 @@ use Rattle.tt_game.specs.declared.turns.Turn.TheVariants.{Play, Pass}
 use Rattle.tt_game.specs.Game.{State, history, winner_of, colouring_after_play, IsLegal}
 use Rattle.tt_game.specs.Superko.{decide_in_history}
 
--- whether decide_nobody_won has won
+-- whether nobody has won
 decide_nobody_won : (w : Option Side) → Decision (w ≡ None)
 decide_nobody_won None = inl refl
 decide_nobody_won (Some side) = inr (λ e. cc)

@@ -1,4 +1,4 @@
--- What is told of plays without making them, and what is the same for all plays from where a line stands.
+-- What is known of plays without making them, and what is the same for all plays from where a line stands.
 use Rattle.std.specs.Prelude.{◌≡◌, ℕ, ◌<◌, ◌↔◌, List, slice_set, Some, IfSome, true}
 use Rattle.tt_sgf.specs.declared.size.Size.{Size}
 use Rattle.tt_sgf.specs.Sizes.{point_count}

@@ -16,8 +16,8 @@ use Rattle.tt_board.specs.Play.{same_colour, is_empty}
 use Rattle.tt_board.specs.Stones.{PointNumberSet}
 use Rattle.tt_board.specs.Setup.{placed}
 use Rattle.tt_board.specs.Score.{score_of}
-use Rattle.tt_game.specs.declared.faults.Why.{Why}
-use Rattle.tt_game.specs.declared.faults.Why.TheVariants.{Over, Occupied, Outside, Repeats}
+use Rattle.tt_game.specs.declared.faults.WhyIllegal.{WhyIllegal}
+use Rattle.tt_game.specs.declared.faults.WhyIllegal.TheVariants.{Over, Occupied, Outside, Repeats}
 use Rattle.tt_game.specs.declared.faults.GameFault.{GameFault}
 use Rattle.tt_game.specs.declared.faults.GameFault.TheVariants.{NotGo, BadSize, BadValue, PointTwice, MixedNode, StoneWithoutLiberty, OccupiedPoint, RepeatedBoard, AfterEnd, TooManyTurns, NoMemory}
 use Rattle.tt_game.specs.declared.records.Record.{Record}
@@ -38,14 +38,14 @@ and_then (Err e) f = Err e
 -- ---- turns
 
 -- the fault that a refused turn is; a game has no region, so no turn is outside
-abbrev pub fault_of : Why → GameFault
+abbrev pub fault_of : WhyIllegal → GameFault
 fault_of Over = AfterEnd
 fault_of Occupied = OccupiedPoint
 fault_of Outside = OccupiedPoint
 fault_of Repeats = RepeatedBoard
 
 -- a turn that is refused is the fault, any other is made and counted
-abbrev pub turn_or_fault : GameSoFar → Turn → Option Why → Result GameSoFar GameFault
+abbrev pub turn_or_fault : GameSoFar → Turn → Option WhyIllegal → Result GameSoFar GameFault
 turn_or_fault r t None = Ok (record { game = game_after_turn r.game t; turns = r.turns + 1 })
 turn_or_fault r t (Some why) = Err (fault_of why)
 
@@ -110,17 +110,17 @@ step_node r n =
     (cond (nat_le 2 (move_count n)) (Err MixedNode) (play_node_move r (values_of B n.properties) (values_of W n.properties)))
 
 -- the empty board of this size, and no turn played; without a size a fault
-abbrev pub begin_with_size : Option Size → Result GameSoFar GameFault
-begin_with_size None = Err BadSize
-begin_with_size (Some size) = Ok (record { game = empty_game size; turns = 0 })
+abbrev pub empty_game_of_size : Option Size → Result GameSoFar GameFault
+empty_game_of_size None = Err BadSize
+empty_game_of_size (Some size) = Ok (record { game = empty_game size; turns = 0 })
 
 -- before the first node: its game and its size
 unfoldable pub empty_game_for_root : Node → Result GameSoFar GameFault
-empty_game_for_root n = cond (is_go (values_of GM n.properties)) (begin_with_size (size_or_default (values_of SZ n.properties))) (Err NotGo)
+empty_game_for_root n = cond (is_go (values_of GM n.properties)) (empty_game_of_size (size_or_default (values_of SZ n.properties))) (Err NotGo)
 
 -- before the first node; where there is none, on a board of 19 by 19
 abbrev pub empty_game_for_nodes : List Node → Result GameSoFar GameFault
-empty_game_for_nodes [] = begin_with_size (sized 19 19)
+empty_game_for_nodes [] = empty_game_of_size (sized 19 19)
 empty_game_for_nodes (n ∷ ns) = empty_game_for_root n
 
 -- after all nodes

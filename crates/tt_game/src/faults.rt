@@ -4,7 +4,7 @@ ghost use Rattle.std.specs.Prelude.{◌≡◌};
 
 /// Why a turn is refused. Where several causes hold, the first in this order is the one that is answered.
 #[derive(Clone, Copy, Debug, PartialEq, Eq)]
-pub enum Why {
+pub enum WhyIllegal {
     /// Somebody has won, or the game is over.
     Over,
     /// A stone stands on the point.
@@ -17,9 +17,9 @@ pub enum Why {
 
 /// Why a turn was not made.
 #[derive(Clone, Copy, Debug, PartialEq, Eq)]
-pub enum Refused {
+pub enum PushError {
     /// The turn is not legal.
-    Illegal(Why),
+    Illegal(WhyIllegal),
     /// An allocation was refused.
     NoMemory,
 }

@@ -5,7 +5,7 @@ ghost use Rattle.tt_sgf.specs.Sizes.{point_count};
 ghost use Rattle.tt_game.specs.GameHistory.{so_far};
 ghost use Rattle.tt_game.specs.BloomFilter.{filter_index, MayHoldAll};
 
-use crate::faults::{Refused, Why};
+use crate::faults::{PushError, WhyIllegal};
 use crate::frame::{Frame, Side};
 use crate::history::History;
 use crate::history::bloom_filter::{BloomFilter, filter_index};
@@ -77,7 +77,7 @@ impl Model for Game {
 impl Game {
     ghost use Rattle.std.specs.FinSet as set;
     ghost use Rattle.tt_board.specs.Reach.{entry_at};
-    ghost use Rattle.tt_game.specs.Games.{GameState, IsGamePushFailure, colouring_after_move, game_colourings, move_refusal, refusal_of, game_after_turn, empty_game, begun_with};
+    ghost use Rattle.tt_game.specs.Games.{GameState, IsGamePushError, colouring_after_move, game_colourings, move_refusal, refusal_of, game_after_turn, empty_game, begun_with};
     ghost use Rattle.tt_game.specs.Turns.{IsTurnOnBoardOfSize};
     ghost use Rattle.tt_game.specs.Superko.{repeats};
     ghost use Rattle.tt_board.specs.Stones.{IsSetOnBoard};
@@ -141,30 +141,30 @@ impl Game {
     }
 
     /// The board that a move makes, or why the move is refused.
-    fn board_after_move(&self, p: Point) -> Result<Board, Why>
+    fn board_after_move(&self, p: Point) -> Result<Board, WhyIllegal>
         requires { p < point_count self.now.size }
         ensures { MatchResult result
             (λ b. (move_refusal self.now p ≡ None) × (b ≡ record { size = self.now.size; points = colouring_after_move self.now p }))
             (λ why. move_refusal self.now p ≡ Some why) }
     {
         let next = match self.present().play(self.to_move, p) {
-            Err(Occupied) => return Err(Why::Occupied),
+            Err(Occupied) => return Err(WhyIllegal::Occupied),
             Ok(next) => next,
         };
         if self.has_been(&next, filter_index(&next)) {
-            return Err(Why::Repeats);
+            return Err(WhyIllegal::Repeats);
         }
         Ok(next)
     }
 
     /// Why a turn is refused, or none where it is legal: `Over` exactly where two passes ended the game. A
     /// play is on a point of the board.
-    pub fn refusal(&self, t: Turn) -> Option<Why>
+    pub fn refusal(&self, t: Turn) -> Option<WhyIllegal>
         requires { IsTurnOnBoardOfSize self.now.size t }
         ensures { result ≡ refusal_of self.now t }
     {
         if self.history.passes() == 2 {
-            return Some(Why::Over);
+            return Some(WhyIllegal::Over);
         }
         match t {
             Turn::Pass => None,
@@ -182,15 +182,15 @@ impl Game {
     }
 
     /// Makes a move before the end; after an error the game is as it was.
-    fn push_play(&mut self, p: Point) -> Result<(), Refused>
+    fn push_play(&mut self, p: Point) -> Result<(), PushError>
         requires on_board { p < point_count self.old.size }
         requires open { self.old.passes < 2 }
         ensures ok { OnOk result ((refusal_of self.old (Turn.Play p) ≡ None) × (self.new ≡ game_after_turn self.old (Turn.Play p))) }
         ensures err { OnErr result (self.new ≡ self.old) }
-        ensures why { IfErr result (λ e. IsGamePushFailure self.old (Turn.Play p) e) }
+        ensures why { IfErr result (λ e. IsGamePushError self.old (Turn.Play p) e) }
     {
         if self.present().at(p).is_some() {
-            return Err(Refused::Illegal(Why::Occupied));
+            return Err(PushError::Illegal(WhyIllegal::Occupied));
         }
         ensure_chains_counted(&mut self.board, self.counted, self.history.present());
         self.board.play(self.to_move, p);
@@ -198,10 +198,10 @@ impl Game {
         let next = self.board.board();
         let hash = filter_index(&next);
         if self.has_been(&next, hash) {
-            return Err(Refused::Illegal(Why::Repeats));
+            return Err(PushError::Illegal(WhyIllegal::Repeats));
         }
         if self.history.push(next).is_err() {
-            return Err(Refused::NoMemory);
+            return Err(PushError::NoMemory);
         }
         note_present_board(&mut self.filter, &self.history, hash);
         self.counted = true;
@@ -211,14 +211,14 @@ impl Game {
 
     /// Makes a turn: a pass, or a play on a point of the board. `Illegal` where it is refused, `NoMemory` where memory
     /// was; the game is then as it was.
-    pub fn push(&mut self, t: Turn) -> Result<(), Refused>
+    pub fn push(&mut self, t: Turn) -> Result<(), PushError>
         requires { IsTurnOnBoardOfSize self.old.size t }
         ensures ok { OnOk result ((refusal_of self.old t ≡ None) × (self.new ≡ game_after_turn self.old t)) }
         ensures err { OnErr result (self.new ≡ self.old) }
-        ensures why { IfErr result (λ e. IsGamePushFailure self.old t e) }
+        ensures why { IfErr result (λ e. IsGamePushError self.old t e) }
     {
         if self.history.passes() == 2 {
-            return Err(Refused::Illegal(Why::Over));
+            return Err(PushError::Illegal(WhyIllegal::Over));
         }
         match t {
             Turn::Play(p) => self.push_play(p),

@@ -76,7 +76,7 @@ fn stone_stood(boards: &[Board], colour: Colour, p: Point) -> bool
     false
 }
 
-/// Writes a board over the one in the place `count`, or adds it there; without memory there are none more.
+/// Writes a board over the one at the index `count`, or adds it there; without memory there are none more.
 fn write_or_push_board(
     boards: &mut Vec<Board>,
     count: usize,
@@ -179,13 +179,13 @@ impl History {
         repeats(&self.boards()[from..], next)
     }
 
-    /// Whether the board at a place has the colouring of a board of this size.
-    pub(crate) fn has_colouring_at(&self, place: usize, next: &Board) -> bool
+    /// Whether the board at an index has the colouring of a board of this size.
+    pub(crate) fn has_colouring_at(&self, index: usize, next: &Board) -> bool
         requires { next.now.size ≡ self.now.size }
         ensures { IsTrue result → IsInHistory (so_far self.now) next.now.points }
     {
         let boards = self.boards();
-        place < boards.len() && boards[place].same(next)
+        index < boards.len() && boards[index].same(next)
     }
 
     /// Adds the board that a play made; without memory it is as it was.

@@ -7,7 +7,7 @@ ghost use Rattle.tt_game.specs.Mixing.{mix_board};
 ghost use Rattle.tt_board.specs.Position.{Colouring};
 ghost use Rattle.tt_sgf.specs.Sizes.{point_count};
 
-use crate::faults::{Refused, Why};
+use crate::faults::{PushError, WhyIllegal};
 use crate::frame::{Frame, Side};
 use crate::history::History;
 use crate::history::bloom_filter::{filter_index_with_stone, mix_board};
@@ -71,7 +71,7 @@ impl Line {
     ghost use Rattle.tt_game.specs.Line.{IsBarredBySuperko};
     ghost use Rattle.tt_board.specs.Reach.{entry_at};
     ghost use Rattle.std.specs.Prelude.{OnOk, OnErr, IfErr, IfOk};
-    ghost use Rattle.tt_game.specs.Line.{HasTargetsOnBoard, HasBoardInHistory, IsRefusal, IsPushFailure, IsLineAfterTurn};
+    ghost use Rattle.tt_game.specs.Line.{HasTargetsOnBoard, HasBoardInHistory, IsRefusalOfTurn, IsPushError, IsLineAfterTurn};
     ghost use Rattle.tt_game.specs.inside.Roots.{BoardsBegin};
     ghost use Rattle.tt_game.specs.inside.Undoing.{IsMoved, state_at, board_on};
     ghost use Rattle.tt_game.specs.Turns.{IsTurnOnBoard};
@@ -234,7 +234,7 @@ impl Line {
     {
         match self.root.likely_board_index(next) {
             None => self.history.has_been_since(self.root.board_count(), next),
-            Some(place) => self.history.has_colouring_at(place, next)
+            Some(index) => self.history.has_colouring_at(index, next)
                 || self.history.has_been_since(0, next),
         }
     }
@@ -259,7 +259,7 @@ impl Line {
         Some(mix_board(self.present()))
     }
 
-    /// Whether a stone more, of `colour` on the empty point `p`, makes a colouring that is told from all so far: from those of the
+    /// Whether a stone more, of `colour` on the empty point `p`, makes a colouring that differs from all so far: from those of the
     /// beginning by its hash, and from the others where none has that stone. `sum` is what the words make without it.
     pub(crate) fn is_new_by_hash(&self, sum: u64, colour: Colour, p: Point) -> bool
         requires sum { sum ≡ mix_board self.now.frame.size self.now.state.present }
@@ -280,19 +280,19 @@ impl Line {
     }
 
     /// Why a play of the side to move is refused, or none where it is legal.
-    pub(crate) fn play_refusal(&self, p: Point) -> Option<Why>
+    pub(crate) fn play_refusal(&self, p: Point) -> Option<WhyIllegal>
         requires on_board { p < point_count self.now.frame.size }
         requires open { winner_of self.now.frame self.now.state ≡ None }
-        ensures { MatchOption result (IsLegal self.now.frame self.now.state (Turn.Play p)) (IsRefusal self.now.frame self.now.state (Turn.Play p)) }
+        ensures { MatchOption result (IsLegal self.now.frame self.now.state (Turn.Play p)) (IsRefusalOfTurn self.now.frame self.now.state (Turn.Play p)) }
     {
         if self.present().at(p).is_some() {
-            return Some(Why::Occupied);
+            return Some(WhyIllegal::Occupied);
         }
         if !self.frame.region.has(p) {
-            return Some(Why::Outside);
+            return Some(WhyIllegal::Outside);
         }
         if self.repeats(p) {
-            return Some(Why::Repeats);
+            return Some(WhyIllegal::Repeats);
         }
         None
     }
@@ -318,13 +318,13 @@ impl Line {
 
     /// Why a turn is refused, or none where it is legal: `Over` exactly where somebody has won. A play is
     /// on a point of the board.
-    pub fn refusal(&self, t: Turn) -> Option<Why>
+    pub fn refusal(&self, t: Turn) -> Option<WhyIllegal>
         requires { IsTurnOnBoard self.now.frame t }
         ensures { MatchOption result (IsLegal self.now.frame self.now.state t)
-            (IsRefusal self.now.frame self.now.state t) }
+            (IsRefusalOfTurn self.now.frame self.now.state t) }
     {
         if self.winner().is_some() {
-            return Some(Why::Over);
+            return Some(WhyIllegal::Over);
         }
         match t {
             Turn::Pass => None,
@@ -367,38 +367,38 @@ impl Line {
     }
 
     /// Makes a play where nobody has won.
-    fn push_play(&mut self, p: Point) -> Result<(), Refused>
+    fn push_play(&mut self, p: Point) -> Result<(), PushError>
         requires on_board { p < point_count self.old.frame.size }
         requires open { winner_of self.old.frame self.old.state ≡ None }
         ensures ok { OnOk result (IsLegal self.old.frame self.old.state (Turn.Play p) × IsLineAfterTurn self.old self.new (Turn.Play p)) }
         ensures err { OnErr result (self.new ≡ self.old) }
-        ensures why { IfErr result (λ e. IsPushFailure self.old.frame self.old.state (Turn.Play p) e) }
+        ensures why { IfErr result (λ e. IsPushError self.old.frame self.old.state (Turn.Play p) e) }
     {
         if let Some(why) = self.play_refusal(p) {
-            return Err(Refused::Illegal(why));
+            return Err(PushError::Illegal(why));
         }
         if self.push_play_on_empty(p).is_err() {
-            return Err(Refused::NoMemory);
+            return Err(PushError::NoMemory);
         }
         Ok(())
     }
 
     /// Makes a turn: a pass, or a play on a point of the board. `Illegal` where the turn isn't legal, `NoMemory` where
     /// memory was refused; the line is then as it was.
-    pub fn push(&mut self, t: Turn) -> Result<(), Refused>
+    pub fn push(&mut self, t: Turn) -> Result<(), PushError>
         requires { IsTurnOnBoard self.old.frame t }
         ensures ok { OnOk result (IsLegal self.old.frame self.old.state t × IsLineAfterTurn self.old self.new t) }
         ensures err { OnErr result (self.new ≡ self.old) }
-        ensures why { IfErr result (λ e. IsPushFailure self.old.frame self.old.state t e) }
+        ensures why { IfErr result (λ e. IsPushError self.old.frame self.old.state t e) }
     {
         if self.winner().is_some() {
-            return Err(Refused::Illegal(Why::Over));
+            return Err(PushError::Illegal(WhyIllegal::Over));
         }
         match t {
             Turn::Play(p) => self.push_play(p),
             Turn::Pass => {
                 if self.push_pass().is_err() {
-                    return Err(Refused::NoMemory);
+                    return Err(PushError::NoMemory);
                 }
                 Ok(())
             }

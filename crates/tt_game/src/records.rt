@@ -7,9 +7,9 @@ ghost use Rattle.tt_board.specs.Setup.{placed};
 ghost use Rattle.tt_game.specs.Turns.{IsTurnOnBoardOfSize};
 ghost use Rattle.tt_game.specs.Nodes.{values_of, mover_of_values, AB, AW, AE, PL, B, W};
 ghost use Rattle.tt_game.specs.Records.{ReturnsUnlessNoMemory, UpdatesUnlessNoMemory, fault_of, as_turn, play_next_turn, play_turn_by, play_named_turn, play_node_move, game_after_setup};
-ghost use Rattle.tt_game.specs.Records.{set_up_by, step_node, begin_with_size, empty_game_for_root, empty_game_for_nodes, apply_nodes, record_of_game, record_of};
+ghost use Rattle.tt_game.specs.Records.{set_up_by, step_node, empty_game_of_size, empty_game_for_root, empty_game_for_nodes, apply_nodes, record_of_game, record_of};
 
-use crate::faults::{GameFault, Refused, Why};
+use crate::faults::{GameFault, PushError, WhyIllegal};
 use crate::game::Game;
 use crate::nodes::{
     are_disjoint, first_value, has_move, has_several_moves, is_go, mover_of_properties, named_set,
@@ -42,13 +42,13 @@ pub(crate) struct GameSoFar {
 }
 
 /// The fault that a refused turn is.
-fn fault_of(why: Why) -> GameFault
+fn fault_of(why: WhyIllegal) -> GameFault
     ensures { result ≡ fault_of why }
 {
     match why {
-        Why::Over => GameFault::AfterEnd,
-        Why::Occupied | Why::Outside => GameFault::OccupiedPoint,
-        Why::Repeats => GameFault::RepeatedBoard,
+        WhyIllegal::Over => GameFault::AfterEnd,
+        WhyIllegal::Occupied | WhyIllegal::Outside => GameFault::OccupiedPoint,
+        WhyIllegal::Repeats => GameFault::RepeatedBoard,
     }
 }
 
@@ -79,8 +79,8 @@ impl GameSoFar {
                 self.turns += 1;
                 Ok(())
             }
-            Err(Refused::Illegal(why)) => Err(fault_of(why)),
-            Err(Refused::NoMemory) => Err(GameFault::NoMemory),
+            Err(PushError::Illegal(why)) => Err(fault_of(why)),
+            Err(PushError::NoMemory) => Err(GameFault::NoMemory),
         }
     }
 
@@ -184,7 +184,7 @@ impl GameSoFar {
 
     /// Before the first turn on a board of this size.
     fn begin(alloc: Global, size: Size) -> Result<GameSoFar, GameFault>
-        ensures { ReturnsUnlessNoMemory result (begin_with_size (Some size)) }
+        ensures { ReturnsUnlessNoMemory result (empty_game_of_size (Some size)) }
     {
         match Game::empty(alloc, size) {
             Ok(game) => Ok(GameSoFar { game, turns: 0 }),

@@ -20,7 +20,7 @@ pub record Walked (size : Size) (d : ℕ) (start : List ℕ) (least : ℕ) (now 
   pub deep : EntriesDeepAt size d least now → EntriesDeepAt size d 0 start
   pub deep_only : EntriesDeepAt size d 0 start → EntriesDeepAt size d least now
 
--- a fault at the place that was reached is one at the start
+-- a fault at the byte that was reached is one at the start
 pub walked_fault : (size : Size) (d least : ℕ) (start now : List ℕ) (list : List (Turn × Tree)) (f : CertFault) →
     Walked size d start least now list → EntriesFaultAt size d least now f → EntriesFaultAt size d 0 start f
 walked_fault size d least start now list Syntax w h =
@@ -28,7 +28,7 @@ walked_fault size d least start now list Syntax w h =
 walked_fault size d least start now list TooDeep w h = w.deep h
 walked_fault size d least start now list NoMemory w h = tt
 
--- where `;` stands at the place that was reached, the entries are those of the list
+-- where `;` stands at the byte that was reached, the entries are those of the list
 pub walked_end : (size : Size) (d least : ℕ) (start now rest : List ℕ) (list : List (Turn × Tree)) → Walked size d start least now list →
     now ≡ semicolon ∷ rest → EntriesAt size d 0 (entries_of_reply list) start rest
 walked_end size d least start now rest list w e =

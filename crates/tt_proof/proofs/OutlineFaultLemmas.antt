@@ -244,7 +244,7 @@ module _ (size : Size) where
     )
     branch_fault left NoMemory on rises h = tt
 
-  -- a fault at the place that was reached is one at the start
+  -- a fault at the byte that was reached is one at the start
   pub walked_fault : (left least most : ℕ) (old new bytes now : List ℕ) (list : List (Turn × form.Outline)) (f : CertFault)
       → ((us : List Strategy) → map depth us ≡ old → Walked size us least bytes now list most new)
       → most ≤ left → BranchesFaultAt size left new least now f → BranchesFaultAt size left old 0 bytes f

@@ -1,4 +1,4 @@
--- What the reader of certificates with shared parts knows at each place.
+-- What the reader of certificates with shared parts knows at each byte.
 use Rattle.std.proofs.Common.{◌≡◌, ◌≤◌, ◌<◌, ◌+◌, ℕ, zero, suc, ◌⊎◌, inl, inr, Bool, true, false, max, arith, List, [], ◌∷◌, ◌++◌, ◌∙◌, refl, sym, ap, subst, append_assoc, length, get_or, map, decimal}
 use Rattle.std.proofs.lemmas.List.{map-append, append-nil}
 use Rattle.tt_sgf.specs.Bytes.{semicolon}
@@ -20,7 +20,7 @@ names_more : (n : Bool) (u : Strategy) (us : List Strategy) → map depth (with_
 names_more true u us = map-append depth us (u ∷ [])
 names_more false u us = refl
 
--- the tree that a name stands for has the depth at its place
+-- the tree that a name stands for has the depth at its index
 pub there : (us : List Strategy) (k d : ℕ) → k < length (map depth us) → d ≡ get_or (map depth us) k d → (k < length us) × (depth (get_or us k done) ≡ d)
 there [] k d lt e = absurd (omega (arith, lt))
 there (u ∷ us) zero d lt e = (omega arith, sym e)

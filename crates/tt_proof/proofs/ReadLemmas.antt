@@ -1,4 +1,4 @@
--- What the reader knows at each place.
+-- What the reader knows at each byte.
 use Rattle.std.proofs.Common.{◌≡◌, ◌≤◌, ◌<◌, ◌+◌, ℕ, zero, suc, max, ◌⊎◌, inl, inr, arith, List, ◌∷◌, ◌++◌, ◌∙◌, refl, sym, ap, append_assoc}
 use Rattle.tt_sgf.specs.declared.size.Size.{Size}
 use Rattle.tt_game.specs.declared.turns.Turn.{Turn}

@@ -8,17 +8,17 @@ use Rattle.tt_board.specs.Position.{Position}
 use Rattle.tt_game.specs.laws.Members.{IsIn, in_of_contains, contains_of_in}
 use Rattle.tt_proof.specs.inside.Collecting.{IsOneLess}
 
--- at a place of the list whatever else is asked for makes no difference
+-- at an index of the list whatever else is asked for makes no difference
 any_other : (vs : List Position) (n : ℕ) (d h : Position) → n < length vs → get_or vs n d ≡ get_or vs n h
 any_other [] n d h lt = absurd (omega (arith, lt))
 any_other (v ∷ vs) zero d h lt = refl
 any_other (v ∷ vs) (suc n) d h lt = any_other vs n d h (omega (arith, lt))
 
--- what is held at a place of the list stands there
+-- what is held at an index of the list stands there
 pub shown_at : (hs vs : List Position) (n : ℕ) (h : Position) → hs ≡ vs → n < length hs → h ≡ get_or hs n h → (d : Position) → get_or vs n d ≡ h
 shown_at hs vs n h shows lt is d = subst (λ xs. get_or xs n d ≡ h) shows (any_other hs n d h lt ∙ sym is)
 
--- what holds at each place below a number and at that one
+-- what holds at each index below a number and at that one
 pub one_more_place : (vs : List Position) (P : Position → Type 0) (n : ℕ) (x : Position) → ((k : ℕ) (d : Position) → k < n → P (get_or vs k d)) →
     ((d : Position) → get_or vs n d ≡ x) → P x → (k : ℕ) (d : Position) → k < n + 1 → P (get_or vs k d)
 one_more_place vs P n x before here p k d lt = elim (cases_lt k n) [
@@ -26,7 +26,7 @@ one_more_place vs P n x before here p k d lt = elim (cases_lt k n) [
   | inr above ↦ let e : k ≡ n = omega (arith, lt, above) in subst P (sym (ap (λ i. get_or vs i d) e ∙ here d)) p
 ]
 
--- what stands at a place is in the list
+-- what stands at an index is in the list
 pub stands_in : (vs : List Position) (n : ℕ) (x : Position) → n < length vs → ((d : Position) → get_or vs n d ≡ x) → Contains vs x
 stands_in vs n x lt here = (n, lt, here x)
 
@@ -57,7 +57,7 @@ one_first vs x b = (λ m. to (in_of_contains (x ∷ vs) b m), back)
 both : {A B C : Type 0} → (A ↔ B) → (B ↔ C) → A ↔ C
 both h k = (λ a. k.0 (h.0 a), λ c. h.1 (k.1 c))
 
--- so it is at a place, and at the end
+-- so it is at an index, and at the end
 pub inserted : (vs : List Position) (k : ℕ) (x b : Position) → Contains (insert vs k x) b ↔ (Contains vs b ⊎ (b ≡ x))
 inserted vs k x b = both (reordered (x ∷ vs) (insert vs k x) (IsPermutation-insert vs k x) b) (one_first vs x b)
 
@@ -178,7 +178,7 @@ ended Out All l r no_l no_r all b = (λ o. (all b).0 (inl o), λ w. last ((all b
     last (inr (inl m)) = none l no_l m
     last (inr (inr m)) = none r no_r m
 
--- where a place is taken out, a board that was held is still held, or it is the one that stood there
+-- where the item at an index is taken out, a board that was held is still held, or it is the one that stood there
 pub taken_out : (vs : List Position) (k : ℕ) (h : Position) → k < length vs → h ≡ get_or vs k h → (b : Position) →
     Contains vs b ↔ (Contains (remove vs k) b ⊎ (get_or vs k b ≡ b))
 taken_out vs k h lt is b = (λ m. to (held.0 m), λ w. held.1 (from w))
@@ -197,7 +197,7 @@ taken_out vs k h lt is b = (λ m. to (held.0 m), λ w. held.1 (from w))
     from (inl m) = inl m
     from (inr e) = inr (sym e ∙ there)
 
--- where a place that shows this board is taken out, each other board is held as before
+-- where the item that shows this board is taken out, each other board is held as before
 pub others_stay : (old now less : List Position) (x : Position) (k : ℕ) → ((d : Position) → get_or now k d ≡ x) →
     ((b : Position) → Contains now b ↔ (Contains less b ⊎ (get_or now k b ≡ b))) → ((b : Position) → b ≢ x → Contains now b ↔ Contains old b) →
     (b : Position) → b ≢ x → Contains less b ↔ Contains old b

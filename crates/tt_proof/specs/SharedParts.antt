@@ -163,8 +163,8 @@ module _ (side : Side) (f : Frame) where
         ⊎ ((winner_of f s ≡ None → s.to_move ≡ opponent side → ⊥) × (r ≡ Lost) × (ms ≡ skipped))
 
   -- on branches, with what plays would repeat
-  abbrev pub IsReplayWithRepeats : State → (ReplayResult → NamedFootprints → Type 0) → ReplayResult → NamedFootprints → Type 0
-  IsReplayWithRepeats s Behind r ms = (x : PositionFootprint) × (RestsOnRepeats f s x × ((q : ReplayResult) × (Behind q ms × CombinesTo (Won x) q r)))
+  abbrev pub IsReplayOfBranchesAndRepeats : State → (ReplayResult → NamedFootprints → Type 0) → ReplayResult → NamedFootprints → Type 0
+  IsReplayOfBranchesAndRepeats s Behind r ms = (x : PositionFootprint) × (RestsOnRepeats f s x × ((q : ReplayResult) × (Behind q ms × CombinesTo (Won x) q r)))
 
   abbrev mutual
     -- on an outline at a state, by what the names before it rest on; the last list says what all names behind it rest on
@@ -173,7 +173,7 @@ module _ (side : Side) (f : Frame) where
     IsReplayOfOutline ns (picked n t o) s r ms =
         (ls : NamedFootprints) × ((ms ≡ with_named_footprint n (kept_footprint r) ls) × IsReplayOfPick s (IsReplayOfOutline ns o (after f s t)) (with_unreached_names ns o) r ls t)
     IsReplayOfOutline ns (replied n bs) s r ms =
-        (ls : NamedFootprints) × ((ms ≡ with_named_footprint n (kept_footprint r) ls) × IsReplayOfReply s (IsReplayWithRepeats s (IsReplayOfBranches ns bs s)) (with_unreached_branch_names ns bs) r ls bs)
+        (ls : NamedFootprints) × ((ms ≡ with_named_footprint n (kept_footprint r) ls) × IsReplayOfReply s (IsReplayOfBranchesAndRepeats s (IsReplayOfBranches ns bs s)) (with_unreached_branch_names ns bs) r ls bs)
     IsReplayOfOutline ns (part k) s r ms = IsResultOfPart f (get_or ns k None) s r × (ms ≡ ns)
 
     -- on branches together

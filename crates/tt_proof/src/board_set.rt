@@ -193,7 +193,7 @@ impl BoardSet {
         Ok(())
     }
 
-    /// Whether the board stands at this place.
+    /// Whether the board stands at this index.
     fn has_at(&self, k: usize, board: &SharedBoard) -> bool
         ensures { IsTrue result → Contains self.now board.now }
     {
@@ -282,7 +282,7 @@ impl BoardSet {
         self.merge(fewer)
     }
 
-    /// Takes the handle at a place out.
+    /// Takes the handle at an index out.
     fn remove_at(&mut self, k: usize)
         requires { k < length self.old }
         ensures few { length self.new < length self.old }
@@ -300,7 +300,7 @@ impl BoardSet {
         }
     }
 
-    /// The place of the first board whose hash isn't less, where the hashes rise.
+    /// The index of the first board whose hash isn't less, where the hashes rise.
     fn insertion_index(&self, hash: u64) -> usize
         ensures { result ≤ length self.now }
     {
@@ -317,7 +317,7 @@ impl BoardSet {
         low
     }
 
-    /// Whether the board is one of those from this place on, of the first ones that have its hash.
+    /// Whether the board is one of those from this index on, of the first ones that have its hash.
     fn has_in_hash_run(&self, from: usize, board: &SharedBoard) -> bool
         ensures { IsTrue result → Contains self.now board.now }
     {
@@ -332,7 +332,7 @@ impl BoardSet {
         false
     }
 
-    /// Adds a board at a place.
+    /// Adds a board at an index.
     fn insert_at_index(&mut self, k: usize, board: SharedBoard) -> Result<(), NoMemory>
         requires { k ≤ length self.old }
         ensures { OnOk result ((b : Position) → Contains self.new b ↔ (Contains self.old b ⊎ (b ≡ board))) }

@@ -1,4 +1,4 @@
-//! Bounds of boards, by which a board is told from all that lie within, without a look at each.
+//! Bounds of boards, by which a board is distinguished from all that lie within, without a look at each.
 
 ghost use Rattle.std.specs.Prelude.{◌≡◌, ◌<◌, ◌↔◌, IsTrue, Some};
 ghost use Rattle.tt_sgf.specs.declared.bits.TheConstants.{BITS};

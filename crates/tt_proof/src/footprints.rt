@@ -18,7 +18,7 @@ use crate::board_set_bounds::{BoardSetBound, union_of_bounds};
 use crate::tree::Tree;
 use std::alloc::Global;
 use tt_board::Board;
-use tt_game::{Line, Refused, Turn};
+use tt_game::{Line, PushError, Turn};
 use tt_sgf::{NoMemory, Point, PointSet};
 
 /// What a tree needs in the history of its state, and what it avoids there: the boards of two sets of colourings. Each board that
@@ -93,7 +93,7 @@ impl Footprint {
 
     /// Joins that of the tree behind one more turn of a reply. The turn is legal at the line, and `board` is the one after
     /// it. After want of memory the footprint is of no use.
-    pub fn add_entry(
+    pub fn join_reply_turn(
         &mut self,
         line: &Line,
         turn: &Turn,
@@ -244,12 +244,12 @@ fn join_entry(
             let found = footprint_of(alloc, tree, line);
             line.pop();
             match found {
-                Ok(behind) => footprint.add_entry(line, turn, &board, behind),
+                Ok(behind) => footprint.join_reply_turn(line, turn, &board, behind),
                 Err(e) => Err(e),
             }
         }
-        Err(Refused::Illegal(_)) => Ok(()),
-        Err(Refused::NoMemory) => Err(NoMemory),
+        Err(PushError::Illegal(_)) => Ok(()),
+        Err(PushError::NoMemory) => Err(NoMemory),
     }
 }
 
@@ -276,8 +276,8 @@ fn footprint_of_pick(
                 Err(e) => Err(e),
             }
         }
-        Err(Refused::Illegal(_)) => Ok(Footprint::empty(alloc)),
-        Err(Refused::NoMemory) => Err(NoMemory),
+        Err(PushError::Illegal(_)) => Ok(Footprint::empty(alloc)),
+        Err(PushError::NoMemory) => Err(NoMemory),
     }
 }
 

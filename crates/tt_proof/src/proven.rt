@@ -319,7 +319,7 @@ impl Proof {
         for (turn, child) in children {
             let board = child.present();
             let (measured_tree, behind) = child.into_tree_and_footprint();
-            footprint.add_entry(line, &turn, &board, behind)?;
+            footprint.join_reply_turn(line, &turn, &board, behind)?;
             replies.push(turn, measured_tree)?;
         }
         let snapshot = line.snapshot()?;

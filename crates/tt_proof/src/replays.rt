@@ -10,7 +10,7 @@ ghost use Rattle.tt_game.specs.Game.{IsLegal, winner_of, opponent};
 ghost use Rattle.tt_sgf.specs.Sizes.{point_count};
 
 use crate::tree::Tree;
-use tt_game::{Line, Refused, Side, Turn};
+use tt_game::{Line, PushError, Side, Turn};
 use tt_sgf::{NoMemory, Point};
 
 fn has_turn(list: &[(Turn, Tree)], turn: Turn) -> bool
@@ -24,12 +24,12 @@ fn has_turn(list: &[(Turn, Tree)], turn: Turn) -> bool
     false
 }
 
-/// Whether the entry at the place is of the turn.
-fn has_turn_at(list: &[(Turn, Tree)], place: usize, turn: Turn) -> bool
+/// Whether the entry at the index is of the turn.
+fn has_turn_at(list: &[(Turn, Tree)], index: usize, turn: Turn) -> bool
     ensures entry { IsTrue result → HasEntry (entries_of_reply list.now) turn }
-    ensures within { IsTrue result → place < length list.now }
+    ensures within { IsTrue result → index < length list.now }
 {
-    match list.get(place) {
+    match list.get(index) {
         Some(entry) => entry.0 == turn,
         None => false,
     }
@@ -51,11 +51,11 @@ fn plays_are_answered(list: &[(Turn, Tree)], line: &Line) -> bool
     ensures { IsTrue result ↔ ((p : ℕ) → IsLegal line.now.frame line.now.state (Turn.Play p) → HasEntry (entries_of_reply list.now) (Turn.Play p)) }
 {
     let frame = line.frame();
-    let mut place = 0;
+    let mut index = 0;
     let mut from = 0;
     while let Some(p) = frame.region.least_from(from) {
-        if has_turn_at(list, place, Turn::Play(p)) {
-            place += 1;
+        if has_turn_at(list, index, Turn::Play(p)) {
+            index += 1;
         } else if frame.size.holds(p) && !is_answered_or_illegal(list, line, p) {
             return false;
         }
@@ -101,8 +101,8 @@ fn replay_after(
                 Err(e) => Err(e),
             }
         }
-        Err(Refused::Illegal(_)) => Ok(None),
-        Err(Refused::NoMemory) => Err(NoMemory),
+        Err(PushError::Illegal(_)) => Ok(None),
+        Err(PushError::NoMemory) => Err(NoMemory),
     }
 }
 

@@ -59,7 +59,7 @@ mutual
 index_least : (v x : ℕ) (xs : List ℕ) → v ≡ least (x ∷ xs) → (x == v) ≡ false → v ≡ least xs
 index_least v x xs e h = grind (arith, common_steps)
 
--- the place of the number is there, and the child there has the number
+-- the index of the number is there, and the child there has the number
 abbrev pub IsChildAt : Side → ℕ → List PartialTree → PartialTree → Type 0
 IsChildAt goal v trees d = (first_index_of v (child_numbers goal (children_of trees)) < length trees) × (number goal (get_or trees (first_index_of v (child_numbers goal (children_of trees))) d) ≡ v)
 
@@ -71,7 +71,7 @@ child_here goal v tree trees d e below false q =
     let k = below (index_least v (number goal tree) (child_numbers goal (children_of trees)) e q) in
     rw (q, add-one) (omega (arith, k.0), k.1)
 
--- where the least number isn't infinite, the child at its place has it
+-- where the least number isn't infinite, the child at its index has it
 pub child_at : (goal : Side) (v : ℕ) (trees : List PartialTree) (d : PartialTree) → v ≢ infinite → v ≡ least (child_numbers goal (children_of trees)) → IsChildAt goal v trees d
 child_at goal v [] d h e = absurd (h e)
 child_at goal v (tree ∷ trees) d h e = child_here goal v tree trees d e (child_at goal v trees d h) (number goal tree == v) refl

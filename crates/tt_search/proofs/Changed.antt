@@ -20,7 +20,7 @@ use Rattle.tt_search.proofs.Best.{own_number, other_number}
 
 -- ---- numbers
 
--- the number at its place is there, behind a first one that may be it
+-- the number at its index is there, behind a first one that may be it
 at_first : (v x : ℕ) (xs : List ℕ) → (first_index_of v xs < length xs → get_or xs (first_index_of v xs) 0 ≡ v) → (b : Bool) → (x == v) ≡ b → first_index_of v (x ∷ xs) < length (x ∷ xs)
     → get_or (x ∷ xs) (first_index_of v (x ∷ xs)) 0 ≡ v
 at_first v x xs rest true e l = rw e (grind (arith, common_steps))
@@ -28,12 +28,12 @@ at_first v x xs rest false e l =
     let here : first_index_of v (x ∷ xs) ≡ first_index_of v xs + 1 = ap (λ c. if c then 0 else first_index_of v xs + 1) e in
     rw (here, add-one) (rest (omega (arith, l, here)))
 
--- the number at its place is there
+-- the number at its index is there
 at_index : (v : ℕ) (xs : List ℕ) → first_index_of v xs < length xs → get_or xs (first_index_of v xs) 0 ≡ v
 at_index v [] l = absurd (omega arith)
 at_index v (x ∷ xs) l = at_first v x xs (at_index v xs) (x == v) refl l
 
--- a number no greater than the least, in the place of the first least one behind another, is the first least one
+-- a number no greater than the least, instead of the first least one behind another, is the first least one
 set_behind : (v m x : ℕ) (xs : List ℕ) (i : ℕ) → (i ≡ first_index_of v xs → first_index_of m (set xs i m) ≡ i) → (b : Bool) → (x == v) ≡ b → suc i ≡ first_index_of v (x ∷ xs) → v ≤ x → m ≤ v
     → first_index_of m (x ∷ set xs i m) ≡ suc i
 set_behind v m x xs i rest true q e b h = absurd (omega (arith, e, ap (λ c. if c then 0 else first_index_of v xs + 1) q))
@@ -42,7 +42,7 @@ set_behind v m x xs i rest false q e b h =
     let k = rest here in
     grind (arith, common_steps)
 
--- a number no greater than the least, in the place of the first least one, is the first least one
+-- a number no greater than the least, instead of the first least one, is the first least one
 index_set : (v m : ℕ) (xs : List ℕ) (i : ℕ) → i ≡ first_index_of v xs → i < length xs → v ≤ least xs → m ≤ v → first_index_of m (set xs i m) ≡ i
 index_set v m [] i e l b h = absurd (omega arith)
 index_set v m (x ∷ xs) zero e l b h = grind (arith, common_steps)
@@ -75,7 +75,7 @@ finite_sum xs h = below (has_infinite xs) refl
     below true e = absurd (omega (arith, h, ap (λ c. if c then infinite else min (sum xs) cap) e))
     below false e = (e, omega (arith, h, ap (λ c. if c then infinite else min (sum xs) cap) e))
 
--- with another number at a place the sum has that one for the old one
+-- with another number at an index the sum has that one for the old one
 sum_set : (m : ℕ) (xs : List ℕ) (i : ℕ) → i < length xs → sum (set xs i m) + get_or xs i 0 ≡ sum xs + m
 sum_set m [] i l = absurd (omega arith)
 sum_set m (x ∷ xs) zero l = grind (arith, common_steps)
@@ -113,13 +113,13 @@ sum_changed m xs i l h =
 
 -- ---- children
 
--- the numbers with another tree at a place
+-- the numbers with another tree at an index
 numbers_set : (goal : Side) (trees : List PartialTree) (i : ℕ) (tree : PartialTree) → child_numbers goal (children_of (set trees i tree)) ≡ set (child_numbers goal (children_of trees)) i (number goal tree)
 numbers_set goal [] i tree = refl
 numbers_set goal (t ∷ trees) zero tree = refl
 numbers_set goal (t ∷ trees) (suc i) tree = ap (λ ns. number goal t ∷ ns) (numbers_set goal trees i tree)
 
--- the number at a place
+-- the number at an index
 number_at : (goal : Side) (trees : List PartialTree) (i : ℕ) (d : PartialTree) → i < length trees → get_or (child_numbers goal (children_of trees)) i 0 ≡ number goal (get_or trees i d)
 number_at goal [] i d l = absurd (omega arith)
 number_at goal (t ∷ trees) zero d l = refl
@@ -148,23 +148,23 @@ module _ (mover : Side) (old new : ChildNodes) (p : ℕ) (tree : PartialTree) (i
   pub few_stay : AreFew old → AreFew new
   few_stay h = omega (arith, h, edges_stay)
 
-  -- and the place is still there
+  -- and the index is still there
   pub index_there : p < length new.edges
   index_there = omega (arith, there, length-trees_by_turn old.edges old.grown.items, edges_stay)
 
-  -- the child at the place is the tree
+  -- the child at the index is the tree
   pub tree_there : child_of new p ≡ tree
   tree_there = ap (λ us. get_or us p fresh) put.trees ∙ get_or-set_same trees p tree fresh there
 
-  -- the place is one among the numbers
+  -- the index is one among the numbers
   in_row : (goal : Side) → p < length (row goal)
   in_row goal = omega (arith, length-numbers goal trees, there)
 
-  -- the numbers have that of the tree at the place
+  -- the numbers have that of the tree at the index
   row_is : (goal : Side) → child_numbers goal (children_of (edge_trees new.edges new.grown.items)) ≡ set (row goal) p (number goal tree)
   row_is goal = ap (λ us. child_numbers goal (children_of us)) put.trees ∙ numbers_set goal trees p tree
 
-  -- the number at the place was the least
+  -- the number at the index was the least
   least_there : get_or (row mover) p 0 ≡ least (row mover)
   least_there = ap (λ i. get_or (row mover) i 0) is ∙ at_index (least (row mover)) (row mover) (omega (arith, in_row mover, is))
 
@@ -176,7 +176,7 @@ module _ (mover : Side) (old new : ChildNodes) (p : ℕ) (tree : PartialTree) (i
     pub least_stays : number mover tree ≡ least (child_numbers mover (children_of (edge_trees new.edges new.grown.items)))
     least_stays = sym (ap least (row_is mover) ∙ least_set_is)
 
-    -- and the place is that of the best child
+    -- and the index is that of the best child
     pub index_stays : p ≡ best_index (choices_of mover new)
     index_stays =
         sym (ap first_least_index (row_is mover) ∙ ap (λ v. first_index_of v (set (row mover) p (number mover tree))) least_set_is
@@ -202,7 +202,7 @@ module _ (mover : Side) (old new : ChildNodes) (p : ℕ) (v : Choices) (was : Ph
   abbrev after : Side → List ℕ
   after goal = child_numbers goal (children_of (edge_trees new.edges new.grown.items))
 
-  -- the place is there
+  -- the index is there
   pub in_trees : p < length (edge_trees old.edges old.grown.items)
   in_trees = omega (arith, is, subst (λ (c : Choices). best_index c < length c.trees) (sym view_is) there)
 
@@ -246,7 +246,7 @@ module _ (mover : Side) (old new : ChildNodes) (p : ℕ) (v : Choices) (was : Ph
     not_risen : number mover tree ≤ least (before mover)
     not_risen = omega (arith, own_is, no_more, own_was, ap (number mover) tree_is)
 
-    -- where the least hasn't risen, the place is still that of the best child
+    -- where the least hasn't risen, the index is still that of the best child
     pub index_now : p ≡ best_index (choices_of mover new)
     index_now = index_stays mover old new p tree is in_trees put not_risen
 

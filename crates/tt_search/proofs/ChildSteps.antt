@@ -101,7 +101,7 @@ put_whole es fs ts us index rank e tree there whole r edge_state edges row =
 -- the new node stands among those that have grown, and its edge says so
 module _ (x y : ChildNodes) (index rank : ℕ) (d e : Edge) (tree : PartialTree) (there : IsFreshAt index x.edges) (whole : HasItsNodes x)
     (r : rank ≡ grown_in (take index x.edges)) (edge_state : edge_state_of e ≡ Grown) (edges : y.edges ≡ set x.edges index e) (row : y.grown.items ≡ insert x.grown.items rank tree) where
-  -- the child at the place becomes the new tree, and all else stays
+  -- the child at the index becomes the new tree, and all else stays
   pub put : edge_turn e ≡ edge_turn (get_or x.edges index d) → IsPut index x tree y
   put turn = record {
     turns = rw edges (same_turns x.edges index d e (fresh_there x.edges index there) turn);
@@ -149,11 +149,11 @@ module _ (es : List Edge) (ts : List PartialTree) (i : ℕ) (e : Edge) (l : i < 
   pub grown_child : grown_in es ≡ length ts → edge_state_of e ≡ Grown → child_at i es ts ≡ get_or ts (grown_in (take i es)) fresh
   grown_child w m = grown_at_index es ts i e fresh l (ap edge_state_of (sym is) ∙ m) w
 
-  -- a new node at its rank is a new tree at its place
+  -- a new node at its rank is a new tree at its index
   pub grown_put : grown_in es ≡ length ts → edge_state_of e ≡ Grown → (tree : PartialTree) → edge_trees es (set ts (grown_in (take i es)) tree) ≡ set (edge_trees es ts) i tree
   grown_put w m tree = grown_on es ts i e tree l (ap edge_state_of (sym is) ∙ m) (grown_here w m)
 
--- what a list has at a place doesn't hang on the default
+-- what a list has at an index doesn't hang on the default
 pub any_default : (ts : List PartialTree) (i : ℕ) (a b : PartialTree) → i < length ts → get_or ts i a ≡ get_or ts i b
 any_default [] i a b l = absurd (omega arith)
 any_default (t ∷ ts) zero a b l = refl

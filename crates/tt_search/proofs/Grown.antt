@@ -26,7 +26,7 @@ pub closed_decided : (side : Side) (tree : Strategy) → IsUndecided (closed sid
 closed_decided Attacker tree u = u.0 refl
 closed_decided Defender tree u = u.1 refl
 
--- the child at the place is there and undecided
+-- the child at the index is there and undecided
 abbrev pub UndecidedAt : ℕ → Children → Type 0
 UndecidedAt i no_more = ⊥
 UndecidedAt zero (more tree children) = IsUndecided tree
@@ -43,7 +43,7 @@ unfolding trees_by_turn
 children_of-trees_by_turn no_more = refl
 children_of-trees_by_turn (more tree children) = ap (more tree) (children_of-trees_by_turn children)
 
--- what is undecided at a place in the list is undecided among the children
+-- what is undecided at an index in the list is undecided among the children
 undecided_at : (trees : List PartialTree) (i : ℕ) (d : PartialTree) → i < length trees → IsUndecided (get_or trees i d) → UndecidedAt i (children_of trees)
 undecided_at [] i d l u = absurd (omega arith)
 undecided_at (tree ∷ trees) zero d l u = u
@@ -77,7 +77,7 @@ mutual
   leaf_open f s (closed side tree) p u = absurd (closed_decided side tree u)
   leaf_open f s (expanded mover turns children) p u = row_open f s turns (index_of_best mover children) children p.3 (best_undecided mover turns children u)
 
-  -- nor below the undecided child at the place
+  -- nor below the undecided child at the index
   row_open : (f : Frame) (s : State) (turns : List Turn) (i : ℕ) (children : Children) → ArePartialTrees f s turns children → UndecidedAt i children
       → winner_of f (state_below f s turns i children) ≡ None
   row_open f s [] i no_more p u = absurd u

@@ -1,4 +1,4 @@
--- The children of a node, place by place.
+-- The children of a node, one by one.
 use Rattle.std.proofs.Common.{◌≡◌, ℕ, zero, suc, ◌+◌, ◌<◌, ◌≤◌, List, [], ◌∷◌, ◌++◌, length, get_or, set, take, drop, refl, sym, ◌∙◌, ap, add-one, arith}
 use Rattle.std.proofs.lemmas.List.{drop_all, at_drop_all, at_drop_more}
 use Rattle.tt_game.specs.declared.frame.Side.{Side}
@@ -24,7 +24,7 @@ pub length-turns_of : (es : List Edge) → length (edge_turns es) ≡ length es
 length-turns_of [] = refl
 length-turns_of (e ∷ es) = ap suc (length-turns_of es)
 
--- the turn at a place is that of the edge there
+-- the turn at an index is that of the edge there
 pub turn_at_index : (es : List Edge) (i : ℕ) (e : Edge) (t : Turn) → i < length es → get_or (edge_turns es) i t ≡ edge_turn (get_or es i e)
 turn_at_index [] i e t l = absurd (omega arith)
 turn_at_index (x ∷ es) zero e t l = refl
@@ -52,7 +52,7 @@ drop_behind (Won side) n ts = refl
 drop_behind Grown n [] = drop_none (suc n) ∙ sym (drop_none n)
 drop_behind Grown n (t ∷ ts) = refl
 
--- the tree at a place is its edge's, once the nodes of those before are dropped
+-- the tree at an index is its edge's, once the nodes of those before are dropped
 pub tree_at_index : (es : List Edge) (ts : List PartialTree) (i : ℕ) (e : Edge) (d : PartialTree) → i < length es
     → get_or (edge_trees es ts) i d ≡ tree_of (edge_state_of (get_or es i e)) (drop (grown_in (take i es)) ts)
 tree_at_index [] ts i e d l = absurd (omega arith)
@@ -85,7 +85,7 @@ counted_within Fresh a b l = l
 counted_within (Won side) a b l = l
 counted_within Grown a b l = omega (arith, l)
 
--- no more have grown before a place than in all
+-- no more have grown before an index than in all
 pub rank_within : (es : List Edge) (i : ℕ) → grown_in (take i es) ≤ grown_in es
 rank_within [] zero = omega arith
 rank_within [] (suc i) = omega arith
@@ -100,13 +100,13 @@ counted_comm Grown Fresh n = refl
 counted_comm Grown (Won side) n = refl
 counted_comm Grown Grown n = refl
 
--- the rank behind a place counts the child there too
+-- the rank behind an index counts the child there too
 rank_after : (es : List Edge) (i : ℕ) (e : Edge) → i < length es → grown_in (take (suc i) es) ≡ counted (edge_state_of (get_or es i e)) (grown_in (take i es))
 rank_after [] i e l = absurd (omega arith)
 rank_after (x ∷ es) zero e l = refl
 rank_after (x ∷ es) (suc i) e l = ap (counted (edge_state_of x)) (rank_after es i e (omega arith)) ∙ counted_comm (edge_state_of x) (edge_state_of (get_or es i e)) (grown_in (take i es))
 
--- the same, with the place behind as i + 1
+-- the same, with the index behind as i + 1
 pub rank_next : (es : List Edge) (i : ℕ) (e : Edge) → i < length es → grown_in (take (i + 1) es) ≡ counted (edge_state_of (get_or es i e)) (grown_in (take i es))
 rank_next es i e l = rw add-one (rank_after es i e l)
 
@@ -155,7 +155,7 @@ length_behind (Won side) n ts l = l
 length_behind Grown n [] l = absurd (omega (arith, l))
 length_behind Grown n (t ∷ ts) l = omega (arith, l)
 
--- a new node at the rank of a grown child is a new tree at its place
+-- a new node at the rank of a grown child is a new tree at its index
 pub grown_on : (es : List Edge) (ts : List PartialTree) (i : ℕ) (e : Edge) (tree : PartialTree) → i < length es → edge_state_of (get_or es i e) ≡ Grown → grown_in (take i es) < length ts
     → edge_trees es (set ts (grown_in (take i es)) tree) ≡ set (edge_trees es ts) i tree
 grown_on [] ts i e tree l m r = absurd (omega arith)
@@ -168,19 +168,19 @@ grown_on (x ∷ es) ts (suc i) e tree l m r =
 
 -- ---- a fresh child grows
 
--- a fresh child's place is there
+-- a fresh child's index is there
 pub fresh_there : (es : List Edge) (i : ℕ) → IsFreshAt i es → i < length es
 fresh_there [] i h = absurd h
 fresh_there (x ∷ es) zero h = omega arith
 fresh_there (x ∷ es) (suc i) h = omega (arith, fresh_there es i h)
 
--- a fresh tree in the place of a fresh child changes nothing
+-- a fresh tree instead of a fresh child changes nothing
 pub fresh_tree : (es : List Edge) (ts : List PartialTree) (i : ℕ) → IsFreshAt i es → set (edge_trees es ts) i fresh ≡ edge_trees es ts
 fresh_tree [] ts i h = absurd h
 fresh_tree (x ∷ es) ts zero h = ap (λ m. fresh ∷ edge_trees es (grown_behind (edge_state_of x) ts)) h ∙ ap (λ m. tree_of m ts ∷ edge_trees es (grown_behind (edge_state_of x) ts)) (sym h)
 fresh_tree (x ∷ es) ts (suc i) h = ap (λ us. tree_of (edge_state_of x) ts ∷ us) (fresh_tree es (grown_behind (edge_state_of x) ts) i h)
 
--- an edge of the same turn in the place of another leaves the turns as they were
+-- an edge of the same turn instead of another leaves the turns as they were
 pub same_turns : (es : List Edge) (i : ℕ) (x e : Edge) → i < length es → edge_turn e ≡ edge_turn (get_or es i x) → edge_turns (set es i e) ≡ edge_turns es
 same_turns [] i x e l t = absurd (omega arith)
 same_turns (y ∷ es) zero x e l t = ap (λ u. u ∷ edge_turns es) t
@@ -220,7 +220,7 @@ most_behind (Won side) n ts l = l
 most_behind Grown n [] l = absurd (omega (arith, l))
 most_behind Grown n (t ∷ ts) l = omega (arith, l)
 
--- where a fresh child grows, a node inserted at its rank becomes the tree at its place
+-- where a fresh child grows, a node inserted at its rank becomes the tree at its index
 pub inserted_at_rank : (es : List Edge) (ts : List PartialTree) (i : ℕ) (e : Edge) (tree : PartialTree) → IsFreshAt i es → edge_state_of e ≡ Grown → grown_in (take i es) ≤ length ts
     → edge_trees (set es i e) (take (grown_in (take i es)) ts ++ tree ∷ drop (grown_in (take i es)) ts) ≡ set (edge_trees es ts) i tree
 inserted_at_rank [] ts i e tree h g r = absurd h
@@ -256,13 +256,13 @@ grown_push (x ∷ es) e h = ap (counted (edge_state_of x)) (grown_push es e h)
 
 -- ---- replies, edge by edge
 
--- the replies from a place on begin with that of the edge there
+-- the replies from an index on begin with that of the edge there
 pub replied_step : (side : Side) (es : List Edge) (rest : List PartialTree) (i : ℕ) (e : Edge) → i < length es
     → replies side (edge_turns (drop i es)) (children_of (edge_trees (drop i es) rest)) ≡ entry (edge_turn (get_or es i e)) (strategy_for side (tree_of (edge_state_of (get_or es i e)) rest))
     (replies side (edge_turns (drop (i + 1) es)) (children_of (edge_trees (drop (i + 1) es) (grown_behind (edge_state_of (get_or es i e)) rest))))
 replied_step side es rest i e l = at_drop_more (λ xs. replies side (edge_turns xs) (children_of (edge_trees xs rest))) es i e l
 
--- the weight from a place on: that of the child there and 1, and that from the next place on
+-- the weight from an index on: that of the child there and 1, and that from the next index on
 pub weight_step : (es : List Edge) (rest : List PartialTree) (i : ℕ) (e : Edge) → i < length es
     → weight_all (children_of (edge_trees (drop i es) rest)) ≡ weight (tree_of (edge_state_of (get_or es i e)) rest) + 1 + weight_all
     (children_of (edge_trees (drop (i + 1) es) (grown_behind (edge_state_of (get_or es i e)) rest)))
@@ -281,7 +281,7 @@ nodes_behind (Won side) n ts h = h
 nodes_behind Grown n [] h = absurd (omega (arith, h))
 nodes_behind Grown n (t ∷ ts) h = omega (arith, h)
 
--- so it is at each place of a loop over the edges
+-- so it is at each index of a loop over the edges
 module _ (es : List Edge) (ts : List PartialTree) (i : ℕ) (e : Edge) (l : i < length es) (whole : grown_in (drop i es) ≡ length ts) where
   counted_here : counted (edge_state_of (get_or es i e)) (grown_in (drop (i + 1) es)) ≡ length ts
   counted_here = sym (at_drop_more grown_in es i e l) ∙ whole
@@ -290,7 +290,7 @@ module _ (es : List Edge) (ts : List PartialTree) (i : ℕ) (e : Edge) (l : i < 
   pub whole_behind : grown_in (drop (i + 1) es) ≡ length (grown_behind (edge_state_of (get_or es i e)) ts)
   whole_behind = nodes_behind (edge_state_of (get_or es i e)) (grown_in (drop (i + 1) es)) ts counted_here
 
--- another edge at a place leaves those before it
+-- another edge at an index leaves those before it
 pub take_set : (es : List Edge) (i : ℕ) (e : Edge) → take i (set es i e) ≡ take i es
 take_set [] i e = refl
 take_set (x ∷ es) zero e = refl

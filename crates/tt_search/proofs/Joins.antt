@@ -72,7 +72,7 @@ module _ (side : Side) (f : Frame) (s : State) where
       child_at (first_settled_index side (children_of trees)) turns trees t d (subst (EachIsLegal f s) (sym h.partial.2) (legal_turns_are_legal f s)) h.partial.3 h.stays.1
       (zero_at side (children_of trees) (own_zero side side turns (children_of trees) (same_as_itself side) h.settled))
 
-  -- so its place is there
+  -- so its index is there
   pub picked_there : (x : ChildNodes) (i : ℕ) → IsSettledAt side f s (node_with (choices_of side x)) → i ≡ first_settled_index side (children_in x) → i < length x.edges
   picked_there x i h is =
       omega (arith, is, length-trees_by_turn x.edges x.grown.items, (picked_child (edge_turns x.edges) (edge_trees x.edges x.grown.items) Pass fresh h).there)
@@ -122,7 +122,7 @@ module _ (side : Side) (f : Frame) (s : State) where
     };
   }
 
-  -- so it is at each place of a loop over the edges
+  -- so it is at each index of a loop over the edges
   pub settled_here : (es : List Edge) (grown : List PartialTree) (i : ℕ) (e : Edge) → i < length es → AreSettledAt side f s (drop i es) grown
       → AreSettledFrom (get_or es i e) (drop (i + 1) es) grown
   settled_here es grown i e l h =

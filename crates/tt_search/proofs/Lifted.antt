@@ -29,7 +29,7 @@ lengths f s [] (tree ∷ trees) h = absurd h
 lengths f s (t ∷ turns) [] h = absurd h
 lengths f s (t ∷ turns) (tree ∷ trees) h = ap suc (lengths f s turns trees h.1)
 
--- the child at a place is a partial tree of the state after the turn there
+-- the child at an index is a partial tree of the state after the turn there
 pub partial_at : (f : Frame) (s : State) (turns : List Turn) (trees : List PartialTree) (i : ℕ) (t : Turn) (d : PartialTree) → ArePartialTrees f s turns (children_of trees)
     → i < length trees → IsPartialTree f (after f s (get_or turns i t)) (get_or trees i d)
 partial_at f s [] [] i t d h l = absurd (omega arith)
@@ -38,7 +38,7 @@ partial_at f s (u ∷ turns) [] i t d h l = absurd h
 partial_at f s (u ∷ turns) (tree ∷ trees) zero t d h l = h.0
 partial_at f s (u ∷ turns) (tree ∷ trees) (suc i) t d h l = partial_at f s turns trees i t d h.1 (omega arith)
 
--- below a child's place, the state at the most-proving leaf is that of the child
+-- below a child's index, the state at the most-proving leaf is that of the child
 state_at : (f : Frame) (s : State) (turns : List Turn) (trees : List PartialTree) (i : ℕ) (t : Turn) (d : PartialTree) → length turns ≡ length trees → i < length trees
     → state_below f s turns i (children_of trees) ≡ most_proving_state f (after f s (get_or turns i t)) (get_or trees i d)
 state_at f s [] [] i t d h l = absurd (omega arith)
@@ -53,20 +53,20 @@ depth_at [] i d l = absurd (omega arith)
 depth_at (tree ∷ trees) zero d l = refl
 depth_at (tree ∷ trees) (suc i) d l = depth_at trees i d (omega arith)
 
--- a tree put at the leaf below a child's place is put at the child's most-proving leaf
+-- a tree put at the leaf below a child's index is put at the child's most-proving leaf
 put_at : (leaf : PartialTree) (trees : List PartialTree) (i : ℕ) (d : PartialTree) → i < length trees
     → with_leaf_below leaf i (children_of trees) ≡ children_of (set trees i (with_most_proving leaf (get_or trees i d)))
 put_at leaf [] i d l = absurd (omega arith)
 put_at leaf (tree ∷ trees) zero d l = refl
 put_at leaf (tree ∷ trees) (suc i) d l = ap (more tree) (put_at leaf trees i d (omega arith))
 
--- a list with its own item put at a place is the list
+-- a list with its own item put at an index is the list
 set_at : (trees : List PartialTree) (i : ℕ) (d : PartialTree) → i < length trees → set trees i (get_or trees i d) ≡ trees
 set_at [] i d l = refl
 set_at (tree ∷ trees) zero d l = refl
 set_at (tree ∷ trees) (suc i) d l = ap (λ ts. tree ∷ ts) (set_at trees i d (omega arith))
 
--- where all children stay within a room, so does the child at a place
+-- where all children stay within a room, so does the child at an index
 pub stays_at : (size : Size) (room : ℕ) (trees : List PartialTree) (i : ℕ) (d : PartialTree) → AllStayWithin size room (children_of trees) → i < length trees → StaysWithin size room (get_or trees i d)
 stays_at size room [] i d f l = absurd (omega arith)
 stays_at size room (tree ∷ trees) zero d f l = f.0
@@ -136,7 +136,7 @@ module _ (at : Stand) (mover : Side) (turns : List Turn) (trees : List PartialTr
   lifted left (Stuck Total) new pos h = (h.0, omega (arith, h.1, leaf_depth_is), same_is new h.2)
   lifted left (Stuck Memory) new pos h = same_is new h
 
--- what is known at an undecided node of the place of its best child
+-- what is known at an undecided node of the index of its best child
 pub record IsFound (at : Stand) (turns : List Turn) (trees : List PartialTree) (p : ℕ) : Type 0 where
   pub in_turns : p < length turns
   pub in_trees : p < length trees
@@ -144,7 +144,7 @@ pub record IsFound (at : Stand) (turns : List Turn) (trees : List PartialTree) (
   pub legal : (t : Turn) → t ≡ get_or turns p t → Contains (legal_turns at.frame at.state) t
   pub child : (t : Turn) (child : PartialTree) → t ≡ get_or turns p t → child ≡ get_or trees p child → MayGrow (stand_after at t) child
 
--- so it is at the place of the best child of a node that may grow
+-- so it is at the index of the best child of a node that may grow
 pub found : (at : Stand) (mover : Side) (turns : List Turn) (trees : List PartialTree) → MayGrow at (expanded mover turns (children_of trees))
     → IsFound at turns trees (index_of_best mover (children_of trees))
 found at mover turns trees m = record {

@@ -54,7 +54,7 @@ pub zero_step : (side : Side) (es : List Edge) (rest : List PartialTree) (i : �
     → (number side (tree_of (edge_state_of (get_or es i e)) rest) ≡ 0) × AreZero side (children_of (edge_trees (drop (i + 1) es) (grown_behind (edge_state_of (get_or es i e)) rest)))
 zero_step side es rest i e l h = subst (λ xs. AreZero side (children_of (edge_trees xs rest))) (at_drop_more (λ (xs : List Edge). xs) es i e l) h
 
--- a child with the number 0 at the place, where the children are a list
+-- a child with the number 0 at the index, where the children are a list
 pub zero_there : (side : Side) (trees : List PartialTree) (i : ℕ) (d : PartialTree) → IsZeroAt side i (children_of trees) → number side (get_or trees i d) ≡ 0
 zero_there side [] i d z = absurd z
 zero_there side (tree ∷ trees) zero d z = z

@@ -22,7 +22,7 @@ pub joined_push : (xs : List (Turn × Strategy)) (x : Turn × Strategy) (es : En
 joined_push [] x es = refl
 joined_push (y ∷ ys) x es = ap (entry y.0 y.1) (joined_push ys x es)
 
--- the pick at a place is the turn there, then the strategy of the child there
+-- the pick at an index is the turn there, then the strategy of the child there
 pub pick_at_index : (side : Side) (turns : List Turn) (trees : List PartialTree) (i : ℕ) (t : Turn) (d : PartialTree) → i < length turns → i < length trees
     → pick_at side i turns (children_of trees) ≡ pick (get_or turns i t) (strategy_for side (get_or trees i d))
 pick_at_index side [] trees i t d l k = absurd (omega arith)
@@ -40,7 +40,7 @@ pick_past_turns side (u ∷ us) (tree ∷ trees) (suc i) l = pick_past_turns sid
 -- ---- what the loops and calls say
 
 module _ (side : Side) (turns : List Turn) (trees : List PartialTree) where
-  -- the turn at a place and the strategy of the child there are the pick at the place
+  -- the turn at an index and the strategy of the child there are the pick at the index
   pub picked : (i : ℕ) (t : Turn) (child : PartialTree) (u : Strategy) → t ≡ get_or turns i t → child ≡ get_or trees i child → u ≡ strategy_for side child → i < length turns
       → i < length trees → pick t u ≡ pick_at side i turns (children_of trees)
   picked i t child u a b s l k =

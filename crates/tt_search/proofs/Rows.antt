@@ -16,19 +16,19 @@ least_le (x ∷ xs) = omega (arith, least_le xs)
 abbrev pub sum_from : ℕ → List ℕ → ℕ
 sum_from total xs = if has_infinite xs then infinite else min (total + sum xs) cap
 
--- the place of the least, where v is the least of those looked at, p its place and i the next place
+-- the index of the least, where v is the least of those looked at, p its index and i the next index
 abbrev pub best_from : ℕ → ℕ → ℕ → List ℕ → ℕ
 best_from p v i xs = if ltb (least xs) v then i + first_least_index xs else p
 
--- a number below the least so far is the new least, and its place the new place
+-- a number below the least so far is the new least, and its index the new index
 pub best_from_less : (p v i x : ℕ) (xs : List ℕ) → x < v → best_from i x (i + 1) xs ≡ best_from p v i (x ∷ xs)
 best_from_less p v i x xs h = grind (arith, common_steps)
 
--- what is no more than any number behind stays the least, and its place the place
+-- what is no more than any number behind stays the least, and its index the index
 pub best_from_least : (p v i : ℕ) (xs : List ℕ) → v ≤ least xs → best_from p v i xs ≡ p
 best_from_least p v i xs h = grind (arith, common_steps)
 
--- another number leaves the least so far and its place
+-- another number leaves the least so far and its index
 pub best_from_same : (p v i x : ℕ) (xs : List ℕ) → v ≤ x → best_from p v (i + 1) xs ≡ best_from p v i (x ∷ xs)
 best_from_same p v i x xs h = grind (arith, common_steps)
 

@@ -159,14 +159,14 @@ same_stand a b l r = ap (λ x. stand x a.room) l ∙ ap (stand b.line) r
 
 -- ---- from the best child to its node
 
--- a tree with the same number in the place of a child leaves the children's numbers as they were
+-- a tree with the same number instead of a child leaves the children's numbers as they were
 numbers_set : (goal : Side) (trees : List PartialTree) (i : ℕ) (d tree : PartialTree) → number goal tree ≡ number goal (get_or trees i d)
     → child_numbers goal (children_of (set trees i tree)) ≡ child_numbers goal (children_of trees)
 numbers_set goal [] i d tree h = refl
 numbers_set goal (t ∷ trees) zero d tree h = ap (λ n. n ∷ child_numbers goal (children_of trees)) h
 numbers_set goal (t ∷ trees) (suc i) d tree h = ap (λ ns. number goal t ∷ ns) (numbers_set goal trees i d tree h)
 
--- of two items put at one place, the second one stays
+-- of two items put at one index, the second one stays
 set_twice : (trees : List PartialTree) (i : ℕ) (a b : PartialTree) → set (set trees i a) i b ≡ set trees i b
 set_twice [] i a b = refl
 set_twice (t ∷ trees) zero a b = refl
@@ -174,7 +174,7 @@ set_twice (t ∷ trees) (suc i) a b = ap (λ ts. t ∷ ts) (set_twice trees i a 
 
 module _ (at : Stand) (mover : Side) (turns : List Turn) (trees : List PartialTree) (t : Turn) (child : PartialTree) (p : ℕ) (index_is : p ≡ index_of_best mover (children_of trees))
     (in_trees : p < length trees) (same : length turns ≡ length trees) (t_is : t ≡ get_or turns p t) (child_is : child ≡ get_or trees p child) (pos : 0 < at.room) where
-  -- the node with another tree in the place of its best child
+  -- the node with another tree instead of its best child
   abbrev pub with_child : PartialTree → PartialTree
   with_child tree = expanded mover turns (children_of (set trees p tree))
 
@@ -202,7 +202,7 @@ module _ (at : Stand) (mover : Side) (turns : List Turn) (trees : List PartialTr
   numbers_are : (a b : PartialTree) → HaveSameNumbers child a → HaveSameNumbers child b → HaveSameNumbers (with_child a) (with_child b)
   numbers_are a b h k goal = ap (combined_number goal mover) (row_is b k goal ∙ sym (row_is a h goal))
 
-  -- lifted, where the place of the best child is given by an equation
+  -- lifted, where the index of the best child is given by an equation
   lifted_at : (now : Stage) (q : ℕ) → q ≡ p → (step : Step) (new : PartialTree)
       → (Taken (stand_after at (get_or turns q t)) (stage (get_or (set trees p now.tree) q child) now.left) step new
       → Taken at (with_stage now) step (expanded mover turns (children_of (set (set trees p now.tree) q new)))) → Taken below now step new → Taken at (with_stage now) step (with_child new)

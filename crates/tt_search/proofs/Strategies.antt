@@ -30,7 +30,7 @@ same_side Attacker Defender e = absurd (omega arith)
 same_side Defender Attacker e = absurd (omega arith)
 same_side Defender Defender e = refl
 
--- the child at the place is there, and its number is 0
+-- the child at the index is there, and its number is 0
 abbrev pub IsZeroAt : Side → ℕ → Children → Type 0
 IsZeroAt side i no_more = ⊥
 IsZeroAt side zero (more tree children) = number side tree ≡ 0
@@ -180,7 +180,7 @@ mutual
       (pick_in_order side f s (room - 1) 0 (first_settled_index side children) turns children up p.3 h.1)
       (replies_in_order side f s (room - 1) 0 turns children up p.3 h.1)
 
-  -- so is the pick at a place
+  -- so is the pick at an index
   pick_in_order : (side : Side) (f : Frame) (s : State) (room from i : ℕ) (turns : List Turn) (children : Children) → RisesFrom f.size from turns
       → ArePartialTrees f s turns children → AllStayWithin f.size room children → IsInOrder f.size (pick_at side i turns children)
   pick_in_order side f s room from i [] children up p h = tt

@@ -23,15 +23,15 @@ pub record IsWayDown (at : Stand) (c : Choices) (node : PartialTree) (t : Turn) 
       → AreStepsAt stop at (stage node left) step (stage (node_with (with_best c tree)) left_after)
 
 module _ (at : Stand) (c : Choices) (m : MayGrow at (node_with c)) where
-  -- what is known of the best child's place
+  -- what is known of the best child's index
   found_here : IsFound at c.turns c.trees (best_index c)
   found_here = found at c.mover c.turns c.trees m
 
-  -- the child is the tree at the place
+  -- the child is the tree at the index
   child_is : best_child c ≡ get_or c.trees (best_index c) (best_child c)
   child_is = any_default c.trees (best_index c) fresh (best_child c) found_here.in_trees
 
-  -- the turn at the place leads down
+  -- the turn at the index leads down
   way_here : (t : Turn) → t ≡ get_or c.turns (best_index c) t → IsWayDown at c (node_with c) t
   way_here t is = record {
     legal = (contains-legal_turns at.frame at.state t).0 (found_here.legal t is);
@@ -46,7 +46,7 @@ module _ (at : Stand) (c : Choices) (node : PartialTree) (is : node_with c ≡ n
   here : MayGrow at (node_with c)
   here = subst (MayGrow at) (sym is) m
 
-  -- there is a turn at the place
+  -- there is a turn at the index
   pub turn_there : best_index c < length c.turns
   turn_there = (found_here at c here).in_turns
 
@@ -58,7 +58,7 @@ module _ (at : Stand) (c : Choices) (node : PartialTree) (is : node_with c ≡ n
   pub has_room : 0 < at.room
   has_room = (found_here at c here).room
 
-  -- the turn at the place leads down
+  -- the turn at the index leads down
   pub way_down : (t : Turn) → t ≡ get_or c.turns (best_index c) t → IsWayDown at c node t
   way_down t turn = subst (λ n. IsWayDown at c n t) is (way_here at c here t turn)
 

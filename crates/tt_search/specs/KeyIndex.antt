@@ -16,7 +16,7 @@ index_hash = hash_of_key
 abbrev pub key_hashes : List ProofClaim → List ℕ
 key_hashes ps = map (λ (p : ProofClaim). index_hash (key_of p.frame p.state)) ps
 
--- the hashes of the proofs that an index was told, and for how many more it has room
+-- the hashes of the proofs that an index was given, and for how many more it has room
 pub record IndexState : Type 0 where
   pub hashes : List ℕ
   pub room : ℕ

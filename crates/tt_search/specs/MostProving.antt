@@ -48,7 +48,7 @@ abbrev mutual
   depth_below zero (more tree children) = most_proving_depth tree
   depth_below (suc i) (more tree children) = depth_below i children
 
--- the tree with another one in the place of its most-proving leaf
+-- the tree with another one instead of its most-proving leaf
 abbrev mutual
   pub with_most_proving : PartialTree → PartialTree → PartialTree
   with_most_proving leaf fresh = leaf

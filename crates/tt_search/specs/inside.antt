@@ -2,7 +2,7 @@
 pub mod Children
 pub mod Weight
 pub mod Edges
-pub mod EdgeRow
+pub mod EdgeStorage
 pub mod Untried
 pub mod Expanding
 pub mod Choices

@@ -195,7 +195,7 @@ fn reply_footprint(
         let (child, behind) = Child::split_first_child(*edge, rest);
         let turn = edge.turn();
         let (board, below) = child.board_and_footprint_after(alloc, turn, line, side)?;
-        footprint.add_entry(line, &turn, &board, below)?;
+        footprint.join_reply_turn(line, &turn, &board, below)?;
         rest = behind;
     }
     Ok(footprint)

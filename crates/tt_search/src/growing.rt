@@ -75,7 +75,7 @@ fn make_room_for_node(nodes: &mut Vec<Node>) -> Result<(), NoMemory>
     Ok(())
 }
 
-/// Puts a fresh node at a place among others, where there is room for it. It mostly comes last, and then no other one is looked at.
+/// Puts a fresh node at an index among others, where there is room for it. It mostly comes last, and then no other one is looked at.
 fn insert_fresh_node(nodes: &mut Vec<Node>, rank: usize)
     requires within { rank ≤ vec_len nodes.old }
     requires room { vec_len nodes.old < vec_capacity nodes.old }
@@ -326,7 +326,7 @@ impl ChildNodes {
 }
 
 impl ChildNodes {
-    /// Steps at the child of a place, which is undecided, where the walk stands at it: those of its node where it has
+    /// Steps at the child at an index, which is undecided, where the walk stands at it: those of its node where it has
     /// grown, and one step where it is fresh.
     #[cycle(descent)]
     #[inline(always)]

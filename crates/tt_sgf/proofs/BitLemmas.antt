@@ -43,9 +43,9 @@ pub no_bit : (q : ℕ) → bit_in six q ≡ false
 unfolding bit_in
 no_bit q = rw (zeros (q / 64), bit_at-zero (q % 64)) refl
 
--- a word put in place of another, in which one bit is set or cleared
+-- a word put instead of another, in which one bit is set or cleared
 module _ (words : List ℕ) (n : ℕ) (within : n < BITS) (wide : length words ≡ 6) where
-  -- a bit is read from the word that was put in its place
+  -- a bit is read from the word that was put there
   bit_of-word : (w : ℕ) (value : ℕ) → bit_at w (n % 64) ≡ value → bit_in (put words (n / 64) w) n ≡ eqb value 1
   unfolding bit_in
   bit_of-word w value e = let inside : n / 64 < length words = omega arith in rw (get_or-set_same, e) refl
@@ -76,10 +76,10 @@ module _ (words : List ℕ) (n : ℕ) (within : n < BITS) (wide : length words �
 
 -- ---- the same bits
 
--- the bit of a number, at its place in its word
+-- the bit of a number, at its index in its word
 same_bit : (a b : List ℕ) (q k i : ℕ) → q / 64 ≡ k → q % 64 ≡ i → bit_in a q ≡ bit_in b q → eqb (bit_at (get_or a k 0) i) 1 ≡ eqb (bit_at (get_or b k 0) i) 1
 unfolding bit_in
-same_bit a b q k i word place h = rw (← word, ← place) h
+same_bit a b q k i word offset h = rw (← word, ← offset) h
 
 -- a bit is known by whether it is 1
 one_bit : (x y : ℕ) → x < 2 → y < 2 → eqb x 1 ≡ eqb y 1 → x ≡ y
@@ -310,8 +310,8 @@ module _ (words : List ℕ) (n : ℕ) (lt : n < BITS) where
   rest_bit : (rest : ℕ) → rest ≡ get_or words (n / 64) 0 / 2 ^ (n % 64) → (q : ℕ) → n ≤ q → q / 64 ≡ n / 64 → bit_in words q ≡ eqb (bit_at rest (q - n)) 1
   unfolding bit_in
   rest_bit rest is q after same =
-      let place : q % 64 ≡ n % 64 + (q - n) = omega arith in
-      rw (same, place, is) (ap (λ x. eqb x 1) (sym (bit_from (get_or words (n / 64) 0) (n % 64) (q - n))))
+      let offset : q % 64 ≡ n % 64 + (q - n) = omega arith in
+      rw (same, offset, is) (ap (λ x. eqb x 1) (sym (bit_from (get_or words (n / 64) 0) (n % 64) (q - n))))
 
   -- the lowest bit of what is left of a word
   pub first_here : (rest : ℕ) → rest ≡ get_or words (n / 64) 0 / 2 ^ (n % 64) → 0 < rest → get_or words (n / 64) 0 < 2 ^ 64
@@ -320,7 +320,7 @@ module _ (words : List ℕ) (n : ℕ) (lt : n < BITS) where
       let small : rest < 2 ^ 64 = omega (arith, is, Rattle.std.proofs.lemmas.Nat.shr_le (get_or words (n / 64) 0) (n % 64)) in
       let t = trailing_zeros w64 rest in
       let lowest = bit_at-trailing_zeros w64 rest some small in
-      let place = n % 64 + t in
+      let offset = n % 64 + t in
       let one : bit_at (get_or words (n / 64) 0) (n % 64 + t) ≡ 1 = sym (bit_from (get_or words (n / 64) 0) (n % 64) t) ∙ ap (λ x. bit_at x t) (sym is) ∙ lowest.1 in
       let inside : n % 64 + t < 64 = elim (cases_lt (n % 64 + t) 64) [
         | inl below ↦ below
@@ -413,9 +413,9 @@ module _ (ws xs ys : List ℕ) (k : ℕ) (fits_x : get_or xs k 0 < 2 ^ 64) (fits
       let fits : left < 2 ^ 64 = omega (arith, and_le_l (bit_and w (bit_not w64 x)) (bit_not w64 y), and_le_l w (bit_not w64 x)) in
       some (same_from_bits_below 64 left 0 fits (omega arith) (λ i small.
       let word : (64 * k + i) / 64 ≡ k = omega arith in
-      let place : (64 * k + i) % 64 ≡ i = omega arith in
+      let offset : (64 * k + i) % 64 ≡ i = omega arith in
       left_bit w x y i fits_x fits_y small ∙ no_bit_left (bit_at w i) (bit_at x i) (bit_at y i) (bit_at-lt w i) (bit_at-lt x i) (bit_at-lt y i)
       (λ on. sym (ap (λ j. eqb (bit_at (get_or xs j 0) ((64 * k + i) % 64)) 1 || eqb (bit_at (get_or ys j 0) ((64 * k + i) % 64)) 1) word
-      ∙ ap (λ j. eqb (bit_at x j) 1 || eqb (bit_at y j) 1) place)
-      ∙ covered (64 * k + i) (omega arith) (ap (λ j. eqb (bit_at (get_or ws j 0) ((64 * k + i) % 64)) 1) word ∙ ap (λ j. eqb (bit_at w j) 1) place ∙ on))
+      ∙ ap (λ j. eqb (bit_at x j) 1 || eqb (bit_at y j) 1) offset)
+      ∙ covered (64 * k + i) (omega arith) (ap (λ j. eqb (bit_at (get_or ws j 0) ((64 * k + i) % 64)) 1) word ∙ ap (λ j. eqb (bit_at w j) 1) offset ∙ on))
       ∙ sym (bit_at-zero i)))

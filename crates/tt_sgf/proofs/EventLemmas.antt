@@ -122,7 +122,7 @@ pub EventsAt-push : (bytes : List ℕ) (es : List Event) (rest : List ℕ) (e : 
 EventsAt-push bytes [] rest e after h f = (after, ap event_at h ∙ f, refl)
 EventsAt-push bytes (d ∷ es) rest e after h f = (h.0, h.1, EventsAt-push h.0 es rest e after h.2 f)
 
--- of two rows from one place one begins the other
+-- of two rows from one byte one begins the other
 pub two_rows : (bytes : List ℕ) (xs ys : List Event) (r q : List ℕ) → EventsAt bytes xs r → EventsAt bytes ys q
     → ((zs : List Event) × (ys ≡ xs ++ zs) × EventsAt r zs q) ⊎ ((z : Event) × (zs : List Event) × (xs ≡ ys ++ (z ∷ zs)))
 two_rows bytes [] ys r q h k = inl (ys, refl, subst (λ (x : List ℕ). EventsAt x ys q) h k)

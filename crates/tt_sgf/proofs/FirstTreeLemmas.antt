@@ -80,7 +80,7 @@ module _ (bytes : List ℕ) (i : ℕ) (lt : i < length bytes) (none : has_open (
     count_is = let e = begins_len t rest b in omega (arith, length-take i bytes);
   }
 
--- the bytes from a place to the end are all that are left there: a tree begins in both or in none
+-- the bytes from one byte to the end are all that are left there: a tree begins in both or in none
 pub begins_rest : (bytes : List ℕ) (i : ℕ) (t : GameTree) (rest : List ℕ) → Begins (open_tree ∷ take (length bytes - i) (drop i bytes)) t rest → Begins (open_tree ∷ drop i bytes) t rest
 begins_rest bytes i t rest b = rw take_rest at b
 

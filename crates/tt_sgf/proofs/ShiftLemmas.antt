@@ -64,20 +64,20 @@ module _ (made words : List ℕ) (k : ℕ) (few : k < 64) where
         elim (cases_lt i k) [
           | inl low ↦
               let word : j - 1 ≡ q / 64 = omega arith in
-              let place : i + 64 - k ≡ q % 64 = omega arith in
+              let offset : i + 64 - k ≡ q % 64 = omega arith in
               ap (λ x. eqb x 1) ((rest j (omega arith) (omega arith) i (omega arith)).1 low) ∙ ap (λ x. eqb (bit_at (get_or words x 0) (i + 64 - k)) 1) word
-              ∙ ap (λ x. eqb (bit_at (get_or words (q / 64) 0) x) 1) place
+              ∙ ap (λ x. eqb (bit_at (get_or words (q / 64) 0) x) 1) offset
           | inr high ↦
               let word : j ≡ q / 64 = omega arith in
-              let place : i - k ≡ q % 64 = omega arith in
+              let offset : i - k ≡ q % 64 = omega arith in
               elim (cases_eq j 0) [
                 | inl at ↦
                     let at' : q / 64 ≡ 0 = omega arith in
-                    ap (λ x. eqb (bit_at (get_or made x 0) i) 1) at ∙ ap (λ x. eqb x 1) ((first i (omega arith)).0 high) ∙ ap (λ x. eqb (bit_at (get_or words 0 0) x) 1) place
+                    ap (λ x. eqb (bit_at (get_or made x 0) i) 1) at ∙ ap (λ x. eqb x 1) ((first i (omega arith)).0 high) ∙ ap (λ x. eqb (bit_at (get_or words 0 0) x) 1) offset
                     ∙ ap (λ x. eqb (bit_at (get_or words x 0) (q % 64)) 1) (sym at')
                 | inr apart ↦
                     ap (λ x. eqb x 1) ((rest j (omega (arith, apart)) (omega arith) i (omega arith)).0 high) ∙ ap (λ x. eqb (bit_at (get_or words x 0) (i - k)) 1) word
-                    ∙ ap (λ x. eqb (bit_at (get_or words (q / 64) 0) x) 1) place
+                    ∙ ap (λ x. eqb (bit_at (get_or words (q / 64) 0) x) 1) offset
               ]
         ]
 
@@ -86,8 +86,8 @@ module _ (made words : List ℕ) (k : ℕ) (few : k < 64) where
     unfolding bit_in
     up_low q lt =
         let word : q / 64 ≡ 0 = omega arith in
-        let place : q % 64 ≡ q = omega arith in
-        ap (λ x. eqb (bit_at (get_or made x 0) (q % 64)) 1) word ∙ ap (λ x. eqb (bit_at (get_or made 0 0) x) 1) place
+        let offset : q % 64 ≡ q = omega arith in
+        ap (λ x. eqb (bit_at (get_or made x 0) (q % 64)) 1) word ∙ ap (λ x. eqb (bit_at (get_or made 0 0) x) 1) offset
         ∙ ap (λ x. eqb x 1) ((first q (omega arith)).1 lt ∙ bit_at-zero (q + 64 - k))
 
   module _ (last : IsShiftedRight (get_or made 5 0) (get_or words 5 0) 0 k) (rest : (j : ℕ) → j < 5 → IsShiftedRight (get_or made j 0) (get_or words j 0) (get_or words (j + 1) 0) k) where
@@ -99,21 +99,21 @@ module _ (made words : List ℕ) (k : ℕ) (few : k < 64) where
         elim (cases_lt (i + k) 64) [
           | inl low ↦
               let word : j ≡ (q + k) / 64 = omega arith in
-              let place : i + k ≡ (q + k) % 64 = omega arith in
+              let offset : i + k ≡ (q + k) % 64 = omega arith in
               elim (cases_eq j 5) [
                 | inl at ↦
                     let at' : (q + k) / 64 ≡ 5 = omega arith in
-                    ap (λ x. eqb (bit_at (get_or made x 0) i) 1) at ∙ ap (λ x. eqb x 1) ((last i (omega arith)).0 low) ∙ ap (λ x. eqb (bit_at (get_or words 5 0) x) 1) place
+                    ap (λ x. eqb (bit_at (get_or made x 0) i) 1) at ∙ ap (λ x. eqb x 1) ((last i (omega arith)).0 low) ∙ ap (λ x. eqb (bit_at (get_or words 5 0) x) 1) offset
                     ∙ ap (λ x. eqb (bit_at (get_or words x 0) ((q + k) % 64)) 1) (sym at')
                 | inr apart ↦
                     ap (λ x. eqb x 1) ((rest j (omega (arith, apart)) i (omega arith)).0 low) ∙ ap (λ x. eqb (bit_at (get_or words x 0) (i + k)) 1) word
-                    ∙ ap (λ x. eqb (bit_at (get_or words ((q + k) / 64) 0) x) 1) place
+                    ∙ ap (λ x. eqb (bit_at (get_or words ((q + k) / 64) 0) x) 1) offset
               ]
           | inr high ↦
               let word : j + 1 ≡ (q + k) / 64 = omega arith in
-              let place : i + k - 64 ≡ (q + k) % 64 = omega arith in
+              let offset : i + k - 64 ≡ (q + k) % 64 = omega arith in
               ap (λ x. eqb x 1) ((rest j (omega arith) i (omega arith)).1 high) ∙ ap (λ x. eqb (bit_at (get_or words x 0) (i + k - 64)) 1) word
-              ∙ ap (λ x. eqb (bit_at (get_or words ((q + k) / 64) 0) x) 1) place
+              ∙ ap (λ x. eqb (bit_at (get_or words ((q + k) / 64) 0) x) 1) offset
         ]
 
     -- and the last k are 0

@@ -17,7 +17,7 @@ use Rattle.tt_sgf.proofs.GrammarLemmas.{items_then, tree_then, trees_then, spell
 
 -- ---- the walk with a count of open trees
 
--- at a place within so many trees around the innermost open one, at the end, or nowhere
+-- at a byte within so many trees around the innermost open one, at the end, or nowhere
 pub data State : Type 0 where
   within : ParserState → ℕ → State
   done : State
@@ -241,7 +241,7 @@ step_last Opened ne = absurd (ne refl)
 step_last Nodes ne = refl
 step_last Behind ne = refl
 
--- events lead from the bytes to the rest and to the place; the nodes are their line, over once one closed
+-- events lead from the bytes to the rest and to the byte; the nodes are their line, over once one closed
 pub record Far (bytes rest : List ℕ) (p : ParserState) (d : ℕ) (on_main : Bool) (nodes : List Node) : Type 0 where
   pub events : List Event
   pub goes : EventsAt bytes events rest
@@ -250,7 +250,7 @@ pub record Far (bytes rest : List ℕ) (p : ParserState) (d : ℕ) (on_main : Bo
   pub closed : has_close events ≡ not on_main
 
 module _ (bytes rest : List ℕ) (p : ParserState) (d : ℕ) (on_main : Bool) (nodes : List Node) (far : Far bytes rest p d on_main nodes) where
-  -- one event more leads on from the place
+  -- one event more leads on from the byte
   step_to : (e : Event) (s : State) → step (within p d) e ≡ s → run (within Opened 0) (far.events ++ e ∷ []) ≡ s
   step_to e s h = run-append (within Opened 0) far.events (e ∷ []) ∙ ap (λ (x : State). step x e) far.at ∙ h
 
@@ -334,7 +334,7 @@ module _ (bytes rest : List ℕ) (p : ParserState) (d : ℕ) (on_main : Bool) (n
       ] in
       (game c.0 c.1, begins, sym nodes-are ∙ ap line c.4 ∙ line-inside c.0 c.1 [])
 
-  -- a place where no event leads on: no text of a tree is at the front
+  -- a byte where no event leads on: no text of a tree is at the front
   pub far_dead : ((e : Event) (after : List ℕ) → event_at rest ≡ Some (e, after) → step (within p d) e ≡ stuck) → (t : GameTree) (q : List ℕ) → Begins (open_tree ∷ bytes) t q → ⊥
   far_dead dead (game ns ts) q b =
       let whole = spelled_whole (game ns ts) b.text b.spells in
@@ -352,11 +352,11 @@ module _ (bytes rest : List ℕ) (p : ParserState) (d : ℕ) (on_main : Bool) (n
             absurd cc
       ]
 
-  -- a place where no event is read: no text of a tree is at the front
+  -- a byte where no event is read: no text of a tree is at the front
   pub far_none : event_at rest ≡ None → (t : GameTree) (q : List ℕ) → Begins (open_tree ∷ bytes) t q → ⊥
   far_none h = far_dead (λ e after k. absurd (let x = h in cc))
 
-  -- a place where the event read doesn't lead on: no text of a tree is at the front
+  -- a byte where the event read doesn't lead on: no text of a tree is at the front
   refused : (e : Event) (after : List ℕ) → event_at rest ≡ Some (e, after) → step (within p d) e ≡ stuck → (t : GameTree) (q : List ℕ) → Begins (open_tree ∷ bytes) t q → ⊥
   refused e after h s = far_dead (λ f other k. ap (step (within p d)) (sym (some_pair_parts e f after other (sym h ∙ k)).0) ∙ s)
 

@@ -129,7 +129,7 @@ pub fn has_tree(bytes: &[u8]) -> bool
 /// # Errors
 /// - `TooLong` exactly where there are more than 1,048,576 bytes.
 /// - `Syntax` exactly where there are not, and no game tree begins at the first `(`, or there is no `(`.
-/// - `NoMemory` where memory was refused, in the place of any answer but `TooLong`.
+/// - `NoMemory` where memory was refused, instead of any answer but `TooLong`.
 pub fn read_tree(alloc: Global, bytes: &[u8]) -> Result<(MainLine, usize), SgfFault>
     ensures found { IfOk result (λ x. (t : GameTree) × FirstTreeEndsAt bytes.now x.1 t × (x.0.nodes ≡ main_line t)) }
     ensures line { IfOk result (λ x. IsMainLine x.0.nodes) }

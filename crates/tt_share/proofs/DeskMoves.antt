@@ -14,7 +14,7 @@ use Rattle.tt_share.specs.declared.desk.rule.SeatKnowledge.{SeatKnowledge}
 use Rattle.tt_share.specs.declared.desk.rule.DeskSize.{DeskSize}
 use Rattle.tt_share.specs.Desk.{fresh_knowledge, new_seat_knowledge, no_knowledge, knowledge_less_one_seat, joined_knowledge, knowledge_with_draw, knowledge_with_grant}
 use Rattle.tt_share.specs.Desk.{knowledge_with_flag_raised, knowledge_with_look, overdraw_count, EachSeat, SomeSeat, AreDealtNumbers, IsFlagOfSeats, IsDesk}
-use Rattle.tt_share.specs.Desk.{IsDeskInvariant, SeatState, CanBeNextNumber, IsSeatAfterDraw, IsSeatAfterGrant, IsSeatAfterRaise, IsSeatAfterLook}
+use Rattle.tt_share.specs.Desk.{IsDeskInvariant, SeatState, CanBeNextNumber, IsSeatAfterDraw, IsSeatAfterAsk, IsSeatAfterRaise, IsSeatAfterLook}
 use Rattle.tt_share.specs.Seats.{last_number}
 use Rattle.tt_share.proofs.DeskLists.{at_within, sum_set, sum_at, sum_le, overdraw_below, none_below, below_by_weight, rising_push, rising_short, no_spares}
 
@@ -186,7 +186,7 @@ draws plan slots id me small empty one job s h homes at fits =
 
 -- an ask for a grant keeps the rule, and finds the seat's next number
 pub grants : (plan : DeskSize) (slots id : ℕ) (me : SeatState) → plan.total + plan.seats + 1 < 2 ^ 64 → me.1 ≡ [] → me.0.seat_count ≡ 1 → last_number me.0.grants < plan.total
-    → Allows (IsDeskInvariant plan) slots id me 2 (λ n. (n + 1) % 2 ^ 64) (λ n after. IsSeatAfterGrant me n after)
+    → Allows (IsDeskInvariant plan) slots id me 2 (λ n. (n + 1) % 2 ^ 64) (λ n after. IsSeatAfterAsk me n after)
 grants plan slots id me small empty one left s h homes at fits =
     let v : SeatKnowledge = me.0 in
     let here : slice_index s.words 2 ≡ h.2 = ap (λ (l : List ℕ). slice_index l 2) h.3 in

@@ -53,7 +53,7 @@ pub record IsTotalSpent (line : LineWithUndo) (limits : Limits) (total : ℕ) (t
   -- the counts add up to the total
   pub in_all : spent_in_all spent ≡ total
 
--- what is told of the counts: all of them where the total is spent, and else nothing
+-- what is known of the counts: all of them where the total is spent, and else nothing
 abbrev pub counts_if_total_spent_of : Reason → List (Turn × ℕ) → List (Turn × ℕ)
 counts_if_total_spent_of Budget spent = []
 counts_if_total_spent_of Depth spent = []

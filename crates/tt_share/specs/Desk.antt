@@ -98,8 +98,8 @@ CanBeNextNumber numbers n = IsStrictlyIncreasing (numbers ++ n ∷ []) × (lengt
 abbrev pub IsSeatAfterDraw : SeatState → ℕ → SeatState → Type 0
 IsSeatAfterDraw before found after = (after ≡ (knowledge_with_draw before.0 found, before.1)) × CanBeNextNumber before.0.numbers found
 
-abbrev pub IsSeatAfterGrant : SeatState → ℕ → SeatState → Type 0
-IsSeatAfterGrant before found after = (after ≡ (knowledge_with_grant before.0 found, before.1)) × CanBeNextNumber before.0.grants found
+abbrev pub IsSeatAfterAsk : SeatState → ℕ → SeatState → Type 0
+IsSeatAfterAsk before found after = (after ≡ (knowledge_with_grant before.0 found, before.1)) × CanBeNextNumber before.0.grants found
 
 abbrev pub IsSeatAfterRaise : SeatState → SeatState → Type 0
 IsSeatAfterRaise before after = after ≡ (knowledge_with_flag_raised before.0, before.1)

@@ -55,7 +55,7 @@ fn was_or_is_stuck(before: bool, end: &JobResult) -> bool
 }
 
 /// Draws jobs and searches them until no job is left, the flag is seen or memory is refused. Room for a result comes
-/// before its draw, so each job that was drawn has its result. The gate is told of each job as it begins and as it ends. A job
+/// before its draw, so each job that was drawn has its result. The gate hears of each job as it begins and as it ends. A job
 /// that is settled for the side to move raises the flag. Jobs are drawn in rising order, so the first that is stuck is the least:
 /// its search is kept, and those of later ones are dropped.
 pub(crate) fn work<S: Store, G: Gate>(

@@ -100,7 +100,7 @@ pub(crate) const SET_UPS: &str = "\
 3|3|.WB.WBWWB|2|0|0
 ";
 
-/// A board, and on which of its empty points a play of Black's is told to be quiet: `Q`.
+/// A board, and on which of its empty points a play of Black's is known to be quiet: `Q`.
 pub(crate) const QUIET_PLAYS: &str = "\
 1|1|.|.
 2|2|B..B|....

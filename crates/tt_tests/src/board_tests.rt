@@ -110,15 +110,15 @@ fn set_up_holds(line: &[u8]) -> bool {
     }
 }
 
-/// Whether all empty points of a board, asked at once, are told as it is drawn for Black: `Q` where a play is told to be quiet.
+/// Whether all empty points of a board, asked at once, are known as it is drawn for Black: `Q` where a play is known to be quiet.
 fn tells(board: &Board, no_capture: &[u8]) -> bool {
     let size = board.size();
     let empty = board.empty_among(&PointSet::whole(size));
-    let told = CountedBoard::of(board).some_noncapturing_plays(Colour::Black, &empty);
-    told.same(holders(size, no_capture, b'Q').bits())
+    let found = CountedBoard::of(board).some_noncapturing_plays(Colour::Black, &empty);
+    found.same(holders(size, no_capture, b'Q').bits())
 }
 
-/// Whether the plays on a board are told to be quiet as the line of the table says.
+/// Whether the plays on a board are known to be quiet as the line of the table says.
 fn no_capture_holds(line: &[u8]) -> bool {
     let Some((size, rest)) = sized(line) else {
         return false;

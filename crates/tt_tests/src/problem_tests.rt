@@ -91,7 +91,7 @@ pub(crate) fn turn(size: Size, number: u16) -> Turn
     }
 }
 
-/// Whether a line's legal turns are those at whose numbers `marks` has a dash, in this order.
+/// Whether a line's legal turns are those at whose numbers `signs` has a dash, in this order.
 pub(crate) fn has_turns(line: &Line, marks: &[u8]) -> bool {
     let size = line.frame().size;
     let turns = line.turns();

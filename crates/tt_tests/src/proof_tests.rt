@@ -144,9 +144,9 @@ fn are_children(line: &mut Line, turns: &[Turn], children: &[(Turn, Proof)]) -> 
         return false;
     }
     let side = line.to_move().opponent();
-    for place in 0..turns.len() {
-        let child = &children[place];
-        if child.0 != turns[place] {
+    for index in 0..turns.len() {
+        let child = &children[index];
+        if child.0 != turns[index] {
             return false;
         }
         if !is_child(line, side, &child.0, &child.1) {

@@ -29,7 +29,7 @@ fn shown(alloc: Global, number: u32) -> Option<String> {
 }
 
 /// What a step answered, with the root's numbers after it.
-pub(crate) fn told(alloc: Global, step: Step, numbers: (u32, u32)) -> Option<String> {
+pub(crate) fn step_text(alloc: Global, step: Step, numbers: (u32, u32)) -> Option<String> {
     let proof = shown(alloc, numbers.0)?;
     let disproof = shown(alloc, numbers.1)?;
     format!(in alloc; "{}{proof},{disproof} ", letter(step)).ok()
@@ -42,7 +42,8 @@ pub(crate) fn put_step(
     numbers: (u32, u32),
     text: &mut String,
 ) -> Option<()> {
-    text.push_str(told(alloc, step, numbers)?.as_str()).ok()
+    text.push_str(step_text(alloc, step, numbers)?.as_str())
+        .ok()
 }
 
 /// Adds how many nodes are expanded, and how many proofs are kept.
@@ -166,7 +167,7 @@ fn stuck_step(
     expanded: u32,
     kept: usize,
 ) -> Option<String> {
-    let mut piece = told(alloc, Step::Stuck(reason), numbers)?;
+    let mut piece = step_text(alloc, Step::Stuck(reason), numbers)?;
     put_counts(alloc, expanded, kept, &mut piece)?;
     Some(piece)
 }

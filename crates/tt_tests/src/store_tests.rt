@@ -103,7 +103,7 @@ fn no_store_past_the_limit(rt: HostRuntime) {
     assert!(&rt; !is_room(rt.alloc(), 4_097));
 }
 
-/// Whether two searches over a store with one place have these traces.
+/// Whether two searches over a store with room for one proof have these traces.
 fn searches_over_one(alloc: Global, first: &[u8], second: &[u8]) -> Option<bool> {
     let mut store = PrivateStore::bounded(alloc, 1)?;
     Some(

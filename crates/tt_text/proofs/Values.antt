@@ -16,9 +16,9 @@ use Rattle.tt_proof.specs.CertificateText.{readable_turn_text}
 use Rattle.tt_search.specs.declared.limits.Limits.{Limits}
 use Rattle.tt_text.specs.declared.options.CertKind.{CertKind}
 use Rattle.tt_text.specs.Laws.{VerdictsAreValues}
-use Rattle.tt_text.specs.Solving.{IsFirstTurnOfWinner, IsVerdict, decided, decided_text, first_turn_text, unsettled}
+use Rattle.tt_text.specs.Solving.{IsFirstTurnOfWinner, IsVerdict, decided, decided_line, first_turn_text, unsettled}
 
--- the byte in a place, or 0
+-- the byte at an index, or 0
 abbrev byte : ℕ → List ℕ → ℕ
 byte n [] = 0
 byte zero (b ∷ bs) = b
@@ -59,7 +59,7 @@ record Says (p : LineWithUndo) (side : Side) (rest : List ℕ) : Type 0 where
 says : (p : LineWithUndo) (limits : Limits) (total : Option ℕ) (cert : CertKind) (side : Side) (rest text : List ℕ) → IsVerdict p limits total cert text → text ≡ verdict_word side ++ rest → Says p side rest
 says p limits total cert side rest text (decided s first lines valued keeps more) e =
     let size = p.frame.size in
-    let parts : decided_text size s first ++ lines ≡ verdict_word s ++ (first_turn_text size first ++ newline ∷ lines) =
+    let parts : decided_line size s first ++ lines ≡ verdict_word s ++ (first_turn_text size first ++ newline ∷ lines) =
     append_assoc (verdict_word s) (first_turn_text size first ++ newline ∷ []) lines ∙ ap (λ (x : List ℕ). verdict_word s ++ x) (append_assoc (first_turn_text size first) (newline ∷ []) lines) in
     let same = verdict_word_is_prefix_free s side (first_turn_text size first ++ newline ∷ lines) rest (sym parts ∙ e) in
     record {

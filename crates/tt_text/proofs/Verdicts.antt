@@ -23,7 +23,7 @@ use Rattle.tt_share.specs.Answers as answer
 use Rattle.tt_sgf.specs.Bytes.{newline}
 use Rattle.tt_text.specs.declared.options.CertKind.{CertKind}
 use Rattle.tt_text.specs.declared.options.CertKind.TheVariants.{Plain, Shared}
-use Rattle.tt_text.specs.Solving.{CertificateFollowsIfAsked, IsFirstTurnOfWinner, IsDecidedText, IsUnsettledFor, IsVerdict, decided, decided_text, unsettled, unsettled_text}
+use Rattle.tt_text.specs.Solving.{CertificateFollowsIfAsked, IsFirstTurnOfWinner, IsDecidedText, IsUnsettledFor, IsVerdict, decided, decided_line, unsettled, unsettled_line}
 
 -- a strategy that wins says the value
 won_value : (side : Side) (f : Frame) (u : Strategy) (s : State) → IsWellFormedState f s → Wins side f u s → HasValue f s (value_won_by side)
@@ -63,7 +63,7 @@ shared_follows line limits side first most text lines same w e =
 
 -- the line of a verdict, and what follows it
 pub said : (line : LineWithUndo) (limits : Limits) (p : ProofClaim) (first : Option Turn) (cert : CertKind) (lines text : List ℕ) → first ≡ first_turn_of p.tree
-    → CertificateFollowsIfAsked line limits p.side (first_turn_of p.tree) cert lines → text ≡ decided_text line.frame.size p.side first ++ lines
+    → CertificateFollowsIfAsked line limits p.side (first_turn_of p.tree) cert lines → text ≡ decided_line line.frame.size p.side first ++ lines
     → IsDecidedText line limits p.side first cert text
 said line limits p first cert lines text e h at = (lines, subst (λ (o : Option Turn). CertificateFollowsIfAsked line limits p.side o cert lines) (sym e) h, at)
 
@@ -112,6 +112,6 @@ stuck_for line limits total stuck Memory h = tt
 
 -- the text of a stuck turn
 pub stuck_verdict : (line : LineWithUndo) (limits : Limits) (total : Option ℕ) (cert : CertKind) (stuck : Stuck) (text : List ℕ) → answer.IsUnsettledAnswer line limits total stuck.reason stuck
-    → text ≡ unsettled_text stuck.reason → IsVerdict line limits total cert text
+    → text ≡ unsettled_line stuck.reason → IsVerdict line limits total cert text
 stuck_verdict line limits total cert stuck text h e =
     subst (λ (x : List ℕ). IsVerdict line limits total cert x) (sym e) (unsettled stuck.reason (stuck_for line limits total stuck stuck.reason h))

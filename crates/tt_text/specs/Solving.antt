@@ -37,8 +37,8 @@ first_turn_text size None = []
 first_turn_text size (Some t) = space ∷ readable_turn_text size t
 
 -- the line of a decided problem
-abbrev pub decided_text : Size → Side → Option Turn → List ℕ
-decided_text size side first = verdict_word side ++ (first_turn_text size first ++ newline ∷ [])
+abbrev pub decided_line : Size → Side → Option Turn → List ℕ
+decided_line size side first = verdict_word side ++ (first_turn_text size first ++ newline ∷ [])
 
 abbrev pub reason_word : Reason → List ℕ
 reason_word Budget = codes "budget"
@@ -47,13 +47,13 @@ reason_word Total = codes "total"
 reason_word Memory = codes "memory"
 
 -- the line of an unsettled problem
-abbrev pub unsettled_text : Reason → List ℕ
-unsettled_text reason = codes "unsettled " ++ (reason_word reason ++ newline ∷ [])
+abbrev pub unsettled_line : Reason → List ℕ
+unsettled_line reason = codes "unsettled " ++ (reason_word reason ++ newline ∷ [])
 
 -- what is said behind a turn: the side that wins, or why that isn't known
 abbrev pub value_text : Result Side Reason → List ℕ
 value_text (Ok side) = verdict_word side ++ newline ∷ []
-value_text (Err reason) = unsettled_text reason
+value_text (Err reason) = unsettled_line reason
 
 -- the line on a turn, behind two blanks
 abbrev pub turn_value_line : Size → Turn → Result Side Reason → List ℕ
@@ -85,7 +85,7 @@ CertificateFollowsIfAsked p limits side first Shared lines =
 -- the text of a decided problem, with what follows it
 abbrev pub IsDecidedText : LineWithUndo → Limits → Side → Option Turn → CertKind → List ℕ → Type 0
 IsDecidedText p limits side first cert text =
-    (lines : List ℕ) × CertificateFollowsIfAsked p limits side first cert lines × (text ≡ decided_text p.frame.size side first ++ lines)
+    (lines : List ℕ) × CertificateFollowsIfAsked p limits side first cert lines × (text ≡ decided_line p.frame.size side first ++ lines)
 
 -- behind some legal turn the search is stuck for the reason, and the lesser turns lose; for the total only where there is one, and
 -- then the count of this search and those of grown searches behind the other legal turns add up to it; of memory nothing is said
@@ -99,8 +99,8 @@ IsUnsettledFor p limits total Memory = Unit {0}
 -- The text is a verdict on the problem: its value, killed or lives; or that no win was found, for a reason.
 pub data IsVerdict (p : LineWithUndo) (limits : Limits) (total : Option ℕ) (cert : CertKind) : List ℕ → Type 0 where
   decided : (side : Side) (first : Option Turn) (lines : List ℕ) → HasValue p.frame p.state (value_won_by side) → IsFirstTurnOfWinner p side first
-      → CertificateFollowsIfAsked p limits side first cert lines → IsVerdict p limits total cert (decided_text p.frame.size side first ++ lines)
-  unsettled : (reason : Reason) → IsUnsettledFor p limits total reason → IsVerdict p limits total cert (unsettled_text reason)
+      → CertificateFollowsIfAsked p limits side first cert lines → IsVerdict p limits total cert (decided_line p.frame.size side first ++ lines)
+  unsettled : (reason : Reason) → IsUnsettledFor p limits total reason → IsVerdict p limits total cert (unsettled_line reason)
 
 -- the side has the value, or a search is stuck for the reason
 abbrev pub IsValueOrReason : LineWithUndo → Limits → Option ℕ → Result Side Reason → Type 0

@@ -281,7 +281,7 @@ fn solve_to_text<X: Threads + Wait + Sync, G: Gate>(
     Ok(ItemList::from_vec(text))
 }
 
-/// What is said of the problem that a main line is, or its refusal. The problem's text has so many bytes. The gate is told of the
+/// What is said of the problem that a main line is, or its refusal. The problem's text has so many bytes. The gate hears of the
 /// problem's first turns, and of no turn behind one.
 pub fn solve<X: Threads + Wait + Sync, G: Gate>(
     rt: &X,

@@ -8,7 +8,7 @@ ghost use Rattle.tt_proof.specs.ProofClaim.{IsWinningTree, StandsAt, first_turn_
 ghost use Rattle.tt_proof.specs.SharedWins.{IsWinningSharedCertificate};
 ghost use Rattle.tt_proof.specs.Strategy.{IsTurnOnBoardOfSize, depth};
 ghost use Rattle.tt_share.specs.Answers.{IsAnswer, IsSettledAnswer};
-ghost use Rattle.tt_text.specs.Solving.{CertificateFollowsIfAsked, IsDecidedText, IsValueOrReason, IsVerdict, decided_text, first_turn_text, reason_word, unsettled_text, turn_value_line, value_text};
+ghost use Rattle.tt_text.specs.Solving.{CertificateFollowsIfAsked, IsDecidedText, IsValueOrReason, IsVerdict, decided_line, first_turn_text, reason_word, unsettled_line, turn_value_line, value_text};
 
 use crate::options::CertKind;
 use std::alloc::Global;
@@ -129,7 +129,7 @@ fn decided_verdict(
 ) -> Result<Vec<u8>, NoMemory>
     requires size { size ≡ proof.now.frame.size }
     requires first { first.now ≡ first_turn_of proof.now.tree }
-    ensures text { IfOk result (λ text. text.items ≡ decided_text size proof.now.side first.now ++ lines.now) }
+    ensures text { IfOk result (λ text. text.items ≡ decided_line size proof.now.side first.now ++ lines.now) }
     ensures won { IsWinningTree proof.now.side proof.now.frame proof.now.state proof.now.tree }
 {
     let side = proof.side();
@@ -177,7 +177,7 @@ fn put_value(out: &mut Vec<u8>, value: Result<Side, Reason>) -> Result<(), NoMem
 
 /// That no win was found, and why.
 fn unsettled_verdict_text(alloc: Global, reason: Reason) -> Result<Vec<u8>, NoMemory>
-    ensures { IfOk result (λ text. text.items ≡ unsettled_text reason) }
+    ensures { IfOk result (λ text. text.items ≡ unsettled_line reason) }
 {
     let mut out = Vec::new(alloc);
     put_value(&mut out, Err(reason))?;

@@ -114,7 +114,7 @@ IsNewName u m a b c = (m ≢ 0) × (m ≢ u) × (m ≢ a) × (m ≢ b) × (m ≢
 abbrev pub AreRootsApart : List ℕ → Type 0
 AreRootsApart xs = (i j : ℕ) → i < j → j < length xs → root_of (name_at xs i) ≢ root_of (name_at xs j)
 
--- the name b in place of a
+-- the name b instead of a
 abbrev pub renamed : ℕ → ℕ → ℕ → ℕ
 renamed a b x = if x == a then b else x
 

@@ -354,7 +354,7 @@ impl Chains {
         points
     }
 
-    /// The colouring after a play of `colour` on the empty point `p`, of which this is told; no chain is changed for it.
+    /// The colouring after a play of `colour` on the empty point `p`, of which this is known; no chain is changed for it.
     pub(crate) fn colouring_after(&self, colour: Colour, p: usize, kind: PlayKind) -> Colouring
         requires on_board { p < point_count self.now.size }
         requires free { entry_at self.now.points p ≡ None }

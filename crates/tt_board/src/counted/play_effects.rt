@@ -1,4 +1,4 @@
-//! What a play does, told by the counts before it: which chains go, and whether it is suicide. No board is made for it.
+//! What a play does, known by the counts before it: which chains go, and whether it is suicide. No board is made for it.
 
 ghost use Rattle.std.specs.Prelude.{◌≡◌, ℕ, ◌+◌, ◌/◌, ◌<◌, ◌≤◌, ◌⊎◌, ◌↔◌, length, Contains};
 ghost use Rattle.tt_board.specs.inside.Chains.{name_at, root_of, IsEachOnce, IsOneName};

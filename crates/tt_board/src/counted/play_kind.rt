@@ -1,4 +1,4 @@
-//! Plays that are told by four names and the counts of their chains: those by which nothing goes, and those that change nothing.
+//! Plays that are known by four names and the counts of their chains: those by which nothing goes, and those that change nothing.
 
 ghost use Rattle.std.specs.Prelude.{◌≡◌, ◌≢◌, ℕ, ◌+◌, ◌/◌, ◌<◌, ◌≤◌, ◌⊎◌, ◌↔◌, length, IsTrue, Some, MatchOption, false};
 ghost use Rattle.tt_sgf.specs.Sizes.{point_count};

@@ -11,18 +11,18 @@ use tt_board::{Board, Colour};
 use tt_game::Line;
 use tt_sgf::{NoMemory, Point, Size};
 
-/// The place of all that is outside the board.
+/// The cell of all that is outside the board.
 pub(crate) const OUTSIDE_PLACE: u16 = 361;
 
 /// How many stones a chain may have, and more.
 const MOST_CHAIN_STONES: u16 = 512;
 
-// What a place holds, as small numbers: they are compared for each turn of each position.
+// What a cell holds, as small numbers: they are compared for each turn of each position.
 const EMPTY_CODE: u8 = 0;
 
 const OUTSIDE_CODE: u8 = 3;
 
-/// The index of a place.
+/// The index of a cell.
 #[inline(always)]
 pub(crate) fn index(p: u16) -> usize
     ensures { result < 512 }
@@ -273,19 +273,19 @@ impl SearchBoard {
         !self.undo.is_empty()
     }
 
-    /// Whether a place is an empty point.
+    /// Whether a cell is an empty point.
     #[inline(always)]
     pub(crate) fn is_empty_point(&self, p: u16) -> bool {
         self.contents[index(p)] == EMPTY_CODE
     }
 
-    /// Whether a place is outside the board.
+    /// Whether a cell is outside the board.
     #[inline(always)]
     pub(crate) fn is_outside(&self, p: u16) -> bool {
         self.contents[index(p)] == OUTSIDE_CODE
     }
 
-    /// Whether a place holds a stone of the colour.
+    /// Whether a cell holds a stone of the colour.
     #[inline(always)]
     pub(crate) fn holds(&self, colour: Colour, p: u16) -> bool {
         self.contents[index(p)] == code_of_colour(colour)
@@ -441,7 +441,7 @@ impl SearchBoard {
         effect.takes_target |= self.targets[index(chain)] != 0;
     }
 
-    /// Adds so many liberties, modulo 65,536, to each chain for each time that it is beside a place.
+    /// Adds so many liberties, modulo 65,536, to each chain for each time that it is beside a cell.
     #[inline]
     fn add_liberties_beside(&mut self, p: u16, count: u16) {
         let beside = self.beside(p);

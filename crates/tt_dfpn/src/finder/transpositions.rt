@@ -85,7 +85,7 @@ fn occupied_in_bucket(bucket: &Bucket) -> usize {
     usize::from(bucket[0].key != 0) + usize::from(bucket[1].key != 0)
 }
 
-/// What an entry is replacement_value: its work, and more where it is settled.
+/// What an entry is worth: its work, and more where it is settled.
 #[inline]
 fn replacement_value(entry: &Entry) -> u32 {
     if entry.key == 0 {
@@ -171,7 +171,7 @@ impl TranspositionTable {
         None
     }
 
-    /// Keeps an entry: in the slot of what was known under its key, else in the slot that is replacement_value least.
+    /// Keeps an entry: in the slot of what was known under its key, else in the slot that is worth least.
     #[inline]
     pub(crate) fn keep(&mut self, entry: Entry) {
         let bucket = self.bucket_index(entry.key);

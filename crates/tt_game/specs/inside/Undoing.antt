@@ -50,7 +50,7 @@ pub record Stack : Type 0 where
   pub present : Position
   pub below : List Position
 
--- the stack of a first board and of later ones, the present one in this place
+-- the stack of a first board and of later ones, the present one at this index
 abbrev pub stack_at : Position → List Position → ℕ → Stack
 stack_at b bs n = record { present = slice_index_or (b ∷ bs) n b; below = reverse (take n (b ∷ bs)) }
 

@@ -133,7 +133,7 @@ abbrev pub RisesFrom : Size → ℕ → List Turn → Type 0
 RisesFrom size n [] = Unit {0}
 RisesFrom size n (t ∷ ts) = (n ≤ turn_number_on_size size t) × IsTurnOnBoardOfSize size t × RisesFrom size (turn_number_on_size size t + 1) ts
 
--- turns that are legal place by place are all legal
+-- turns that are legal one by one are all legal
 each_legal : (f : Frame) (s : State) (ts : List Turn) → ((i : ℕ) → i < length ts → IsLegal f s (get_or ts i Pass)) → EachIsLegal f s ts
 each_legal f s [] h = tt
 each_legal f s (t ∷ ts) h = (h 0 (omega arith), each_legal f s ts (λ i l. h (suc i) (omega (arith, l))))

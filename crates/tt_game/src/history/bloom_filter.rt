@@ -40,7 +40,7 @@ const MIXER_POWERS: [u64; 12] = [
 ];
 
 /// A bit for each hash; it is 1 where something with that hash was noted. Two things may have one hash, so a bit that is 1 says
-/// nothing. A hash that has no bit, as each without memory for the rows, counts as noted: then nothing is told.
+/// nothing. A hash that has no bit, as each without memory for the rows, counts as noted: then nothing is known.
 #[derive(Drop)]
 pub struct BloomFilter {
     rows: Vec<Bits>,

@@ -44,7 +44,7 @@ impl Model for BoardStack {
     } };
 }
 
-/// Writes over the board in the place `k` what a play makes of the one before it.
+/// Writes over the board at the index `k` what a play makes of the one before it.
 fn overwrite_with_play(
     first: &CountedBoard,
     later: &mut [CountedBoard],

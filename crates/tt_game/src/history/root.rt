@@ -84,7 +84,7 @@ pub(crate) fn union_of_stones(boards: &[Board], colour: Colour) -> Bits
     stones
 }
 
-/// For each remainder of a hash the place of the last board that has it, and 0 where none has; no places without memory. Nothing goes by
+/// For each remainder of a hash the index of the last board that has it, and 0 where none has; no places without memory. Nothing goes by
 /// it but time.
 fn places_by_hash(alloc: Global, boards: &[Board]) -> Vec<usize> {
     let mut places = Vec::new(alloc);
@@ -194,7 +194,7 @@ impl Root {
             return None;
         }
         match self.places.get(hash % HASH_PLACES) {
-            Some(place) => Some(*place),
+            Some(index) => Some(*index),
             None => Some(0),
         }
     }

@@ -1,4 +1,4 @@
-//! What is the same for all plays from where a line stands, worked out once, and what is told of each of them by it.
+//! What is the same for all plays from where a line stands, worked out once, and what is known of each of them by it.
 
 ghost use Rattle.std.specs.Prelude.{◌≡◌, ◌<◌, ◌≤◌, IsTrue, MatchOption, true};
 ghost use Rattle.std.specs.FinSet as set;
@@ -104,7 +104,7 @@ impl Line {
         self.frame().size.point(n as u16)
     }
 
-    /// Whether a play of the side to move by which nothing goes is told to make a colouring that hasn't been. No board is made for it.
+    /// Whether a play of the side to move by which nothing goes is known to make a colouring that hasn't been. No board is made for it.
     #[inline(always)]
     fn known_new(&self, moves: &MoveGenerator, p: Point) -> bool
         requires moves { IsMoveGenerator moves.now self.now.frame self.now.state }
@@ -120,7 +120,7 @@ impl Line {
     }
 
     /// What is foretold of a play of the side to move on an empty point, by the points beside it and by the stones that stood there, and
-    /// what is told by the points beside it alone. It captures nothing where it takes nothing off and makes a colouring that hasn't been, and is
+    /// what is known by the points beside it alone. It captures nothing where it takes nothing off and makes a colouring that hasn't been, and is
     /// a suicide of one stone where its colouring is the present one.
     fn foretold_and_local_kind(&self, moves: &MoveGenerator, p: Point) -> (PlayKind, PlayKind)
         requires moves { IsMoveGenerator moves.now self.now.frame self.now.state }
@@ -149,7 +149,7 @@ impl Line {
         }
     }
 
-    /// Who has won after a play on an empty point of the region, where it is legal, by the board that it makes. This is told of it by
+    /// Who has won after a play on an empty point of the region, where it is legal, by the board that it makes. This is known of it by
     /// the points beside it.
     #[inline(never)]
     fn winner_if_legal_by_board(&self, p: Point, kind: PlayKind) -> Option<Option<Side>>
@@ -190,7 +190,7 @@ impl Line {
         Some(None)
     }
 
-    /// Who has won after a play on an empty point of the region, where it is legal. Most plays are told by the points beside them, and
+    /// Who has won after a play on an empty point of the region, where it is legal. Most plays are known by the points beside them, and
     /// no board is made for them.
     #[inline(always)]
     pub(crate) fn winner_if_legal(&self, moves: &MoveGenerator, p: Point) -> Option<Option<Side>>

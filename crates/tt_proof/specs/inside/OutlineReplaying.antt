@@ -5,7 +5,7 @@ use Rattle.tt_game.specs.declared.frame.Side.{Side}
 use Rattle.tt_game.specs.declared.turns.Turn.{Turn}
 use Rattle.tt_proof.specs.declared.outline_replay.ReplayResult.{ReplayResult}
 use Rattle.tt_proof.specs.Outlines.{Outline, Branches}
-use Rattle.tt_proof.specs.SharedParts.{NamedFootprints, IsReplayOfPick, IsReplayOfBranch, IsReplayOfReply, IsReplayWithRepeats, IsReplayOfOutline, IsReplayOfBranches, with_unreached_names, with_unreached_branch_names}
+use Rattle.tt_proof.specs.SharedParts.{NamedFootprints, IsReplayOfPick, IsReplayOfBranch, IsReplayOfReply, IsReplayOfBranchesAndRepeats, IsReplayOfOutline, IsReplayOfBranches, with_unreached_names, with_unreached_branch_names}
 
 module _ (side : Side) (f : Frame) where
   abbrev pub FindsPick : NamedFootprints → Turn → Outline → State → ReplayResult → NamedFootprints → Type 0
@@ -15,7 +15,7 @@ module _ (side : Side) (f : Frame) where
   FindsBranch ns t o s r ms = IsReplayOfBranch side f s (IsReplayOfOutline side f ns o (after f s t)) (with_unreached_names ns o) r ms t
 
   abbrev pub FindsTogether : NamedFootprints → Branches → State → ReplayResult → NamedFootprints → Type 0
-  FindsTogether ns bs s = IsReplayWithRepeats side f s (IsReplayOfBranches side f ns bs s)
+  FindsTogether ns bs s = IsReplayOfBranchesAndRepeats side f s (IsReplayOfBranches side f ns bs s)
 
   abbrev pub FindsReply : NamedFootprints → Branches → State → ReplayResult → NamedFootprints → Type 0
   FindsReply ns bs s r ms = IsReplayOfReply side f s (FindsTogether ns bs s) (with_unreached_branch_names ns bs) r ms bs

@@ -11,11 +11,11 @@ use crate::position_footprint::PositionFootprint;
 use crate::tree::Tree;
 use std::alloc::Global;
 use tt_board::Board;
-use tt_game::{Line, Refused, Side, Turn};
+use tt_game::{Line, PushError, Side, Turn};
 use tt_sgf::NoMemory;
 
 /// A text whose names are still open: `=` stands in front of each tree that is more than a leaf, and `*` for each part. `marked`
-/// has the indices of these trees, in the order of the marks.
+/// has the indices of these trees, in the order of the signs.
 #[derive(Drop)]
 pub(crate) struct Draft {
     text: Vec<u8>,
@@ -68,20 +68,20 @@ impl Draft {
         self.kept.use_part(alloc, index)
     }
 
-    /// Begins a tree, and answers the place of its mark.
+    /// Begins a tree, and answers where its index stands in the list.
     fn begin_tree(&mut self, byte: u8) -> Result<usize, NoMemory> {
-        let place = self.marked.len();
+        let number = self.marked.len();
         self.text.push(b'=')?;
         self.marked.push(0)?;
         self.text.push(byte)?;
-        Ok(place)
+        Ok(number)
     }
 
-    /// Ends the tree whose mark has this place. The line stands where the tree begins.
+    /// Ends the tree whose index stands there in the list. The line stands where the tree begins.
     fn end_tree(
         &mut self,
         alloc: Global,
-        place: usize,
+        number: usize,
         line: &Line,
         written: Option<TreeFacts>,
     ) -> Result<Option<TreeFacts>, NoMemory> {
@@ -89,8 +89,8 @@ impl Draft {
             return Ok(None);
         };
         let index = self.kept.keep(alloc, line, &written)?;
-        if let Some(mark) = self.marked.get_mut(place) {
-            *mark = index;
+        if let Some(kept_index) = self.marked.get_mut(number) {
+            *kept_index = index;
         }
         Ok(Some(written))
     }
@@ -123,13 +123,13 @@ impl Draft {
         let mut out = Vec::new(alloc);
         out.extend_from_slice(s.verdict_word())?;
         out.push(b' ')?;
-        let mut place = 0usize;
+        let mut number = 0usize;
         for byte in &self.text {
             if *byte != b'=' && *byte != b'*' {
                 out.push(*byte)?;
-            } else if let Some(index) = self.marked.get(place) {
+            } else if let Some(index) = self.marked.get(number) {
                 self.put_part_or_name_sign(alloc, &mut out, *byte, *index, &names)?;
-                place = place.saturating_add(1);
+                number = number.saturating_add(1);
             }
         }
         Ok(out)
@@ -203,12 +203,12 @@ fn walk_branch(
                 None => Ok(None),
             }
         }
-        Err(Refused::Illegal(_)) => {
+        Err(PushError::Illegal(_)) => {
             let _ = draft.text.pop();
             let _ = draft.text.pop();
             Ok(Some(before))
         }
-        Err(Refused::NoMemory) => Err(NoMemory),
+        Err(PushError::NoMemory) => Err(NoMemory),
     }
 }
 
@@ -264,8 +264,8 @@ fn walk_pick(
                 None => Ok(None),
             }
         }
-        Err(Refused::Illegal(_)) => Ok(None),
-        Err(Refused::NoMemory) => Err(NoMemory),
+        Err(PushError::Illegal(_)) => Ok(None),
+        Err(PushError::NoMemory) => Err(NoMemory),
     }
 }
 
@@ -288,14 +288,14 @@ fn walk(
     match t {
         Tree::Done => draft.put_done(alloc, line),
         Tree::Pick(turn, child) => {
-            let place = draft.begin_tree(b'!')?;
+            let number = draft.begin_tree(b'!')?;
             let written = walk_pick(alloc, *turn, child, left, line, draft)?;
-            draft.end_tree(alloc, place, line, written)
+            draft.end_tree(alloc, number, line, written)
         }
         Tree::Reply(list) => {
-            let place = draft.begin_tree(b'?')?;
+            let number = draft.begin_tree(b'?')?;
             let written = walk_reply(alloc, list, left, line, draft)?;
-            draft.end_tree(alloc, place, line, written)
+            draft.end_tree(alloc, number, line, written)
         }
     }
 }

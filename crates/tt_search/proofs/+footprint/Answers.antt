@@ -193,15 +193,15 @@ footprints::reply_footprint-loop-edge-preserved t c =
     let same = c.in_ok-board.ensures.same ∙ c.loop-edge.invariant.same in
     let here = settled_here side f s c.args.edges.now c.loop-edge.rest.now i first c.loop-edge-test.true c.loop-edge.invariant.settled in
     let foot : IsFootprint f (after f s turn) (strategy_for side child) c.in_ok-board.below = rw c.loop-edge.invariant.same at c.in_ok-board.ensures.exact in
-    let more : IsEntryJoined f s turn (strategy_for side child) c.loop-edge.footprint c.add_entry.new.self =
+    let more : IsEntryJoined f s turn (strategy_for side child) c.loop-edge.footprint c.join_reply_turn.new.self =
     subst
     (λ (l : LineWithUndo). IsFootprint l.frame (after l.frame l.state turn) (strategy_for side child) c.in_ok-board.below
-    → IsEntryJoined l.frame l.state turn (strategy_for side child) c.loop-edge.footprint c.add_entry.new.self)
-    same (c.in_ok-add_entry.ensures (strategy_for side child)) foot in
+    → IsEntryJoined l.frame l.state turn (strategy_for side child) c.loop-edge.footprint c.join_reply_turn.new.self)
+    same (c.in_ok-join_reply_turn.ensures (strategy_for side child)) foot in
     record {
       same = same;
       settled = subst (λ us. AreSettledAt side f s left us) (sym c.split_first_child.ensures.behind) here.others;
-      joined = joined_here side f s all c.args.edges.now c.loop-edge.rest.now i first turn child behind c.loop-edge.footprint c.add_entry.new.self c.loop-edge-test.true
+      joined = joined_here side f s all c.args.edges.now c.loop-edge.rest.now i first turn child behind c.loop-edge.footprint c.join_reply_turn.new.self c.loop-edge-test.true
           c.turn-turn.ensures c.split_first_child.ensures.child c.split_first_child.ensures.behind more c.loop-edge.invariant.joined;
       lighter = omega (
         arith,

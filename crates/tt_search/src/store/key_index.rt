@@ -245,7 +245,7 @@ impl KeyIndex {
         None
     }
 
-    /// The slot of the list's last proof of the line's key for the side. The index was told the list's proofs.
+    /// The slot of the list's last proof of the line's key for the side. The index was given the list's proofs.
     pub fn newest_slot<P: ProofList>(&self, line: &Line, side: Side, list: &P) -> Option<usize>
         requires { self.now.hashes ≡ key_hashes (P.proofs list.now) }
         ensures { IsSlotOfNewest line.now side (P.proofs list.now) result }

@@ -29,7 +29,7 @@ impl Model for Edges {
 
     ghost Value = { List Edge };
 
-    ghost use Rattle.tt_search.specs.inside.EdgeRow.{edges_of, AreWithin};
+    ghost use Rattle.tt_search.specs.inside.EdgeStorage.{edges_of, AreWithin};
 
     ghost view = { λ r. edges_of r.form };
 
@@ -94,7 +94,7 @@ impl Edges {
         }
     }
 
-    /// Puts an edge in the place of another.
+    /// Puts an edge instead of another.
     pub(crate) fn set(&mut self, index: usize, edge: Edge)
         requires { index < length self.old }
         ensures { self.new ≡ set self.old index edge }

@@ -83,7 +83,7 @@ fn take_end(ends: &mut Vec<Option<JobResult>>, job: usize) -> Option<End>
     }
 }
 
-/// What is told of the counts: all of them where the total is spent, and else nothing.
+/// What is known of the counts: all of them where the total is spent, and else nothing.
 fn counts_if_total_spent(alloc: Global, reason: Reason, spent: Vec<(Turn, u32)>) -> Vec<(Turn, u32)>
     ensures { result.items ≡ counts_if_total_spent_of reason spent.items }
 {

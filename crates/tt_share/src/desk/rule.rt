@@ -44,9 +44,9 @@ impl Play<(), SeatKnowledge> for Draw {
 pub struct GrantRequest;
 
 impl Play<(), SeatKnowledge> for GrantRequest {
-    ghost use Rattle.tt_share.specs.Desk.{IsSeatAfterGrant};
+    ghost use Rattle.tt_share.specs.Desk.{IsSeatAfterAsk};
 
-    ghost then = { λ step before found after. IsSeatAfterGrant before found after };
+    ghost then = { λ step before found after. IsSeatAfterAsk before found after };
 }
 
 /// The flag was raised.

@@ -17,7 +17,7 @@ use tt_proof::Proof;
 use tt_search::{KeyIndex, ProofList};
 use tt_sgf::NoMemory;
 
-/// Tokens of a log, as a row of their proofs.
+/// Tokens of a log, as a list of their proofs.
 #[derive(Drop)]
 struct TokenProofs<'a> {
     log: &'a CertLog,
@@ -111,7 +111,7 @@ impl<'a> TakenTokens<'a> {
         self.tokens.push_reserved(token);
     }
 
-    /// The tokens as a row of proofs.
+    /// The tokens as a list of proofs.
     fn token_proofs(&self) -> TokenProofs<'_>
         ensures { result.tokens.now.items ≡ self.now.tokens }
     {

@@ -21,7 +21,7 @@ fn behind_pass(alloc: Global) -> Option<Line> {
     Some(line)
 }
 
-/// The line behind a turn there, by its place among the legal turns: a play at the third point, one at the fourth, and the pass.
+/// The line behind a turn there, by its index among the legal turns: a play at the third point, one at the fourth, and the pass.
 fn behind(alloc: Global, job: usize) -> Option<Line> {
     match job {
         0 => line_of(alloc, b"(;SZ[4:1]AW[ba]PL[B];B[ca]TR[ba])"),
@@ -168,7 +168,7 @@ fn a_drawn_job_is_searched_after_a_win(rt: HostRuntime) -> Result<(), Fail> {
     want(least_is_shown(&rt, rt.alloc(), 64)?, "64 workers")
 }
 
-/// Holds what was told of each of three jobs: 1 once it began, 2 once it ended. What comes out of turn is counted.
+/// Holds what it heard of each of three jobs: 1 once it began, 2 once it ended. What comes out of turn is counted.
 #[derive(Drop)]
 struct InTurn {
     first: AtomicU64,
@@ -178,7 +178,7 @@ struct InTurn {
 }
 
 impl InTurn {
-    /// One more thing is told of the job, of which so many were told before.
+    /// One more thing is heard of the job, of which so many were heard before.
     fn tell(&self, job: usize, before: u64) {
         let found = match job {
             0 => self.first.fetch_add(1, Ordering::SeqCst),
@@ -191,7 +191,7 @@ impl InTurn {
         }
     }
 
-    /// Whether each of the jobs was told of twice, and in turn.
+    /// Whether each of the jobs was announced twice, and in turn.
     fn are_told(&self) -> bool {
         self.astray.load(Ordering::SeqCst) == 0
             && self.first.load(Ordering::SeqCst) == 2
@@ -210,7 +210,7 @@ impl Gate for InTurn {
     }
 }
 
-/// Whether each job is told of twice, as it begins and after that as it ends, where no turn wins.
+/// Whether each job is announced twice, as it begins and after that as it ends, where no turn wins.
 fn each_in_turn<R: Threads + Wait + Sync>(
     rt: &R,
     alloc: Global,
@@ -280,7 +280,7 @@ impl Gate for Looking<'_> {
     }
 }
 
-/// Whether a worker searches each job as it was told to begin, and before it is told to end.
+/// Whether a worker searches each job after its beginning was announced, and before its end is.
 fn are_searched_within<R: Threads + Wait + Sync>(rt: &R, alloc: Global) -> Result<bool, Fail> {
     let log = CertLog::new(alloc)?;
     let gate = Looking {

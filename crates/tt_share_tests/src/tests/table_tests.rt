@@ -29,7 +29,7 @@ fn has_slots(
     Ok(table.slots(&line.key()) == want)
 }
 
-/// The place to which the proof of a certificate goes.
+/// The index to which the proof of a certificate goes.
 fn slot_of(
     alloc: Global,
     table: &mut TableState,
@@ -40,7 +40,7 @@ fn slot_of(
     Ok(table.insert(proof)?)
 }
 
-/// Whether the proof of the row's certificate goes to the row's place, and the table has so many nodes with it.
+/// Whether the proof of the row's certificate goes to the row's index, and the table has so many nodes with it.
 fn is_put(alloc: Global, table: &mut TableState, row: &[u8]) -> Result<bool, Fail> {
     let (record, rest) = cut(row, b'|');
     let (certificate, rest) = cut(rest, b'|');
@@ -49,7 +49,7 @@ fn is_put(alloc: Global, table: &mut TableState, row: &[u8]) -> Result<bool, Fai
     Ok(put == usize::from(short_number(slot)) && table.nodes() == u64::from(number(nodes)))
 }
 
-/// Problems, certificates, the place of each proof, and the nodes of the table with it.
+/// Problems, certificates, the index of each proof, and the nodes of the table with it.
 const PUT: &str = "\
 (;SZ[4:1]AW[ba][da]PL[B]TR[ba])|killed !ca?aa.--!aa.;|0|5
 (;SZ[4:1]AW[ba];B[ca];W[da]TR[ba])|lives ?--!--.;|1|8

@@ -14,7 +14,7 @@ use tt_search::{Kept, ProofPerSide};
 use tt_share::{CertLog, Gate, View};
 
 /// A line of a table: a problem, what it is solved with, a problem whose proof is put into the log before, the answers of
-/// which one has to come, how many jobs are told, and a problem of which the log's newest proof stands at its line behind.
+/// which one has to come, how many jobs are announced, and a problem of which the log's newest proof stands at its line behind.
 #[derive(Clone, Copy)]
 struct Row<'a> {
     problem: &'a [u8],
@@ -142,9 +142,9 @@ fn is_so<R: Threads + Wait + Sync>(
         ended: AtomicU64::new(0),
     };
     let got = solved(rt, alloc, row, log, &gate)?;
-    let told = row.jobs.is_empty() || gate.counts(row.jobs);
+    let counts = row.jobs.is_empty() || gate.counts(row.jobs);
     let kept = row.kept.is_empty() || is_kept(alloc, log, row.kept)?;
-    Ok(is_wanted(got.as_slice(), row.want) && told && kept)
+    Ok(is_wanted(got.as_slice(), row.want) && counts && kept)
 }
 
 /// Fails unless the line of a table is so over the log.

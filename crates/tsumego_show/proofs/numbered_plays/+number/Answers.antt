@@ -1,6 +1,6 @@
 use Rattle.std.proofs.Common.{rules, ◌≡◌, IfOk, ℕ, List, ◌∙◌, subst}
 use Rattle.tt_proof.specs.declared.tree.Tree.TheViews.{the_lemmas}
-use Rattle.tt_game.specs.Line.{IsRefusal}
+use Rattle.tt_game.specs.Line.{IsRefusalOfTurn}
 use Rattle.tt_proof.specs.Strategy.{strategy_of, entries_of_reply}
 use Rattle.tt_proof.proofs.StrategyLemmas.{trees_are_strategies}
 use Rattle.tsumego_show.proofs.FullestLines.{made_line_is, pick_line, refused, reply_line}
@@ -45,7 +45,7 @@ plays_from_turn-returns-in-Ok-clause-plays t c =
 
 pub plays_from_turn-returns-in-Err-Illegal-clause-plays : goal.plays_from_turn-returns-in-Err-Illegal-clause-plays
 plays_from_turn-returns-in-Err-Illegal-clause-plays t c =
-    let why : IsRefusal c.args.line.now.frame c.args.line.now.state c.args.turn c.in-Err-Illegal.field-0-0 = search rules in
+    let why : IsRefusalOfTurn c.args.line.now.frame c.args.line.now.state c.args.turn c.in-Err-Illegal.field-0-0 = search rules in
     rw c.in-Play.is
     (c.new-in-Err-Illegal.ensures.items
     ∙ refused c.args.line.now.frame c.args.line.now.state c.in-Play.point _ c.in-Err-Illegal.field-0-0 (rw c.in-Play.is at why))

@@ -1,5 +1,5 @@
 use Rattle.std.proofs.Common.{rules}
-use Rattle.tsumego_show.proofs.Told.{behind_last, behind_more}
+use Rattle.tsumego_show.proofs.TreeByTree.{behind_last, behind_more}
 use Rattle.tsumego_show.proofs.showing.put_following_text.Goals as goal
 
 pub returns-then-has_tree : goal.returns-then-has_tree

@@ -1,5 +1,5 @@
 use Rattle.std.proofs.Common.{rules}
-use Rattle.tsumego_show.proofs.Told.{problem_behind}
+use Rattle.tsumego_show.proofs.TreeByTree.{problem_behind}
 use Rattle.tsumego_show.proofs.showing.put_problem_and_strategy.Goals as goal
 
 pub returns : goal.returns

@@ -1,7 +1,7 @@
 use Rattle.std.proofs.Common.{◌≡◌, ◌⊎◌, inl, inr, rules, arith, length, take, drop, ◌-◌}
 use Rattle.std.proofs.lemmas.List.{length-drop, length-take-le}
 use Rattle.tt_sgf.specs.Grammar.{HasOpeningParenthesis}
-use Rattle.tsumego_show.proofs.Told.{progress_ended, progress_long, progress_step, progress_stopped}
+use Rattle.tsumego_show.proofs.TreeByTree.{progress_ended, progress_long, progress_step, progress_stopped}
 use Rattle.tsumego_show.proofs.showing.show.Goals as goal
 use Rattle.tsumego_show.proofs.showing.show.Goals.{then-number-eq1, else-number-eq1+then-has_tree}
 

@@ -1,5 +1,5 @@
 use Rattle.std.proofs.Common.{◌≤◌, ◌+◌, length}
-use Rattle.tsumego_show.proofs.Told.{Progress}
+use Rattle.tsumego_show.proofs.TreeByTree.{Progress}
 use Rattle.tsumego_show.proofs.showing.show.Given as goal
 
 abbrev pub invariant-loop-number : goal.invariant-loop-number

@@ -79,9 +79,9 @@ join_entry-returns-in-Ok-found-clause-exact t c =
     let turn = c.args.turn.now in
     let behind = c.in-Ok-found.behind in
     let foot = subst (λ (l : LineWithUndo). IsFootprint l.frame l.state (strategy_of c.args.tree.now) behind) c.in-Ok.ensures.ok.1 c.in-Ok-found.ensures.exact in
-    let more = subst (λ (l : LineWithUndo). OnOk c.add_entry.result ((u : Strategy) → IsFootprint l.frame (after l.frame l.state turn) u behind
-    → IsEntryJoined l.frame l.state turn u c.args.footprint.now c.add_entry.new.self)) same c.add_entry.ensures in
-    on_ok c.add_entry.result _ _ (λ h. h (strategy_of c.args.tree.now) foot) more
+    let more = subst (λ (l : LineWithUndo). OnOk c.join_reply_turn.result ((u : Strategy) → IsFootprint l.frame (after l.frame l.state turn) u behind
+    → IsEntryJoined l.frame l.state turn u c.args.footprint.now c.join_reply_turn.new.self)) same c.join_reply_turn.ensures in
+    on_ok c.join_reply_turn.result _ _ (λ h. h (strategy_of c.args.tree.now) foot) more
 
 pub footprint_of_reply-loop-turn-preserved : goal.footprint_of_reply-loop-turn-preserved
 footprint_of_reply-loop-turn-preserved t c =

@@ -34,7 +34,7 @@ loop-p-preserved c =
         | else-holds-via-else-holds w' ↦ λ l. let on : p < point_count f.size = l.1 in absurd (search rules)
       ]
     ] in
-    let within : c.if-has_turn_at.place ≤ length c.args.list.now = search rules in
+    let within : c.if-has_turn_at.index ≤ length c.args.list.now = search rules in
     let is = c.number-from.ensures.number in
     record {
       within = within;

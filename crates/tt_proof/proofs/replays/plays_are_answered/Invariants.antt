@@ -8,7 +8,7 @@ use Rattle.tt_proof.proofs.replays.plays_are_answered.Given as goal
 
 abbrev pub invariant-loop-p : goal.invariant-loop-p
 invariant-loop-p l = record {
-  within : l.place ≤ length l.list;
+  within : l.index ≤ length l.list;
   below : (q : ℕ) → q < l.from → IsLegal l.line.frame l.line.state (Play q) → HasEntry (entries_of_reply l.list) (Play q);
 }
 

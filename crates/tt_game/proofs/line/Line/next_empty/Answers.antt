@@ -18,16 +18,16 @@ next_is : (f : Frame) (s : State) (ws : List ℕ) → ((p : ℕ) → p < point_c
     → MatchOption found ((q : ℕ) → from ≤ q → IsLegal f s (Play q) → ⊥)
     (λ p. (p < point_count f.size) × (from ≤ p) × ((q : ℕ) → from ≤ q → q < p → IsLegal f s (Play q) → ⊥)
     × IsTrue (set.contains f.region p) × (entry_at s.present p ≡ None))
-next_is f s ws told from start m begins after none some None past = λ q behind l.
+next_is f s ws facts from start m begins after none some None past = λ q behind l.
     let few : point_count f.size ≤ 361 = point_count_is_bounded f.size in
-    false≢true (sym (none q (omega (arith, begins, behind)) (omega (arith, past, l.1)) (omega (arith, l.1, few))) ∙ (told q l.1).1 (l.1, l.2, l.3))
-next_is f s ws told from start m begins after none some (Some p) here =
+    false≢true (sym (none q (omega (arith, begins, behind)) (omega (arith, past, l.1)) (omega (arith, l.1, few))) ∙ (facts q l.1).1 (l.1, l.2, l.3))
+next_is f s ws facts from start m begins after none some (Some p) here =
     let few : point_count f.size ≤ 361 = point_count_is_bounded f.size in
     let small : m < 384 = omega (arith, here.1, few) in
-    let free : IsEmptyPointOfSet f.size f.region s.present p = subst (IsEmptyPointOfSet f.size f.region s.present) (sym here.0) ((told m here.1).0 (some small)) in (
+    let free : IsEmptyPointOfSet f.size f.region s.present p = subst (IsEmptyPointOfSet f.size f.region s.present) (sym here.0) ((facts m here.1).0 (some small)) in (
       free.0,
       omega (arith, here.0, begins, after, small),
-      λ q behind before l. false≢true (sym (none q (omega (arith, begins, behind)) (omega (arith, here.0, before)) (omega (arith, here.0, before, small))) ∙ (told q l.1).1 (l.1, l.2, l.3)),
+      λ q behind before l. false≢true (sym (none q (omega (arith, begins, behind)) (omega (arith, here.0, before)) (omega (arith, here.0, before, small))) ∙ (facts q l.1).1 (l.1, l.2, l.3)),
       free.2,
       free.1,
     )

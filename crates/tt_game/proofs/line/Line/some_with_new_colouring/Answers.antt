@@ -25,8 +25,8 @@ returns c = λ p on bit.
     let few : point_count l.frame.size ≤ 361 = point_count_is_bounded l.frame.size in
     let small : p < 384 = omega (arith, on, few) in
     let left : (bit_in c.args.no_capture.now.words p && not (bit_in stood p)) ≡ true = sym (c.minus.ensures p small) ∙ bit in
-    let told : play_of l.frame.size l.state.present k p ≡ set l.state.present p (Some k) = c.requires.no_capture p on (this_one (bit_in c.args.no_capture.now.words p) (bit_in stood p) left) in
+    let facts : play_of l.frame.size l.state.present k p ≡ set l.state.present p (Some k) = c.requires.no_capture p on (this_one (bit_in c.args.no_capture.now.words p) (bit_in stood p) left) in
     let fits : length l.state.present ≡ point_count l.frame.size =
-    sym (length-set l.state.present p (Some k)) ∙ ap length (sym told) ∙ length-play_of l.frame.size l.state.present k p in
+    sym (length-set l.state.present p (Some k)) ∙ ap length (sym facts) ∙ length-play_of l.frame.size l.state.present k p in
     let new : bit_in stood p ≡ false = not_other (bit_in c.args.no_capture.now.words p) (bit_in stood p) left in
-    no_capture_where_new l.frame l.state k p refl fits on told (λ d has stone. false≢true (sym new ∙ c.requires.stood d p has on (stone ∙ ap Some (sym c.requires.colour))))
+    no_capture_where_new l.frame l.state k p refl fits on facts (λ d has stone. false≢true (sym new ∙ c.requires.stood d p has on (stone ∙ ap Some (sym c.requires.colour))))

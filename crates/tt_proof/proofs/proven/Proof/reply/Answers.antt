@@ -17,13 +17,13 @@ at_end : {X : Type 0} (xs ys zs : List X) → xs ++ ys ≡ zs → length ys ≡ 
 at_end xs [] zs e h = sym (append-nil xs) ∙ e
 at_end xs (y ∷ ys) zs e h = absurd (omega (arith, h))
 
-pub add_entry-requires-clause-legal : goal.add_entry-requires-clause-legal
-add_entry-requires-clause-legal c =
+pub join_reply_turn-requires-clause-legal : goal.join_reply_turn-requires-clause-legal
+join_reply_turn-requires-clause-legal c =
     subst (λ xs. (t : Turn) → IsIn (turns_of xs) t → IsLegal c.args.line.now.frame c.args.line.now.state t) c.in-Some.ensures.steps.0
     c.loop-turn.invariant.legal c.in-Some.turn (inl refl)
 
-pub add_entry-requires-clause-board : goal.add_entry-requires-clause-board
-add_entry-requires-clause-board c =
+pub join_reply_turn-requires-clause-board : goal.join_reply_turn-requires-clause-board
+join_reply_turn-requires-clause-board c =
     let left = subst (λ xs. AreReplyChildren c.args.line.now.frame c.args.line.now.state xs) c.in-Some.ensures.steps.0 c.loop-turn.invariant.left in
     board_there c.in-Some.child _ _ _ c.present-board.ensures left.0.stands
 
@@ -49,8 +49,8 @@ loop-turn-preserved c =
       left = left.1;
       legal = λ t i. legal t (inr i);
       joined =
-          subst (λ es. IsFootprint f s (reply (entries_of es)) c.add_entry.new.self) (sym (trees_of_push c.loop-turn.yielded (turn, child)))
-          (c.in_ok-add_entry.ensures child.tree behind (trees_by_turn c.loop-turn.yielded) c.loop-turn.invariant.joined);
+          subst (λ es. IsFootprint f s (reply (entries_of es)) c.join_reply_turn.new.self) (sym (trees_of_push c.loop-turn.yielded (turn, child)))
+          (c.in_ok-join_reply_turn.ensures child.tree behind (trees_by_turn c.loop-turn.yielded) c.loop-turn.invariant.joined);
     }
 
 pub invariant_of-result : goal.invariant_of-result

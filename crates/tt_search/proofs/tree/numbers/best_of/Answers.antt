@@ -14,20 +14,20 @@ use Rattle.tt_search.proofs.tree.numbers.best_of.Goals as goal
 abbrev first : Edge
 first = record { code = 0 }
 
--- the child at a place, and the children behind it
+-- the child at an index, and the children behind it
 module _ (mover : Side) (es : List Edge) (rest behind : List PartialTree) (i x : ℕ) (l : i < length es) (is : x ≡ number mover (tree_of (edge_state_of (get_or es i first)) rest))
     (b : behind ≡ grown_behind (edge_state_of (get_or es i first)) rest) (p v : ℕ) where
   abbrev row : List PartialTree → List ℕ
   row us = child_numbers mover (children_of (edge_trees (drop (i + 1) es) us))
 
-  -- what is known so far and the child's number and those behind give what the children from the place on give
+  -- what is known so far and the child's number and those behind give what the children from the index on give
   here : best_from p v i (x ∷ row behind) ≡ best_from p v i (child_numbers mover (children_of (edge_trees (drop i es) rest)))
   here =
       ap (λ y. best_from p v i (y ∷ row behind)) is
       ∙ ap (λ us. best_from p v i (number mover (tree_of (edge_state_of (get_or es i first)) rest) ∷ row us)) b
       ∙ sym (at_drop_more (λ xs. best_from p v i (child_numbers mover (children_of (edge_trees xs rest)))) es i first l)
 
-  -- the least from the place on is that of the child's number and of those behind
+  -- the least from the index on is that of the child's number and of those behind
   least_here : least (child_numbers mover (children_of (edge_trees (drop i es) rest))) ≡ min x (least (row behind))
   least_here =
       at_drop_more (λ xs. least (child_numbers mover (children_of (edge_trees xs rest)))) es i first l

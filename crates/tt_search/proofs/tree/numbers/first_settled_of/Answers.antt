@@ -14,11 +14,11 @@ use Rattle.tt_search.proofs.tree.numbers.first_settled_of.Goals as goal
 abbrev first : Edge
 first = record { code = 0 }
 
--- behind a number that isn't 0, the place of the first 0 is one more than among the others
+-- behind a number that isn't 0, the index of the first 0 is one more than among the others
 index_past : (i x : ℕ) (xs : List ℕ) → x ≢ 0 → i + 1 + first_index_of 0 xs ≡ i + first_index_of 0 (x ∷ xs)
 index_past i x xs h = grind (arith, common_steps)
 
--- the child at a place isn't settled: so the first one that is, is found behind it
+-- the child at an index isn't settled: so the first one that is, is found behind it
 module _ (side : Side) (es : List Edge) (rest behind : List PartialTree) (i x : ℕ) (l : i < length es) (is : x ≡ number side (tree_of (edge_state_of (get_or es i first)) rest))
     (b : behind ≡ grown_behind (edge_state_of (get_or es i first)) rest) where
   abbrev row : List PartialTree → List ℕ

@@ -3,7 +3,7 @@ use Rattle.tt_board.specs.Position.{Position}
 use Rattle.tt_proof.specs.inside.Collecting.{IsMadeWithin}
 use Rattle.tt_proof.proofs.ResultLemmas.{on_ok}
 use Rattle.tt_proof.proofs.FootprintLemmas.{foot_entry, otherwise}
-use Rattle.tt_proof.proofs.footprints.Footprint.add_entry.Goals as goal
+use Rattle.tt_proof.proofs.footprints.Footprint.join_reply_turn.Goals as goal
 
 pub returns : goal.returns
 returns c =

@@ -1,4 +1,4 @@
--- Lemmas on a text that is told tree by tree.
+-- Lemmas on a text that is written tree by tree.
 use Rattle.std.proofs.Common.{◌≡◌, ◌≤◌, ◌<◌, ◌+◌, ◌-◌, ◌⊎◌, ℕ, List, [], ◌++◌, Bool, true, false, ◌||◌, inl, inr, refl, sym, ap, ap₂, ◌∙◌, length, take, drop, arith, append-nil}
 use Rattle.std.proofs.Common.{append_assoc, subst, if◌then◌else◌, Ok, Err, OnOk}
 use Rattle.std.specs.declared.result.Result.{Result}
@@ -29,7 +29,7 @@ or_false : (x : Bool) → (x || false) ≡ x
 or_false true = refl
 or_false false = refl
 
--- what is told on the rest, behind the text so far, is told on the input
+-- what is written for the rest, behind the text so far, is written for the input
 abbrev pub IsSoFar : Mode → List ℕ → ℕ → List ℕ → List ℕ → Bool → Type 0
 IsSoFar mode input k rest text refused =
     (more : List ℕ) (other : Bool) → IsTextOfRest mode input k rest more other → IsTextOfRest mode input 1 input (text ++ more) (refused || other)
@@ -52,7 +52,7 @@ tree_more mode input k rest text refused used t nodes text' bad far s same w b =
     subst (λ (x : Bool). IsTextOfRest mode input 1 input (text' ++ more) x) flag
     (subst (λ (x : List ℕ). IsTextOfRest mode input 1 input x (refused || (mode_refuses_tree mode k (main_line t) (problem_of (main_line t)) (drop used rest) || other))) words (far _ _ one))
 
--- what is read and told so far; an input with a tree is not too long
+-- what is read and written so far; an input with a tree is not too long
 pub record Progress (mode : Mode) (input rest text : List ℕ) (k : ℕ) (refused : Bool) : Type 0 where
   pub some : 1 ≤ k
   pub small : ((k ≡ 1) × (rest ≡ input) × (text ≡ [])) ⊎ (length input ≤ MAX_BYTES)
@@ -66,7 +66,7 @@ module _ {mode : Mode} {input rest text : List ℕ} {k : ℕ} {refused : Bool} (
     | inr whole ↦ whole
   ]
 
-  -- one more tree is read and told
+  -- one more tree is read and its text written
   pub progress_step : (used : ℕ) (t : GameTree) (nodes : List Node) (text' : List ℕ) (bad : Bool) → FirstTreeEndsAt rest used t → nodes ≡ main_line t
       → length rest ≤ MAX_BYTES → (x : List ℕ) × IsGameTreeText mode k (take used rest) nodes (problem_of nodes) (take (length rest - used) (drop used rest)) x × (text' ≡ text ++ x)
       → bad ≡ mode_refuses_tree mode k nodes (problem_of nodes) (take (length rest - used) (drop used rest))
@@ -90,8 +90,8 @@ module _ {mode : Mode} {input rest text : List ℕ} {k : ℕ} {refused : Bool} (
   pub progress_long : MAX_BYTES < length rest → k + length rest ≤ length input + 1 → (text' : List ℕ) → text' ≡ text ++ too_long_text k → IsShown mode input text' 1
   progress_long long bound text' e = elim p.small [
     | inl h ↦
-        let told : text' ≡ too_long_text 1 = e ∙ ap₂ (λ (x : List ℕ) n. x ++ too_long_text n) h.2 h.0 in
-        (true, subst (λ (x : List ℕ). IsInputText mode input x true) (sym told) (too_long (subst (λ (x : List ℕ). MAX_BYTES < length x) h.1 long)), refl)
+        let is_too_long : text' ≡ too_long_text 1 = e ∙ ap₂ (λ (x : List ℕ) n. x ++ too_long_text n) h.2 h.0 in
+        (true, subst (λ (x : List ℕ). IsInputText mode input x true) (sym is_too_long) (too_long (subst (λ (x : List ℕ). MAX_BYTES < length x) h.1 long)), refl)
     | inr small ↦ absurd (omega (arith, p.some))
   ]
 
