@@ -6,7 +6,9 @@ use Rattle.tt_sgf.specs.Bytes.{lower_a, newline, space, upper_A}
 use Rattle.tt_sgf.specs.declared.size.Size.{Size}
 use Rattle.tt_board.specs.declared.Colour.{Colour}
 use Rattle.tt_board.specs.declared.Colour.TheVariants.{Black, White}
+use Rattle.tt_board.specs.Position.{Colouring}
 use Rattle.tt_board.specs.Reach.{entry_at}
+use Rattle.tt_game.specs.declared.frame.Frame.{Frame}
 use Rattle.tt_game.specs.Game.{side_colour}
 use Rattle.tt_game.specs.Line.{LineWithUndo}
 
@@ -31,8 +33,8 @@ symbol_of_entry target region None = if region then 43 else 46
 symbol_of_entry target region (Some k) = if region then region_stone_symbol target k else stone_symbol target k
 
 -- what is shown of the point with this number
-abbrev pub point_symbol : LineWithUndo → ℕ → ℕ
-point_symbol p n = symbol_of_entry (set.contains p.frame.targets n) (set.contains p.frame.region n) (entry_at p.state.present n)
+abbrev pub point_symbol : Frame → Colouring → ℕ → ℕ
+point_symbol f c n = symbol_of_entry (set.contains f.targets n) (set.contains f.region n) (entry_at c n)
 
 -- ---- lines; a newline ends each
 
@@ -61,17 +63,21 @@ abbrev pub editor_letters_line : Size → List ℕ
 editor_letters_line size = space ∷ (spaced_columns_text editor_column_letter size.columns ++ newline ∷ [])
 
 -- what is shown of the point in a row and a column
-abbrev pub symbol_at_coordinates : LineWithUndo → ℕ → ℕ → ℕ
-symbol_at_coordinates p row column = point_symbol p (row * p.frame.size.columns + column)
+abbrev pub symbol_at_coordinates : Frame → Colouring → ℕ → ℕ → ℕ
+symbol_at_coordinates f c row column = point_symbol f c (row * f.size.columns + column)
 
 -- the letter of a row, what is shown of its points, and its number
-abbrev pub row_line : LineWithUndo → ℕ → List ℕ
-row_line p row =
-    sgf_letter row ∷ (spaced_columns_text (symbol_at_coordinates p row) p.frame.size.columns ++ (space ∷ (decimal (row_number p.frame.size row) ++ newline ∷ [])))
+abbrev pub row_line : Frame → Colouring → ℕ → List ℕ
+row_line f c row =
+    sgf_letter row ∷ (spaced_columns_text (symbol_at_coordinates f c row) f.size.columns ++ (space ∷ (decimal (row_number f.size row) ++ newline ∷ [])))
 
 -- the rows between both lines of letters
-abbrev pub board_text : LineWithUndo → List ℕ
-board_text p = sgf_letters_line p.frame.size ++ (flat_map (row_line p) (range_with_len 0 p.frame.size.rows) ++ editor_letters_line p.frame.size)
+abbrev pub board_text : Frame → Colouring → List ℕ
+board_text f c = sgf_letters_line f.size ++ (flat_map (row_line f c) (range_with_len 0 f.size.rows) ++ editor_letters_line f.size)
+
+-- a board without marks
+abbrev pub unmarked_board_text : Size → Colouring → List ℕ
+unmarked_board_text size = board_text (record { size = size; region = set.empty; targets = set.empty; defender = Black })
 
 -- ---- who moves
 
@@ -96,4 +102,4 @@ mover_and_target_line p = mover_text p ++ (target_colour_text p ++ (earlier_posi
 
 -- the picture of a problem
 abbrev pub picture : LineWithUndo → List ℕ
-picture p = mover_and_target_line p ++ board_text p
+picture p = mover_and_target_line p ++ board_text p.frame p.state.present

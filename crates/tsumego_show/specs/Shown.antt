@@ -6,8 +6,11 @@ use Rattle.tt_sgf.specs.Bytes.{space}
 use Rattle.tt_sgf.specs.declared.nodes.Node.{Node}
 use Rattle.tt_sgf.specs.Grammar.{GameTree, HasNoTree, HasOpeningParenthesis, FirstTreeEndsAt, main_line}
 use Rattle.tt_game.specs.declared.faults.GameFault.{GameFault}
+use Rattle.tt_game.specs.declared.faults.GameFault.TheVariants.{NoTarget}
+use Rattle.tt_game.specs.Faults.{code_of}
+use Rattle.tt_game.specs.Games.{GameState}
 use Rattle.tt_game.specs.Line.{LineWithUndo}
-use Rattle.tt_game.specs.Problems.{problem_of}
+use Rattle.tt_game.specs.Problems.{game_of, problem_of}
 use Rattle.tt_sgf.specs.Values.{trimmed}
 use Rattle.tsumego_show.specs.declared.mode.Mode.{Mode}
 use Rattle.tsumego_show.specs.declared.mode.Mode.TheVariants.{Picture, Diagram, Marks, Variations}
@@ -16,7 +19,7 @@ use Rattle.tsumego_show.specs.StrategyListing.{IsCertificateListing}
 use Rattle.tsumego_show.specs.FollowingStrategy.{FollowingStrategy, IsFollowingStrategy, claimed_winner}
 use Rattle.tsumego_show.specs.Hints.{unclosed_comment_lines, hints, missing_mover_line}
 use Rattle.tsumego_show.specs.Marking.{is_left_unmarked, tree_marked_or_kept, unsquared_triangle_node, kept_problem_text}
-use Rattle.tsumego_show.specs.Picture.{picture}
+use Rattle.tsumego_show.specs.Picture.{picture, unmarked_board_text}
 use Rattle.tsumego_show.specs.Refusals.{refusal_and_why_text, too_long_text, no_tree_text}
 use Rattle.tsumego_show.specs.NumberedPlays.{numbered_plays}
 use Rattle.tsumego_show.specs.TreeBytes.{from_first_parenthesis, is_nil}
@@ -58,9 +61,19 @@ IsProblemText Diagram k tree ns p behind text = IsDiagram (is_only_tree k behind
 IsProblemText (Variations depth) k tree ns p behind text = (b : FollowingStrategy) × IsFollowingStrategy p.frame.size behind b × (text ≡ sgf_text p ns depth (no_strategy_words behind) b)
 IsProblemText (Marks name) k tree ns p behind text = text ≡ kept_problem_text k tree ns
 
+-- the board of a game, where a main line comes to one before its solution
+abbrev pub game_board_text : Result GameState GameFault → List ℕ
+game_board_text (Ok s) = unmarked_board_text s.size s.present
+game_board_text (Err e) = []
+
+-- a refusal; where no node has a triangle the board follows
+abbrev pub refusal_and_board_text : ℕ → List Node → GameFault → List ℕ
+refusal_and_board_text k ns e =
+    if nat_eq (code_of e) (code_of NoTarget) then refusal_and_why_text k ns e ++ game_board_text (game_of ns) else refusal_and_why_text k ns e
+
 -- the text on tree number k with these bytes, whose main line is no problem, and whether it is refused: where marks are wanted and it has none, they may be proposed
 abbrev pub non_problem_text : Mode → ℕ → List ℕ → List Node → GameFault → List ℕ
-non_problem_text Picture k tree ns e = refusal_and_why_text k ns e
+non_problem_text Picture k tree ns e = refusal_and_board_text k ns e
 non_problem_text Diagram k tree ns e = refusal_and_why_text k ns e
 non_problem_text (Variations depth) k tree ns e = refusal_and_why_text k ns e
 non_problem_text (Marks name) k tree ns e = tree_marked_or_kept name k tree ns e

@@ -79,7 +79,7 @@ module _ (p : LineWithUndo) where
 
   -- that, and the board then
   abbrev pub after_turn_text : Turn → List ℕ
-  after_turn_text t = after_turn_heading t ++ board_text (problem_after_turn p t)
+  after_turn_text t = after_turn_heading t ++ board_text p.frame (problem_after_turn p t).state.present
 
   -- the side is to move, and begins with this turn, which is legal
   abbrev pub IsLegalFirstTurn : Side → Strategy → Turn → Type 0

@@ -77,7 +77,7 @@ fn put_after_turn_text(
 {
     let next = line.after(*turn)?;
     put_after_turn_heading(alloc, out, line, *turn)?;
-    put_board(alloc, out, &next)
+    put_board(alloc, out, next.frame(), next.present())
 }
 
 /// Writes the first turn of a side's strategy and the board then behind the text, where the side is to move and that turn is

@@ -5,12 +5,12 @@ ghost use Rattle.tt_sgf.specs.Bytes.{newline, space};
 ghost use Rattle.tt_sgf.specs.Sizes.{point_count};
 ghost use Rattle.tt_game.specs.Game.{side_colour};
 ghost use Rattle.tsumego_show.specs.Picture.{mover_and_target_line, board_text, colour_name, editor_column_letter, editor_letters_line, spaced_columns_text, earlier_positions_text, sgf_letter, sgf_letters_line, point_symbol};
-ghost use Rattle.tsumego_show.specs.Picture.{mover_text, picture, row_line, row_number, symbol_at_coordinates, region_stone_symbol, stone_symbol, target_colour_text};
+ghost use Rattle.tsumego_show.specs.Picture.{mover_text, picture, unmarked_board_text, row_line, row_number, symbol_at_coordinates, region_stone_symbol, stone_symbol, target_colour_text};
 
 use std::alloc::Global;
-use tt_board::Colour;
-use tt_game::{Line, Side};
-use tt_sgf::{NoMemory, Point, Size};
+use tt_board::{Board, Colour};
+use tt_game::{Frame, Line, Side};
+use tt_sgf::{NoMemory, Point, PointSet, Size};
 
 /// The symbol of a stone.
 fn stone_symbol(is_target: bool, colour: Colour) -> u8
@@ -39,13 +39,13 @@ fn region_stone_symbol(is_target: bool, colour: Colour) -> u8
 }
 
 /// What is shown of a point.
-fn point_symbol(line: &Line, point: Point) -> u8
-    requires { point < point_count line.now.frame.size }
-    ensures { result ≡ point_symbol line.now point }
+fn point_symbol(frame: &Frame, board: &Board, point: Point) -> u8
+    requires { point < point_count board.now.size }
+    ensures { result ≡ point_symbol frame.now board.now.points point }
 {
-    let is_target = line.frame().targets.has(point);
-    let in_region = line.frame().region.has(point);
-    match line.present().at(point) {
+    let is_target = frame.targets.has(point);
+    let in_region = frame.region.has(point);
+    match board.at(point) {
         None => if in_region { b'+' } else { b'.' },
         Some(colour) => {
             if in_region {
@@ -135,15 +135,21 @@ fn put_editor_letters_line(out: &mut Vec<u8>, size: Size) -> Result<(), NoMemory
 
 /// Writes a blank and the symbol of each point of a row behind the text.
 #[tactic(auto, using(crate::proofs::Texts::next_text))]
-fn put_row_symbols(out: &mut Vec<u8>, line: &Line, row: u16) -> Result<(), NoMemory>
-    requires { row < line.now.frame.size.rows }
-    ensures { OnOk result (out.new.items ≡ out.old.items ++ spaced_columns_text (symbol_at_coordinates line.now row) line.now.frame.size.columns) }
+fn put_row_symbols(
+    out: &mut Vec<u8>,
+    frame: &Frame,
+    board: &Board,
+    row: u16,
+) -> Result<(), NoMemory>
+    requires same { board.now.size ≡ frame.now.size }
+    requires row { row < frame.now.size.rows }
+    ensures { OnOk result (out.new.items ≡ out.old.items ++ spaced_columns_text (symbol_at_coordinates frame.now board.now.points row) frame.now.size.columns) }
 {
-    let size = line.frame().size;
+    let size = frame.size;
     for column in 0..size.columns() {
         put_blank_and_symbol(
             out,
-            point_symbol(line, point_of_coordinates(size, column, row)),
+            point_symbol(frame, board, point_of_coordinates(size, column, row)),
         )?;
     }
     Ok(())
@@ -161,34 +167,60 @@ fn put_row_number(alloc: Global, out: &mut Vec<u8>, size: Size, row: u16) -> Res
 }
 
 /// Writes a row of the board behind the text.
-fn put_row(alloc: Global, out: &mut Vec<u8>, line: &Line, row: u16) -> Result<(), NoMemory>
-    requires { row < line.now.frame.size.rows }
-    ensures { OnOk result (out.new.items ≡ out.old.items ++ row_line line.now row) }
+fn put_row(
+    alloc: Global,
+    out: &mut Vec<u8>,
+    frame: &Frame,
+    board: &Board,
+    row: u16,
+) -> Result<(), NoMemory>
+    requires same { board.now.size ≡ frame.now.size }
+    requires row { row < frame.now.size.rows }
+    ensures { OnOk result (out.new.items ≡ out.old.items ++ row_line frame.now board.now.points row) }
 {
     out.push(b'a' + row as u8)?;
-    put_row_symbols(out, line, row)?;
-    put_row_number(alloc, out, line.frame().size, row)
+    put_row_symbols(out, frame, board, row)?;
+    put_row_number(alloc, out, frame.size, row)
 }
 
 /// Writes the rows of the board behind the text.
 #[tactic(auto, using(crate::proofs::Texts::next_text))]
-fn put_rows(alloc: Global, out: &mut Vec<u8>, line: &Line) -> Result<(), NoMemory>
-    ensures { OnOk result (out.new.items ≡ out.old.items ++ flat_map (row_line line.now) (range_with_len 0 line.now.frame.size.rows)) }
+fn put_rows(alloc: Global, out: &mut Vec<u8>, frame: &Frame, board: &Board) -> Result<(), NoMemory>
+    requires { board.now.size ≡ frame.now.size }
+    ensures { OnOk result (out.new.items ≡ out.old.items ++ flat_map (row_line frame.now board.now.points) (range_with_len 0 frame.now.size.rows)) }
 {
-    for row in 0..line.frame().size.rows() {
-        put_row(alloc, out, line, row)?;
+    for row in 0..frame.size.rows() {
+        put_row(alloc, out, frame, board, row)?;
     }
     Ok(())
 }
 
-/// Writes the board behind the text.
-pub fn put_board(alloc: Global, out: &mut Vec<u8>, line: &Line) -> Result<(), NoMemory>
-    ensures { OnOk result (out.new.items ≡ out.old.items ++ board_text line.now) }
+/// Writes a board with the marks of a frame behind the text.
+pub fn put_board(
+    alloc: Global,
+    out: &mut Vec<u8>,
+    frame: &Frame,
+    board: &Board,
+) -> Result<(), NoMemory>
+    requires { board.now.size ≡ frame.now.size }
+    ensures { OnOk result (out.new.items ≡ out.old.items ++ board_text frame.now board.now.points) }
 {
-    let size = line.frame().size;
-    put_sgf_letters_line(out, size)?;
-    put_rows(alloc, out, line)?;
-    put_editor_letters_line(out, size)
+    put_sgf_letters_line(out, frame.size)?;
+    put_rows(alloc, out, frame, board)?;
+    put_editor_letters_line(out, frame.size)
+}
+
+/// Writes a board without marks behind the text.
+pub fn put_unmarked_board(alloc: Global, out: &mut Vec<u8>, board: &Board) -> Result<(), NoMemory>
+    ensures { OnOk result (out.new.items ≡ out.old.items ++ unmarked_board_text board.now.size board.now.points) }
+{
+    let frame = Frame {
+        size: board.size(),
+        region: PointSet::empty(),
+        targets: PointSet::empty(),
+        defender: Colour::Black,
+    };
+    put_board(alloc, out, &frame, board)
 }
 
 /// The name of a colour.
@@ -276,5 +308,5 @@ pub fn put_picture(alloc: Global, out: &mut Vec<u8>, line: &Line) -> Result<(), 
     ensures { OnOk result (out.new.items ≡ out.old.items ++ picture line.now) }
 {
     put_mover_and_target_line(alloc, out, line)?;
-    put_board(alloc, out, line)
+    put_board(alloc, out, line.frame(), line.present())
 }

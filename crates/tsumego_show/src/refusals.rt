@@ -135,7 +135,7 @@ fn put_located_fault(
 }
 
 /// Whether no node has TR.
-fn is_no_target_fault(fault: GameFault) -> bool
+pub fn is_no_target_fault(fault: GameFault) -> bool
     ensures { result ≡ nat_eq (code_of fault) (code_of GameFault.NoTarget) }
 {
     matches!(fault, GameFault::NoTarget)

@@ -1,8 +1,8 @@
 //! The text for an input.
 ghost use Rattle.std.specs.Prelude.{◌≡◌, ◌++◌, if◌then◌else◌, ℕ, List, [], true, IfOk, OnOk};
-ghost use Rattle.tt_game.specs.Problems.{problem_of};
+ghost use Rattle.tt_game.specs.Problems.{game_of, problem_of};
 ghost use Rattle.tsumego_show.specs.declared.mode.Mode.TheVariants.{Picture, Variations};
-ghost use Rattle.tsumego_show.specs.Shown.{IsFollowingText, IsDiagram, IsProblemText, IsShown, IsGameTreeText, non_problem_text, is_only_tree, is_non_problem_refused, is_problem_refused, mode_refuses_tree, picture_and_hints_text, not_drawn_line, no_strategy_words};
+ghost use Rattle.tsumego_show.specs.Shown.{IsFollowingText, IsDiagram, IsProblemText, IsShown, IsGameTreeText, non_problem_text, is_only_tree, game_board_text, is_non_problem_refused, is_problem_refused, mode_refuses_tree, picture_and_hints_text, refusal_and_board_text, not_drawn_line, no_strategy_words};
 
 use crate::diagram::put_svg;
 use crate::following_strategy::{claimed_winner, read_following_strategy};
@@ -10,13 +10,13 @@ use crate::hints::{put_hints, put_missing_mover_line, put_unclosed_comment_lines
 use crate::marking::{put_kept_problem, put_tree_marked_or_kept, unsquared_triangle_node};
 use crate::mode::Mode;
 use crate::numbered_plays::numbered_plays;
-use crate::picture::put_picture;
-use crate::refusals::{put_no_tree, put_refusal_and_why, put_too_long};
+use crate::picture::{put_picture, put_unmarked_board};
+use crate::refusals::{is_no_target_fault, put_no_tree, put_refusal_and_why, put_too_long};
 use crate::strategy_listing::put_certificate_listing;
 use crate::tree_bytes::has_no_parenthesis;
 use crate::variations::put_sgf;
 use std::alloc::Global;
-use tt_game::{GameFault, Line, problem};
+use tt_game::{GameFault, Line, game_before_solution, problem};
 use tt_sgf::{MainLine, NoMemory, Node, SgfFault, has_tree, read_tree, trim};
 
 /// Writes the text on what follows a problem behind the text, where it is the last of an input.
@@ -165,6 +165,40 @@ fn put_problem_in_mode(
     }
 }
 
+/// The board of the game to which a main line comes before its solution, where it comes to one.
+fn game_board(alloc: Global, main: &MainLine) -> Result<Vec<u8>, NoMemory>
+    ensures { IfOk result (λ text. text.items ≡ game_board_text (game_of main.now.nodes)) }
+{
+    let mut text = Vec::new(alloc);
+    match game_before_solution(alloc, main) {
+        Ok(game) => {
+            put_unmarked_board(alloc, &mut text, game.present())?;
+            Ok(text)
+        }
+        Err(GameFault::NoMemory) => Err(NoMemory),
+        Err(_) => Ok(text),
+    }
+}
+
+/// Writes that a main line is refused behind the text, and its board where no node has a triangle.
+fn put_refusal_and_board(
+    alloc: Global,
+    out: &mut Vec<u8>,
+    number: usize,
+    main: MainLine,
+    fault: GameFault,
+) -> Result<(), NoMemory>
+    ensures { OnOk result (out.new.items ≡ out.old.items ++ refusal_and_board_text number main.nodes fault) }
+{
+    if !is_no_target_fault(fault) {
+        return put_refusal_and_why(alloc, out, number, main, fault);
+    }
+    let board = game_board(alloc, &main)?;
+    put_refusal_and_why(alloc, out, number, main, fault)?;
+    out.extend_from_slice(board.as_slice())?;
+    Ok(())
+}
+
 /// Writes the text on a main line that is no problem, by this fault, behind the text, and says whether it is refused.
 fn put_non_problem(
     alloc: Global,
@@ -180,7 +214,11 @@ fn put_non_problem(
 {
     match mode {
         Mode::Marks(name) => put_tree_marked_or_kept(alloc, out, name, number, main, tree, fault),
-        Mode::Picture | Mode::Diagram | Mode::Variations(_) => {
+        Mode::Picture => {
+            put_refusal_and_board(alloc, out, number, main, fault)?;
+            Ok(true)
+        }
+        Mode::Diagram | Mode::Variations(_) => {
             put_refusal_and_why(alloc, out, number, main, fault)?;
             Ok(true)
         }
