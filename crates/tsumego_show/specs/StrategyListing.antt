@@ -82,13 +82,13 @@ module _ (p : LineWithUndo) where
   after_turn_text t = after_turn_heading t ++ board_text p.frame (problem_after_turn p t).state.present
 
   -- the side is to move, and begins with this turn, which is legal
-  abbrev pub IsLegalFirstTurn : Side → Strategy → Turn → Type 0
-  IsLegalFirstTurn side u t = (first_turn_of u ≡ Some t) × (p.state.to_move ≡ side) × IsLegal p.frame p.state t
+  abbrev pub BeginsWithLegalTurn : Side → Strategy → Turn → Type 0
+  BeginsWithLegalTurn side u t = (first_turn_of u ≡ Some t) × (p.state.to_move ≡ side) × IsLegal p.frame p.state t
 
   -- the text on the first turn, where there is one
   pub data IsFirstTurnAndBoard (side : Side) (u : Strategy) : List ℕ → Type 0 where
-    begins : (t : Turn) → IsLegalFirstTurn side u t → IsFirstTurnAndBoard side u (after_turn_text t)
-    begins_none : ((t : Turn) → IsLegalFirstTurn side u t → ⊥) → IsFirstTurnAndBoard side u []
+    begins : (t : Turn) → BeginsWithLegalTurn side u t → IsFirstTurnAndBoard side u (after_turn_text t)
+    begins_none : ((t : Turn) → BeginsWithLegalTurn side u t → ⊥) → IsFirstTurnAndBoard side u []
 
   -- ---- what follows a problem
 

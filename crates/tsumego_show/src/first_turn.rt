@@ -2,7 +2,7 @@
 ghost use Rattle.std.specs.Prelude.{◌≡◌, ◌↔◌, ◌++◌, ℕ, List, IfOk, IfSome, IsTrue, MatchOption, OnOk};
 ghost use Rattle.tt_game.specs.Game.{IsLegal};
 ghost use Rattle.tt_proof.specs.Strategy.{IsInOrder, IsTurnOnBoardOfSize, strategy_of};
-ghost use Rattle.tsumego_show.specs.StrategyListing.{IsLegalFirstTurn, IsFirstTurnAndBoard, both_turn_names, after_turn_heading, after_turn_text};
+ghost use Rattle.tsumego_show.specs.StrategyListing.{BeginsWithLegalTurn, IsFirstTurnAndBoard, both_turn_names, after_turn_heading, after_turn_text};
 
 use crate::hints::put_both_point_names;
 use crate::picture::{colour_name, put_board, side_colour};
@@ -22,7 +22,7 @@ fn is_legal_for_side(line: &Line, side: Side, turn: Turn) -> bool
 /// The first turn of a side's strategy, where the side is to move and that turn is legal.
 pub fn legal_first_turn(line: &Line, side: Side, tree: &Tree) -> Option<Turn>
     requires { IsInOrder line.now.frame.size (strategy_of tree.now) }
-    ensures value { MatchOption result ((t : Turn) → IsLegalFirstTurn line.now side (strategy_of tree.now) t → ⊥) (IsLegalFirstTurn line.now side (strategy_of tree.now)) }
+    ensures value { MatchOption result ((t : Turn) → BeginsWithLegalTurn line.now side (strategy_of tree.now) t → ⊥) (BeginsWithLegalTurn line.now side (strategy_of tree.now)) }
     ensures on_board { IfSome result (λ t. IsTurnOnBoardOfSize line.now.frame.size t) }
 {
     if is_legal_for_side(line, side, tree.first()?) {

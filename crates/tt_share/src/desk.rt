@@ -218,7 +218,7 @@ impl Desk {
     }
 
     /// Raises the flag, by one step. Nothing lowers it. The seat is one of this desk's.
-    pub fn raise(&self, s: &mut Seat)
+    pub fn raise_flag(&self, s: &mut Seat)
         requires { s.old.desk ≡ self.now.id }
         ensures { s.new ≡ seat_of s.old.desk s.old.numbers s.old.grants true s.old.saw_flag }
     {

@@ -27,5 +27,5 @@ pub use log::log_store::LogStore;
 pub use log::view::View;
 pub use log::{CertLog, Token};
 pub use table::TableState;
-pub use table::locked::{LockedStore, Table};
+pub use table::locked::{Table, TableStore};
 pub use together::solve;

@@ -156,7 +156,7 @@ fn a_joined_thread_shows_its_mark(rt: HostRuntime) -> Result<(), Fail> {
         || (),
         move || {
             let mut first = seats.remove(0);
-            shared.raise(&mut first);
+            shared.raise_flag(&mut first);
             first
         },
     );

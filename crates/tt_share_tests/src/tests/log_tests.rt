@@ -9,7 +9,7 @@ use std::thread::Threads;
 use tt_game::{Line, Side};
 use tt_proof::Proof;
 use tt_search::{AlwaysGranting, Kept, Limits, PrivateStore, ProofPerSide, Search, Step, Store};
-use tt_share::{CertLog, LockedStore, LogStore, Table, View};
+use tt_share::{CertLog, LogStore, Table, TableStore, View};
 
 /// The colouring of the first problem reached by moves, so that Black may not repeat the board before.
 const REPEATED: &[u8] = b"(;SZ[4:1]AW[ba];B[ca];W[da]TR[ba])";
@@ -551,7 +551,7 @@ fn search_in_turn<S: Store>(alloc: Global, store: &mut S) -> Result<(), Fail> {
 /// The same over a table behind a lock.
 fn over_a_table<R: Wait>(rt: &R, alloc: Global) -> Result<(), Fail> {
     let table = Table::new(alloc)?;
-    let mut store = LockedStore::new(rt, &table);
+    let mut store = TableStore::new(rt, &table);
     search_in_turn(alloc, &mut store)
 }
 
