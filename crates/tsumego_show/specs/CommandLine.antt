@@ -54,7 +54,7 @@ abbrev pub sgf_or_editor_point_name : ℕ → List ℕ → Option ℕ → Option
 sgf_or_editor_point_name b bs None = editor_point_name (column_of_editor_letter (to_ascii_uppercase b)) (number_of bs)
 sgf_or_editor_point_name b bs (Some row) = sgf_point_name (coordinate_of_sgf_letter b) row
 
--- the place that a word names: `cb` as SGF does, `C18` or `c18` as editors do
+-- the point that a word names: `cb` as SGF does, `C18` or `c18` as editors do
 abbrev pub point_name_of_word : List ℕ → Option PointName
 point_name_of_word [] = None
 point_name_of_word (b ∷ bs) = sgf_or_editor_point_name b bs (sgf_row bs)

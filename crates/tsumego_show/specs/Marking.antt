@@ -11,6 +11,7 @@ use Rattle.tt_sgf.specs.Sizes.{point_count}
 use Rattle.tt_board.specs.declared.Colour.{Colour}
 use Rattle.tt_board.specs.declared.Colour.TheVariants.{Black, White}
 use Rattle.tt_board.specs.Stones.{PointNumberSet}
+use Rattle.tt_board.specs.Play.{other}
 use Rattle.tt_board.specs.Position.{Colouring}
 use Rattle.tt_board.specs.Reach.{entry_at}
 use Rattle.tt_game.specs.declared.faults.GameFault.{GameFault}
@@ -29,7 +30,7 @@ use Rattle.tsumego_show.specs.declared.variations.RootPointProperty.TheVariants.
 use Rattle.tsumego_show.specs.Hints.{both_point_names, unclosed_comment_lines, hints, missing_mover_line, point_names_line, points_line_if_any}
 use Rattle.tsumego_show.specs.Picture.{colour_name}
 use Rattle.tsumego_show.specs.Refusals.{refusal_and_why_text, refusal_line}
-use Rattle.tsumego_show.specs.Regions.{nearby_empties, chain, is_closed, is_first_of_chain, is_inner, proposed_region, stones_of_colour, ways_out}
+use Rattle.tsumego_show.specs.Regions.{nearby_empties, chain, closing_points, is_closed, is_first_of_chain, is_inner, proposed_region, stones_of_colour, ways_out}
 use Rattle.tsumego_show.specs.TreeBytes.{semicolon_end, from_first_parenthesis, tree_as_given}
 use Rattle.tsumego_show.specs.Variations.{point_list_property}
 
@@ -57,7 +58,7 @@ is_last_problem_node_squared ns = is_some_with_property SQ (slice_get (nodes_bef
 abbrev pub point_if_on_board : Size → ℕ → ℕ → Option ℕ
 point_if_on_board size column row = if nat_lt column size.columns && nat_lt row size.rows then Some (row * size.columns + column) else None
 
--- the point of a place; rows count from above, or from 1 below
+-- the point of a name; rows count from above, or from 1 below
 abbrev pub point_of_name : Size → PointName → Option ℕ
 point_of_name size (FromAbove column row) = point_if_on_board size column row
 point_of_name size (FromBelow column number) = if nat_lt 0 number && nat_le number size.rows then point_if_on_board size column (size.rows - number) else None
@@ -87,7 +88,7 @@ module _ (s : GameState) where
   proposal_for_point None = None
   proposal_for_point (Some q) = proposal_if_closed true q (entry_at s.present q)
 
-  -- that in a place, or on any point
+  -- that on a named point, or on any
   abbrev pub proposal_for_name : Option PointName → Option StoneWithPoints
   proposal_for_name None = fewest_squares_proposal (point_count s.size)
   proposal_for_name (Some name) = proposal_for_point (point_of_name s.size name)
@@ -157,22 +158,33 @@ already_squared_line = codes "squares stand there already: put a triangle on a s
 unfoldable pub chain_name : Size → Colour → ℕ → List ℕ
 chain_name size k q = codes "the " ++ (colour_name k ++ (codes " chain of " ++ both_point_names size q))
 
+-- so many points at most are named where one stone more closes the wall
+abbrev pub most_closing_points : ℕ
+most_closing_points = 8
+
 -- the ways out, or where there are none other empty points
 unfoldable pub ways_out_or_nearby_text : Size → PointNumberSet → PointNumberSet → List ℕ
 ways_out_or_nearby_text size ways others =
     if nat_eq (set.len ways) 0 then codes "put stones of the wall on some of these, or mark by hand:" ++ point_names_line size others
-    else codes "it gets out at" ++ point_names_line size ways
+    else codes "it gets out by way of" ++ point_names_line size ways
+
+-- the points where one stone of this colour closes the wall, where there are some and not too many; or the other points
+unfoldable pub how_to_close_text : Size → Colour → PointNumberSet → PointNumberSet → PointNumberSet → List ℕ
+how_to_close_text size k closing ways others =
+    if nat_lt 0 (set.len closing) && nat_le (set.len closing) most_closing_points
+    then codes "a " ++ (colour_name k ++ (codes " stone on one of these encloses it:" ++ point_names_line size closing))
+    else ways_out_or_nearby_text size ways others
 
 -- where a chain is open
-unfoldable pub open_text : Size → Colour → ℕ → PointNumberSet → PointNumberSet → List ℕ
-open_text size k q ways others = chain_name size k q ++ (codes " is not enclosed with 2 to 40 points: " ++ ways_out_or_nearby_text size ways others)
+unfoldable pub open_text : Size → Colour → ℕ → PointNumberSet → PointNumberSet → PointNumberSet → List ℕ
+open_text size k q closing ways others = chain_name size k q ++ (codes " is not enclosed with 2 to 40 points: " ++ how_to_close_text size (other k) closing ways others)
 
 abbrev pub open_group_line : Size → Colouring → Colour → ℕ → List ℕ
-open_group_line size c k q = open_text size k q (ways_out size c k q) (nearby_empties size c k q)
+open_group_line size c k q = open_text size k q (closing_points size c k q) (ways_out size c k q) (nearby_empties size c k q)
 
 -- a chain, and its ways out
 unfoldable pub chain_and_ways_out_text : Size → StoneWithPoints → List ℕ
-chain_and_ways_out_text size m = chain_name size m.colour m.stone ++ (codes ", which gets out at" ++ point_names_line size m.points)
+chain_and_ways_out_text size m = chain_name size m.colour m.stone ++ (codes ", which gets out by way of" ++ point_names_line size m.points)
 
 -- the chain that is open least, where one is
 abbrev pub no_enclosed_group_text : Size → Option StoneWithPoints → List ℕ

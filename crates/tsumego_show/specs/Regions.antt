@@ -1,6 +1,6 @@
 -- The region that is proposed for the chain of a stone: what is inside the wall. The wall are the stones of the other colour that can't be
 -- taken from inside.
-use Rattle.std.specs.Prelude.{ℕ, zero, suc, ◌+◌, ◌-◌, ◌%◌, ◌&&◌, ◌||◌, nat_le, nat_lt, Bool, not}
+use Rattle.std.specs.Prelude.{ℕ, zero, suc, ◌+◌, ◌-◌, ◌%◌, ◌&&◌, ◌||◌, nat_eq, nat_le, nat_lt, Bool, not}
 use Rattle.std.specs.List.{list_any, range_with_len}
 use Rattle.std.specs.FinSet as set
 use Rattle.tt_sgf.specs.declared.size.Size.{Size}
@@ -8,7 +8,7 @@ use Rattle.tt_sgf.specs.Points.{passing}
 use Rattle.tt_sgf.specs.Sizes.{point_count}
 use Rattle.tt_board.specs.declared.Colour.{Colour}
 use Rattle.tt_board.specs.Position.{Colouring}
-use Rattle.tt_board.specs.Play.{is_empty, is_stone_of, other}
+use Rattle.tt_board.specs.Play.{is_empty, is_stone_of, other, play_of}
 use Rattle.tt_board.specs.Stones.{PointNumberSet}
 use Rattle.tt_board.specs.Reach.{entry_at}
 use Rattle.tt_game.specs.Problems.{whole}
@@ -82,6 +82,10 @@ module _ (size : Size) (c : Colouring) where
       unfoldable pub is_closed : Bool
       is_closed = nat_lt 0 (set.len wall) && (nat_lt 1 (set.len proposed_region) && nat_le (set.len proposed_region) most_enclosed_points)
 
+      -- a stone of the colour is there, and the region is closed
+      abbrev pub is_enclosed : Bool
+      is_enclosed = is_stone_of (entry_at c q) k && is_closed
+
       -- the board isn't turned inside out: no more empty points are in the region than outside
       unfoldable pub is_inner : Bool
       is_inner = nat_le (set.len (set.intersection proposed_region empties)) (set.len (set.difference empties proposed_region))
@@ -93,3 +97,17 @@ module _ (size : Size) (c : Colouring) where
       -- those beside the chain from which empty points lead further
       unfoldable pub ways_out : PointNumberSet
       ways_out = set.intersection (adjacent_points size chain) (set.intersection nearby_empties (reached size empties (set.difference empties nearby_empties)))
+
+-- ---- where one stone more closes the wall
+
+module _ (size : Size) (c : Colouring) (k : Colour) (q : ℕ) where
+  -- on another board the group is enclosed, and no point is empty that wasn't
+  abbrev pub is_enclosed_without_capture : Colouring → Bool
+  is_enclosed_without_capture d = is_enclosed size d k q && nat_eq (set.len (set.difference (empties size d) (empties size c))) 0
+
+  -- so it is after a play of the other colour on p, an empty point
+  abbrev pub is_closed_by : ℕ → Bool
+  is_closed_by p = is_empty (entry_at c p) && is_enclosed_without_capture (play_of size c (other k) p)
+
+  unfoldable pub closing_points : PointNumberSet
+  closing_points = passing is_closed_by (point_count size)

@@ -7,7 +7,7 @@ ghost use Rattle.tt_board.specs.Reach.{entry_at};
 ghost use Rattle.tt_game.specs.Nodes.{SQ, TR, has};
 ghost use Rattle.tt_game.specs.Problems.{node_count_before_solution, game_of};
 ghost use Rattle.tsumego_show.specs.Marking.{nodes_before_solution, chain_name, game_marked_or_kept, other_enclosed_chains_line, is_some_with_property, is_proposal_missing, is_last_problem_node_squared, is_colour_on_board, has_triangles, is_game_left_unmarked, is_left_unmarked};
-ghost use Rattle.tsumego_show.specs.Marking.{tree_marked_or_kept, problem_of_proposal, no_enclosed_group_text, hints_and_marked_tree, unsquared_triangle_node, empty_point_line, off_board_line, open_group_line, open_text, ways_out_or_nearby_text, kept_problem_text, proposal_unless_squared, why_no_group_enclosed, chain_and_ways_out_text, why_unmarked_at_point};
+ghost use Rattle.tsumego_show.specs.Marking.{tree_marked_or_kept, problem_of_proposal, no_enclosed_group_text, hints_and_marked_tree, unsquared_triangle_node, empty_point_line, off_board_line, open_group_line, how_to_close_text, open_text, ways_out_or_nearby_text, kept_problem_text, proposal_unless_squared, why_no_group_enclosed, chain_and_ways_out_text, why_unmarked_at_point};
 ghost use Rattle.tsumego_show.specs.Marking.{why_unmarked, why_unmarked_by_name, why_unmarked_or_off_board, proposal_or_reason, tree_with_marks, unsquared_node_line};
 ghost use Rattle.tsumego_show.specs.Refusals.{refusal_and_why_text};
 ghost use Rattle.tsumego_show.specs.TreeBytes.{tree_as_given};
@@ -24,13 +24,16 @@ use crate::mode::PointName;
 use crate::node_values::has_property;
 use crate::picture::colour_name;
 use crate::refusals::{put_refusal_and_why, put_refusal_line};
-use crate::regions::{nearby_empties, stones_of_colour, ways_out};
+use crate::regions::{closing_points, nearby_empties, stones_of_colour, ways_out};
 use crate::tree_bytes::{from_first_parenthesis, put_tree_as_given, semicolon_end};
 use crate::variations::{RootPointProperty, put_point_list_property};
 use std::alloc::Global;
 use tt_board::{Board, Colour};
 use tt_game::{Game, GameFault, Line, game_before_solution, node_count_before_solution};
 use tt_sgf::{MainLine, NoMemory, Node, Point, PointSet, Size};
+
+/// The most points that are named where one stone more closes the wall.
+const MOST_CLOSING_POINTS: u16 = 8;
 
 /// Writes a tree with the marks of a problem at the head of the node of this number behind the text.
 fn put_tree_with_marks(
@@ -99,11 +102,34 @@ fn put_ways_out_or_nearby(
         out.extend_from_slice(b"put stones of the wall on some of these, or mark by hand:")?;
         return put_point_names_line(alloc, out, size, others);
     }
-    out.extend_from_slice(b"it gets out at")?;
+    out.extend_from_slice(b"it gets out by way of")?;
     put_point_names_line(alloc, out, size, ways)
 }
 
-/// Writes where the chain of a stone of this colour is open, by these ways out or other points, behind the text.
+/// Writes where one stone of this colour closes the wall, where there are some such points and not too many, or the other points,
+/// behind the text.
+#[tactic(auto, unfolding(crate::specs::Marking::how_to_close_text))]
+fn put_how_to_close(
+    alloc: Global,
+    out: &mut Vec<u8>,
+    size: Size,
+    colour: Colour,
+    closing: &PointSet,
+    ways: &PointSet,
+    others: &PointSet,
+) -> Result<(), NoMemory>
+    ensures { OnOk result (out.new.items ≡ out.old.items ++ how_to_close_text size colour closing.now ways.now others.now) }
+{
+    if 0 < closing.count() && closing.count() <= MOST_CLOSING_POINTS {
+        out.extend_from_slice(b"a ")?;
+        out.extend_from_slice(colour_name(colour))?;
+        out.extend_from_slice(b" stone on one of these encloses it:")?;
+        return put_point_names_line(alloc, out, size, closing);
+    }
+    put_ways_out_or_nearby(alloc, out, size, ways, others)
+}
+
+/// Writes where the chain of a stone of this colour is open, by these points, behind the text.
 #[tactic(auto, unfolding(crate::specs::Marking::open_text))]
 fn put_open_chain(
     alloc: Global,
@@ -111,15 +137,16 @@ fn put_open_chain(
     size: Size,
     colour: Colour,
     stone: Point,
+    closing: &PointSet,
     ways: &PointSet,
     others: &PointSet,
 ) -> Result<(), NoMemory>
     requires { stone < point_count size }
-    ensures { OnOk result (out.new.items ≡ out.old.items ++ open_text size colour stone ways.now others.now) }
+    ensures { OnOk result (out.new.items ≡ out.old.items ++ open_text size colour stone closing.now ways.now others.now) }
 {
     put_chain_name(alloc, out, size, colour, stone)?;
     out.extend_from_slice(b" is not enclosed with 2 to 40 points: ")?;
-    put_ways_out_or_nearby(alloc, out, size, ways, others)
+    put_how_to_close(alloc, out, size, colour.other(), closing, ways, others)
 }
 
 /// Writes where the chain of a stone of this colour is open behind the text.
@@ -133,9 +160,19 @@ fn put_open_group_line(
     requires { stone < point_count board.now.size }
     ensures { OnOk result (out.new.items ≡ out.old.items ++ open_group_line board.now.size board.now.points colour stone) }
 {
+    let closing = closing_points(board, colour, stone);
     let ways = ways_out(board, colour, stone);
     let others = nearby_empties(board, colour, stone);
-    put_open_chain(alloc, out, board.size(), colour, stone, &ways, &others)
+    put_open_chain(
+        alloc,
+        out,
+        board.size(),
+        colour,
+        stone,
+        &closing,
+        &ways,
+        &others,
+    )
 }
 
 /// Writes that no stone stands on a point behind the text.
@@ -209,7 +246,7 @@ fn put_chain_and_ways_out(
     ensures { OnOk result (out.new.items ≡ out.old.items ++ chain_and_ways_out_text size opening.now) }
 {
     put_chain_name(alloc, out, size, opening.colour, opening.stone)?;
-    out.extend_from_slice(b", which gets out at")?;
+    out.extend_from_slice(b", which gets out by way of")?;
     put_point_names_line(alloc, out, size, &opening.points)
 }
 

@@ -1,10 +1,10 @@
 //! The region that is proposed for the chain of a stone.
 ghost use Rattle.std.specs.Prelude.{◌≡◌, ◌<◌};
 ghost use Rattle.tt_sgf.specs.Sizes.{point_count};
-ghost use Rattle.tsumego_show.specs.Regions.{nearby_empties, chain, empties, reached_within_wall, is_closed, is_first_of_chain, is_inner, is_adjacent_to, adjacent_points, reached, reached_in_steps, proposed_region, stones_of_colour, chains_with_liberty_outside, wall, ways_out};
+ghost use Rattle.tsumego_show.specs.Regions.{nearby_empties, chain, closing_points, empties, is_closed_by, is_enclosed_without_capture, is_enclosed, reached_within_wall, is_closed, is_first_of_chain, is_inner, is_adjacent_to, adjacent_points, reached, reached_in_steps, proposed_region, stones_of_colour, chains_with_liberty_outside, wall, ways_out};
 
 use crate::points::{has_point_numbered, point_numbered};
-use tt_board::{Board, Colour};
+use tt_board::{Board, Colour, Occupied};
 use tt_sgf::{Point, PointSet, Size};
 
 /// The most points of a region that is closed.
@@ -218,4 +218,51 @@ pub fn ways_out(board: &Board, colour: Colour, stone: Point) -> PointSet
     let here = nearby_empties(board, colour, stone);
     let leading = reached(size, &passable, passable.minus(&here));
     adjacent_points(size, &chain(board, colour, stone)).and(&here.and(&leading))
+}
+
+/// Whether a stone of this colour is on a point, and the region of its chain is closed.
+fn is_enclosed(board: &Board, colour: Colour, stone: Point) -> bool
+    requires { stone < point_count board.now.size }
+    ensures { result ≡ is_enclosed board.now.size board.now.points colour stone }
+{
+    board.has_stone_of(colour, stone) && proposed_region(board, colour, stone).closed
+}
+
+/// Whether the group of a stone of this colour is enclosed on another board, and no point is empty there that wasn't.
+fn is_enclosed_without_capture(board: &Board, colour: Colour, stone: Point, next: &Board) -> bool
+    requires size { next.now.size ≡ board.now.size }
+    requires stone { stone < point_count board.now.size }
+    ensures { result ≡ is_enclosed_without_capture board.now.size board.now.points colour stone next.now.points }
+{
+    is_enclosed(next, colour, stone) && empties(next).minus(&empties(board)).count() == 0
+}
+
+/// Whether a play of the other colour on a point, which has to be empty, takes nothing off and encloses the group of a stone of
+/// this colour.
+fn is_closed_by(board: &Board, colour: Colour, stone: Point, point: Point) -> bool
+    requires stone { stone < point_count board.now.size }
+    requires point { point < point_count board.now.size }
+    ensures { result ≡ is_closed_by board.now.size board.now.points colour stone point }
+{
+    match board.play(colour.other(), point) {
+        Ok(next) => is_enclosed_without_capture(board, colour, stone, &next),
+        Err(Occupied) => false,
+    }
+}
+
+/// The points on each of which one stone more of the other colour encloses the group of a stone of this colour.
+#[tactic(auto, using(crate::proofs::Sets::none_passed, crate::proofs::Sets::one_in, crate::proofs::Sets::one_out), unfolding(crate::specs::Regions::closing_points))]
+pub fn closing_points(board: &Board, colour: Colour, stone: Point) -> PointSet
+    requires { stone < point_count board.now.size }
+    ensures { result ≡ closing_points board.now.size board.now.points colour stone }
+{
+    let size = board.size();
+    let mut made = PointSet::empty();
+    for number in 0..size.point_count() {
+        let point = point_numbered(size, number);
+        if is_closed_by(board, colour, stone, point) {
+            made = made.with(point);
+        }
+    }
+    made
 }
