@@ -241,11 +241,11 @@ game_marked_or_kept name k tree ns (Err e) = refusal_and_why_text k ns e ++ tree
 abbrev pub tree_marked_or_kept : Option PointName → ℕ → List ℕ → List Node → GameFault → List ℕ
 tree_marked_or_kept name k tree ns e = if has_triangles ns then refusal_and_why_text k ns e ++ tree_as_given tree else game_marked_or_kept name k tree ns (game_of ns)
 
--- and whether it is refused
 abbrev pub is_proposal_missing : Option StoneWithPoints → Bool
 is_proposal_missing None = true
 is_proposal_missing (Some m) = false
 
+-- and whether it is refused
 abbrev pub is_game_left_unmarked : Bool → Option PointName → Result GameState GameFault → Bool
 is_game_left_unmarked is_squared name (Ok s) = is_proposal_missing (proposal_unless_squared s is_squared name)
 is_game_left_unmarked is_squared name (Err e) = true

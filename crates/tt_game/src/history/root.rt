@@ -21,8 +21,8 @@ use tt_sgf::{Bits, NoMemory, Point};
 /// To compare a colouring with so many boards costs about what its hash costs.
 const FEW_BOARDS: usize = 8;
 
-/// How many places are noted of a beginning of many boards.
-const HASH_PLACES: usize = 8_192;
+/// By so many remainders of their hashes the boards of a long beginning are noted.
+const HASH_REMAINDERS: usize = 8_192;
 
 /// From so many points of the region on it pays to look at all of them at once, and with fewer one by one.
 pub(crate) const MANY_POINTS: u16 = 20;
@@ -42,7 +42,7 @@ pub(crate) struct Root {
     black: Bits,
     white: Bits,
     filter: BloomFilter,
-    places: Vec<usize>,
+    last_indices: Vec<usize>,
 }
 
 impl Model for Root {
@@ -84,20 +84,20 @@ pub(crate) fn union_of_stones(boards: &[Board], colour: Colour) -> Bits
     stones
 }
 
-/// For each remainder of a hash the index of the last board that has it, and 0 where none has; no places without memory. Nothing goes by
+/// For each remainder of a hash the index of the last board that has it, and 0 where none has; empty without memory. Nothing goes by
 /// it but time.
-fn places_by_hash(alloc: Global, boards: &[Board]) -> Vec<usize> {
-    let mut places = Vec::new(alloc);
-    if places.resize(HASH_PLACES, 0).is_err() {
+fn last_index_by_remainder(alloc: Global, boards: &[Board]) -> Vec<usize> {
+    let mut last_indices = Vec::new(alloc);
+    if last_indices.resize(HASH_REMAINDERS, 0).is_err() {
         return Vec::new(alloc);
     }
     for k in 0..boards.len() {
-        let index = filter_index(&boards[k]) % HASH_PLACES;
-        if index < places.len() {
-            places[index] = k;
+        let index = filter_index(&boards[k]) % HASH_REMAINDERS;
+        if index < last_indices.len() {
+            last_indices[index] = k;
         }
     }
-    places
+    last_indices
 }
 
 impl Root {
@@ -108,12 +108,12 @@ impl Root {
     {
         let alloc = history.alloc();
         let boards = history.boards();
-        let (filter, places) = if boards.len() <= FEW_BOARDS {
+        let (filter, last_indices) = if boards.len() <= FEW_BOARDS {
             (BloomFilter::saturated(alloc), Vec::new(alloc))
         } else {
             (
                 BloomFilter::of_boards(alloc, boards),
-                places_by_hash(alloc, boards),
+                last_index_by_remainder(alloc, boards),
             )
         };
         let base = Arc::new(alloc, boards[boards.len() - 1].copy())?;
@@ -126,7 +126,7 @@ impl Root {
             black: union_of_stones(boards, Colour::Black),
             white: union_of_stones(boards, Colour::White),
             filter,
-            places,
+            last_indices,
         })
     }
 
@@ -193,7 +193,7 @@ impl Root {
         if !self.filter.has(hash) {
             return None;
         }
-        match self.places.get(hash % HASH_PLACES) {
+        match self.last_indices.get(hash % HASH_REMAINDERS) {
             Some(index) => Some(*index),
             None => Some(0),
         }

@@ -18,7 +18,7 @@ const REPEATED: &[u8] = b"(;SZ[4:1]AW[ba];B[ca];W[da]TR[ba])";
 /// A lone white stone with one liberty: White to move fills it or passes, and the stone dies.
 const NARROW: &[u8] = b"(;SZ[2:1]AW[ba]PL[W]TR[ba])";
 
-/// Whether a table has the proofs of a problem's key at these places.
+/// Whether a table has the proofs of a problem's key in these slots.
 fn has_slots(
     alloc: Global,
     table: &TableState,
@@ -69,8 +69,8 @@ fn are_put(alloc: Global, table: &mut TableState) -> Result<(), Fail> {
     want(rest.is_empty(), "the table is longer")
 }
 
-/// Fails unless a table in which these proofs are tells the places of each key.
-fn tells_slots(alloc: Global, table: &TableState) -> Result<(), Fail> {
+/// Fails unless a table in which these proofs are says the slots of each key.
+fn says_slots(alloc: Global, table: &TableState) -> Result<(), Fail> {
     want(has_slots(alloc, table, SPLIT, &[0, 1, 3])?, "split")?;
     want(has_slots(alloc, table, REPEATED, &[0, 1, 3])?, "repeated")?;
     want(has_slots(alloc, table, NARROW, &[2, 4])?, "narrow")?;
@@ -84,7 +84,7 @@ fn slots_and_nodes(rt: HostRuntime) -> Result<(), Fail> {
     want(has_slots(alloc, &table, SPLIT, &[])?, "an empty table")?;
     want(table.nodes() == 0, "its nodes")?;
     are_put(alloc, &mut table)?;
-    tells_slots(alloc, &table)
+    says_slots(alloc, &table)
 }
 
 /// Whether a proof is the side's, and has this certificate at the line.
