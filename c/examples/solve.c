@@ -1,4 +1,4 @@
-/* Answers standard input: solve.c WORD [OPTION[=NUMBER] ..], with the program's lines and statuses. */
+/* Answers standard input: solve.c WORD [OPTION[=NUMBER] ..], by the line and the status of a call. */
 #include <stdio.h>
 #include <stdlib.h>
 #include <string.h>

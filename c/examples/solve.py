@@ -26,6 +26,7 @@ class Tsumego:
 
 
 if __name__ == "__main__":
-    line, refused = Tsumego(sys.argv[1]).answer(sys.argv[2], sys.stdin.buffer.read(), cert=("", "cert", "parts").index("".join(sys.argv[3:])))
+    cert = ("", "cert", "parts").index("".join(sys.argv[3:]))
+    line, refused = Tsumego(sys.argv[1]).answer(sys.argv[2], sys.stdin.buffer.read(), cert=cert, parts=cert > 1)
     sys.stdout.buffer.write(line)
     sys.exit(refused)
