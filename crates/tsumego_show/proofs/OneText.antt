@@ -21,7 +21,7 @@ use Rattle.tsumego_show.specs.Diagram.{svg_text}
 use Rattle.tsumego_show.specs.NumberedPlays.{numbered_plays}
 use Rattle.tsumego_show.specs.Variations.{sgf_text}
 use Rattle.tsumego_show.specs.FollowingStrategy.{FollowingStrategy, IsCertificateFor, IsFollowingStrategy, claimed_winner, no_strategy, found}
-use Rattle.tsumego_show.specs.Shown.{IsFollowingText, IsDiagram, IsShown, IsInputText, IsProblemText, IsGameTreeText, IsTextOfRest, ended, is_only_tree, mode_refuses_tree, last_tree, more_trees, picture_and_hints_text, stopped, too_long, tree, trees, no_strategy_words}
+use Rattle.tsumego_show.specs.Shown.{IsFollowingText, IsDiagram, IsShown, IsInputText, IsProblemText, IsGameTreeText, IsTextOfRest, ended, is_only_tree, mode_refuses_tree, last_tree, more_trees, picture_and_hints_text, stopped, too_long, tree, trees, no_certificate_words, no_strategy_words}
 
 module _ (one : OneOutlinePerCertificate) where
   -- a certificate is that of one side and strategy
@@ -69,7 +69,7 @@ module _ (one : OneOutlinePerCertificate) where
   found_same size bytes (found a u) (found b v) x y = let same = stands_same size (trimmed bytes) a b u v x.1 y.1 in ap₂ (λ (k : Side) (w : Strategy). found k w) same.0 same.1
 
   diagram_same : (alone : Bool) (k : ℕ) (p : LineWithUndo) (behind s t : List ℕ) → IsDiagram alone k p behind s → IsDiagram alone k p behind t → s ≡ t
-  diagram_same true k p behind s t a b = a.2 ∙ ap (λ (x : FollowingStrategy). svg_text p (numbered_plays p x) (claimed_winner p x)) (found_same p.frame.size behind a.0 b.0 a.1 b.1) ∙ sym b.2
+  diagram_same true k p behind s t a b = a.2 ∙ ap (λ (x : FollowingStrategy). svg_text p (numbered_plays p x) (claimed_winner p x) (no_certificate_words behind x)) (found_same p.frame.size behind a.0 b.0 a.1 b.1) ∙ sym b.2
   diagram_same false k p behind s t a b = a ∙ sym b
 
   -- and so has a problem

@@ -249,11 +249,11 @@ module _ (p : LineWithUndo) where
   winner_text Attacker (Some Defender) = codes ": " ++ (colour_name (side_colour p.frame Defender) ++ codes " lives")
   winner_text Defender (Some Attacker) = codes ": " ++ (colour_name (side_colour p.frame Attacker) ++ codes " kills")
 
-  -- `Black to play and kill`, as books have it below a diagram
-  unfoldable pub caption : Option Side → Window → List ℕ
-  caption winner w =
+  -- `Black to play and kill`, as books have it below a diagram, with words behind it
+  unfoldable pub caption : Option Side → List ℕ → Window → List ℕ
+  caption winner words w =
       codes "<text x='" ++ (decimal (document_centre w) ++ (codes "' y='" ++ (decimal (caption_baseline w)
-      ++ (codes "'>" ++ (colour_name (side_colour p.frame p.state.to_move) ++ (codes " to play" ++ (winner_text p.state.to_move winner ++ codes "</text>\n")))))))
+      ++ (codes "'>" ++ (colour_name (side_colour p.frame p.state.to_move) ++ (codes " to play" ++ (winner_text p.state.to_move winner ++ (words ++ codes "</text>\n"))))))))
 
 -- ---- the notes: a line for each play whose number isn't on its point
 
@@ -289,12 +289,12 @@ module _ (p : LineWithUndo) (plays : List ℕ) (w : Window) where
   abbrev pub row_points_shapes : ℕ → List ℕ
   row_points_shapes j = flat_map (cell_shapes j) (range_with_len 0 (shown_column_count w))
 
-  abbrev pub svg_of_window : Option Side → List ℕ
-  svg_of_window winner =
+  abbrev pub svg_of_window : Option Side → List ℕ → List ℕ
+  svg_of_window winner words =
       svg_head (width w) (height w + 14 * length (noted_plays p plays)) ++ (flat_map (column_line_and_letter p.frame.size w) (range_with_len 0 (shown_column_count w))
       ++ (flat_map (row_line_and_number p.frame.size w) (range_with_len 0 (shown_row_count w)) ++ (flat_map row_points_shapes (range_with_len 0 (shown_row_count w))
-      ++ (caption p winner w ++ (flat_map (note p plays (document_centre w) (caption_baseline w)) (enumerate_from 1 (noted_plays p plays)) ++ codes "</svg>\n")))))
+      ++ (caption p winner words w ++ (flat_map (note p plays (document_centre w) (caption_baseline w)) (enumerate_from 1 (noted_plays p plays)) ++ codes "</svg>\n")))))
 
--- the problem with these plays, numbered from 1 on, and with who wins, where that is said
-abbrev pub svg_text : LineWithUndo → List ℕ → Option Side → List ℕ
-svg_text p plays winner = svg_of_window p plays (window p) winner
+-- the problem with these plays, numbered from 1 on, with who wins, where that is said, and with these words
+abbrev pub svg_text : LineWithUndo → List ℕ → Option Side → List ℕ → List ℕ
+svg_text p plays winner words = svg_of_window p plays (window p) winner words

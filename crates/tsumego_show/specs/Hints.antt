@@ -143,11 +143,14 @@ abbrev pub unclosed_comment_line : List ℕ → List ℕ → List Node → List 
 unclosed_comment_line opener words ns =
     if list_any (has_unclosed_comment opener) ns then codes "hint: a comment holds " ++ (words ++ codes ": is its ] missing?\n") else []
 
--- the lines on who moves, the marks, the stones, the size and the name
-abbrev pub swallowed_property_lines : List Node → List ℕ
-swallowed_property_lines ns =
-    flat_map (λ name. unclosed_comment_line name name ns) (codes "PL[" ∷ codes "TR[" ∷ codes "SQ[" ∷ codes "AB[" ∷ codes "AW[" ∷ codes "SZ[" ∷ codes "GN[" ∷ [])
+-- the lines on who moves, the marks and the stones
+abbrev pub swallowed_problem_lines : List Node → List ℕ
+swallowed_problem_lines ns = flat_map (λ name. unclosed_comment_line name name ns) (codes "PL[" ∷ codes "TR[" ∷ codes "SQ[" ∷ codes "AB[" ∷ codes "AW[" ∷ [])
+
+-- and on what a root says: the size, the name, the game and the komi
+abbrev pub swallowed_root_lines : List Node → List ℕ
+swallowed_root_lines ns = flat_map (λ name. unclosed_comment_line name name ns) (codes "SZ[" ∷ codes "GN[" ∷ codes "GM[" ∷ codes "KM[" ∷ [])
 
 -- and on the next tree, without the bracket at which a reader would begin
 abbrev pub unclosed_comment_lines : List Node → List ℕ
-unclosed_comment_lines ns = swallowed_property_lines ns ++ unclosed_comment_line (codes "(;") (codes "a tree") ns
+unclosed_comment_lines ns = swallowed_problem_lines ns ++ (swallowed_root_lines ns ++ unclosed_comment_line (codes "(;") (codes "a tree") ns)

@@ -30,7 +30,9 @@ use Rattle.tsumego_show.specs.declared.variations.RootPointProperty.TheVariants.
 use Rattle.tsumego_show.specs.Hints.{both_point_names, unclosed_comment_lines, hints, missing_mover_line, point_names_line, points_line_if_any}
 use Rattle.tsumego_show.specs.Picture.{colour_name}
 use Rattle.tsumego_show.specs.Refusals.{refusal_and_why_text, refusal_line}
-use Rattle.tsumego_show.specs.Regions.{nearby_empties, chain, closing_points, is_closed, is_first_of_chain, is_inner, proposed_region, stones_of_colour, ways_out}
+use Rattle.tsumego_show.specs.Regions.{chain, is_closed, is_first_of_chain, is_inner, is_walled, proposed_region, stones_of_colour, way_to_close, ways_out}
+use Rattle.tsumego_show.specs.declared.regions.WayToClose.{WayToClose}
+use Rattle.tsumego_show.specs.declared.regions.WayToClose.TheVariants.{OneStone, TwoStones, Nearby, WaysOut}
 use Rattle.tsumego_show.specs.TreeBytes.{semicolon_end, from_first_parenthesis, tree_as_given}
 use Rattle.tsumego_show.specs.Variations.{point_list_property}
 
@@ -118,7 +120,7 @@ module _ (s : GameState) where
   other_enclosed_chains_line (Some name) m = []
   other_enclosed_chains_line None m = points_line_if_any s.size (codes "hint: other groups are enclosed too: name a stone of the one that is meant:") (other_enclosed_chains m)
 
--- ---- which group is open least
+-- ---- which group has the fewest ways out
 
 module _ (s : GameState) where
   -- the stone on q with its ways out, where a stone is there and has some
@@ -158,38 +160,35 @@ already_squared_line = codes "squares stand there already: put a triangle on a s
 unfoldable pub chain_name : Size → Colour → ℕ → List ℕ
 chain_name size k q = codes "the " ++ (colour_name k ++ (codes " chain of " ++ both_point_names size q))
 
--- so many points at most are named where one stone more closes the wall
-abbrev pub most_closing_points : ℕ
-most_closing_points = 8
-
--- the ways out, or where there are none other empty points
-unfoldable pub ways_out_or_nearby_text : Size → PointNumberSet → PointNumberSet → List ℕ
-ways_out_or_nearby_text size ways others =
-    if nat_eq (set.len ways) 0 then codes "put stones of the wall on some of these, or mark by hand:" ++ point_names_line size others
-    else codes "it gets out by way of" ++ point_names_line size ways
-
--- the points where one stone of this colour closes the wall, where there are some and not too many; or the other points
-unfoldable pub how_to_close_text : Size → Colour → PointNumberSet → PointNumberSet → PointNumberSet → List ℕ
-how_to_close_text size k closing ways others =
-    if nat_lt 0 (set.len closing) && nat_le (set.len closing) most_closing_points
-    then codes "a " ++ (colour_name k ++ (codes " stone on one of these encloses it:" ++ point_names_line size closing))
-    else ways_out_or_nearby_text size ways others
+-- how stones of this colour may close the wall
+unfoldable pub how_to_close_text : Size → Colour → WayToClose → List ℕ
+how_to_close_text size k (OneStone s) = codes "a " ++ (colour_name k ++ (codes " stone on one of these encloses it:" ++ point_names_line size s))
+how_to_close_text size k (TwoStones s) = codes "two " ++ (colour_name k ++ (codes " stones on some of these enclose it:" ++ point_names_line size s))
+how_to_close_text size k (Nearby s) = codes "put stones of the wall on some of these, or mark by hand:" ++ point_names_line size s
+how_to_close_text size k (WaysOut s) = codes "follow these to gaps, if there are any, or mark by hand:" ++ point_names_line size s
 
 -- where a chain is open
-unfoldable pub open_text : Size → Colour → ℕ → PointNumberSet → PointNumberSet → PointNumberSet → List ℕ
-open_text size k q closing ways others = chain_name size k q ++ (codes " is not enclosed with 2 to 40 points: " ++ how_to_close_text size (other k) closing ways others)
+unfoldable pub open_text : Size → Colour → ℕ → WayToClose → List ℕ
+open_text size k q way = chain_name size k q ++ (codes " is not enclosed with 2 to 40 points: " ++ how_to_close_text size (other k) way)
 
 abbrev pub open_group_line : Size → Colouring → Colour → ℕ → List ℕ
-open_group_line size c k q = open_text size k q (closing_points size c k q) (ways_out size c k q) (nearby_empties size c k q)
+open_group_line size c k q = open_text size k q (way_to_close size c k q)
 
--- a chain, and its ways out
+-- a chain inside a wall whose region has n points, too few or too many
+unfoldable pub enclosed_text : Size → Colour → ℕ → ℕ → List ℕ
+enclosed_text size k q n = chain_name size k q ++ (codes " is enclosed with " ++ (decimal n ++ codes ", not with 2 to 40 points: mark it by hand\n"))
+
+abbrev pub unmarked_group_line : Size → Colouring → Colour → ℕ → List ℕ
+unmarked_group_line size c k q = if is_walled size c k q then enclosed_text size k q (set.len (proposed_region size c k q)) else open_group_line size c k q
+
+-- a chain, and the points beside it that lead on
 unfoldable pub chain_and_ways_out_text : Size → StoneWithPoints → List ℕ
-chain_and_ways_out_text size m = chain_name size m.colour m.stone ++ (codes ", which gets out by way of" ++ point_names_line size m.points)
+chain_and_ways_out_text size m = chain_name size m.colour m.stone ++ (codes ":" ++ point_names_line size m.points)
 
--- the chain that is open least, where one is
+-- the chain with the fewest ways out, where one is
 abbrev pub no_enclosed_group_text : Size → Option StoneWithPoints → List ℕ
-no_enclosed_group_text size None = codes "no group is enclosed with 2 to 40 points: close the wall, or name a stone of the group\n"
-no_enclosed_group_text size (Some m) = codes "no group is enclosed with 2 to 40 points: least open is " ++ chain_and_ways_out_text size m
+no_enclosed_group_text size None = codes "no group was found that is enclosed with 2 to 40 points: close the wall, or name a stone of the group\n"
+no_enclosed_group_text size (Some m) = codes "no group was found that is enclosed with 2 to 40 points: close the wall, or name a stone of the group; the fewest points lead on from " ++ chain_and_ways_out_text size m
 
 -- the board has so many columns and rows
 abbrev pub off_board_line : Size → List ℕ
@@ -209,7 +208,7 @@ module _ (s : GameState) where
 
   abbrev pub why_unmarked_at_point : ℕ → Option Colour → List ℕ
   why_unmarked_at_point q None = empty_point_line s.size q
-  why_unmarked_at_point q (Some k) = open_group_line s.size s.present k q
+  why_unmarked_at_point q (Some k) = unmarked_group_line s.size s.present k q
 
   abbrev pub why_unmarked_or_off_board : Option ℕ → List ℕ
   why_unmarked_or_off_board None = off_board_line s.size
@@ -260,11 +259,11 @@ unfoldable pub unsquared_triangle_node : ℕ → List Node → Option ℕ
 unsquared_triangle_node n [] = None
 unsquared_triangle_node n (m ∷ ms) = if has TR m then (if has SQ m then None else Some (n + 1)) else unsquared_triangle_node (n + 1) ms
 
--- that squares are wanting there
-abbrev pub unsquared_node_line : ℕ → Option ℕ → List ℕ
-unsquared_node_line k None = []
-unsquared_node_line k (Some n) = decimal k ++ (codes " not marked: a triangle stands in node " ++ (decimal n ++ codes ", without squares: put SQ there, or take TR out\n"))
+-- that its marks stay, or that squares are wanting there
+abbrev pub kept_marks_line : ℕ → Option ℕ → List ℕ
+kept_marks_line k None = decimal k ++ codes " keeps its marks: take TR and SQ out to have others proposed\n"
+kept_marks_line k (Some n) = decimal k ++ (codes " not marked: a triangle stands in node " ++ (decimal n ++ codes ", without squares: put SQ there, or take TR out\n"))
 
 -- what is written of tree number k with this main line, which is a problem
 abbrev pub kept_problem_text : ℕ → List ℕ → List Node → List ℕ
-kept_problem_text k tree ns = unsquared_node_line k (unsquared_triangle_node 0 ns) ++ tree_as_given tree
+kept_problem_text k tree ns = kept_marks_line k (unsquared_triangle_node 0 ns) ++ tree_as_given tree

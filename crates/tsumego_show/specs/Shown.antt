@@ -16,7 +16,7 @@ use Rattle.tsumego_show.specs.declared.mode.Mode.{Mode}
 use Rattle.tsumego_show.specs.declared.mode.Mode.TheVariants.{Picture, Diagram, Marks, Variations}
 use Rattle.tsumego_show.specs.Diagram.{svg_text}
 use Rattle.tsumego_show.specs.StrategyListing.{IsCertificateListing}
-use Rattle.tsumego_show.specs.FollowingStrategy.{FollowingStrategy, IsFollowingStrategy, claimed_winner}
+use Rattle.tsumego_show.specs.FollowingStrategy.{FollowingStrategy, IsFollowingStrategy, claimed_winner, no_strategy, found}
 use Rattle.tsumego_show.specs.Hints.{unclosed_comment_lines, hints, missing_mover_line}
 use Rattle.tsumego_show.specs.Marking.{is_left_unmarked, tree_marked_or_kept, unsquared_triangle_node, kept_problem_text}
 use Rattle.tsumego_show.specs.Picture.{picture, unmarked_board_text}
@@ -39,10 +39,15 @@ is_only_tree k behind = nat_eq k 1 && is_nil (from_first_parenthesis behind)
 abbrev pub not_drawn_line : ℕ → List ℕ
 not_drawn_line k = decimal k ++ codes " not drawn: give each problem a file of its own\n"
 
+-- what is said below a diagram where something follows that is no strategy
+abbrev pub no_certificate_words : List ℕ → FollowingStrategy → List ℕ
+no_certificate_words behind no_strategy = if not (is_nil (trimmed behind)) then codes ": no certificate" else []
+no_certificate_words behind (found side u) = []
+
 -- the diagram of a problem that is alone, with the strategy that stands behind it
 abbrev pub IsDiagram : Bool → ℕ → LineWithUndo → List ℕ → List ℕ → Type 0
 IsDiagram false k p behind text = text ≡ not_drawn_line k
-IsDiagram true k p behind text = (b : FollowingStrategy) × IsFollowingStrategy p.frame.size behind b × (text ≡ svg_text p (numbered_plays p b) (claimed_winner p b))
+IsDiagram true k p behind text = (b : FollowingStrategy) × IsFollowingStrategy p.frame.size behind b × (text ≡ svg_text p (numbered_plays p b) (claimed_winner p b) (no_certificate_words behind b))
 
 -- what is said where no strategy stands behind a problem
 abbrev pub no_strategy_words : List ℕ → List ℕ
@@ -54,7 +59,7 @@ abbrev pub picture_and_hints_text : ℕ → List Node → LineWithUndo → List 
 picture_and_hints_text k ns p = decimal k ++ (space ∷ (picture p ++ (missing_mover_line ns ++ (unclosed_comment_lines ns ++ hints p))))
 
 -- the text on tree number k with these bytes, whose main line is this problem and which is followed by the others: the picture with what follows it;
--- or the diagram or the game tree with the strategy that stands there; or the tree as it was, since it has a mark
+-- or the diagram or the game tree with the strategy that stands there; or a line on its marks, and the tree as it was
 abbrev pub IsProblemText : Mode → ℕ → List ℕ → List Node → LineWithUndo → List ℕ → List ℕ → Type 0
 IsProblemText Picture k tree ns p behind text = (drawn : List ℕ) × IsFollowingText p behind drawn × (text ≡ picture_and_hints_text k ns p ++ drawn)
 IsProblemText Diagram k tree ns p behind text = IsDiagram (is_only_tree k behind) k p behind text

@@ -579,17 +579,18 @@ fn put_winner(
     }
 }
 
-/// Writes who moves, and who wins, where that is said, behind the text.
+/// Writes who moves, who wins, where that is said, and these words behind the text.
 #[tactic(auto, unfolding(crate::specs::Diagram::caption))]
 fn put_caption(
     alloc: Global,
     out: &mut Vec<u8>,
     line: &Line,
     winner: Option<Side>,
+    words: &[u8],
     w: Window,
 ) -> Result<(), NoMemory>
     requires { IsWindow line.now.frame.size w }
-    ensures { OnOk result (out.new.items ≡ out.old.items ++ caption line.now winner w) }
+    ensures { OnOk result (out.new.items ≡ out.old.items ++ caption line.now winner words.now w) }
 {
     let x = document_centre(line.frame().size, w);
     let below = 24 * (w.bottom - w.top) + 72;
@@ -598,6 +599,7 @@ fn put_caption(
     out.extend_from_slice(colour_name(side_colour(line, line.to_move())))?;
     out.extend_from_slice(b" to play")?;
     put_winner(out, line, line.to_move(), winner)?;
+    out.extend_from_slice(words)?;
     out.extend_from_slice(b"</text>\n")?;
     Ok(())
 }
@@ -718,7 +720,7 @@ fn put_notes(
 
 /// Writes the diagram of the problem at a line as SVG behind the text: what matters of the board, with the coordinates of editors,
 /// the targets marked, and the region or these plays, as stones with the numbers 1, 2, 3 and so on; below, who moves, and
-/// who wins, where that is said, and which plays are on the point of an earlier play or of a stone.
+/// who wins, where that is said, with these words, and which plays are on the point of an earlier play or of a stone.
 /// `NoMemory` where memory was refused; a part may stand there then.
 pub fn put_svg(
     alloc: Global,
@@ -726,9 +728,10 @@ pub fn put_svg(
     line: &Line,
     plays: &[usize],
     winner: Option<Side>,
+    words: &[u8],
 ) -> Result<(), NoMemory>
     requires { AreNumberedPlays line.now.frame.size plays.now }
-    ensures { OnOk result (out.new.items ≡ out.old.items ++ svg_text line.now plays.now winner) }
+    ensures { OnOk result (out.new.items ≡ out.old.items ++ svg_text line.now plays.now winner words.now) }
 {
     let size = line.frame().size;
     let w = window_of(line);
@@ -739,7 +742,7 @@ pub fn put_svg(
     put_column_lines_and_letters(alloc, out, size, w)?;
     put_row_lines_and_numbers(alloc, out, size, w)?;
     put_all_points_shapes(alloc, out, line, plays, w)?;
-    put_caption(alloc, out, line, winner, w)?;
+    put_caption(alloc, out, line, winner, words, w)?;
     put_notes(alloc, out, line, plays, x, extent + 72)?;
     out.extend_from_slice(b"</svg>\n")?;
     Ok(())

@@ -5,7 +5,7 @@ ghost use Rattle.tt_sgf.specs.Sizes.{point_count};
 ghost use Rattle.tt_game.specs.Nodes.{is_setup};
 ghost use Rattle.tsumego_show.specs.Hints.{attacker_stones, both_point_names, defender_stones, editor_point_name, region_empties_and_chains, target_and_region_chains, hints, is_side_to_move_given, is_side_to_move_given_after, is_region_whole_large_board, empties_around_region, empties_around_region_line};
 ghost use Rattle.tsumego_show.specs.Hints.{points_line_if_any, point_names_if_member, point_names_line, missing_mover_line, point_names_text, other_defender_stones, other_defender_stones_line, capturable_attackers, capturable_attackers_line, target_chains};
-ghost use Rattle.tsumego_show.specs.Hints.{unclosed_comment_line, swallowed_property_lines, unclosed_comment_lines, has_unclosed_comment, is_opener_unclosed, is_unclosed_comment, empties_outside_region, whole_board_region_line};
+ghost use Rattle.tsumego_show.specs.Hints.{unclosed_comment_line, swallowed_problem_lines, swallowed_root_lines, unclosed_comment_lines, has_unclosed_comment, is_opener_unclosed, is_unclosed_comment, empties_outside_region, whole_board_region_line};
 
 use crate::node_values::has_property;
 use crate::picture::editor_column_letter;
@@ -404,18 +404,27 @@ fn put_unclosed_comment_line(
     Ok(())
 }
 
-/// Writes a line for each of `PL[`, `TR[`, `SQ[`, `AB[`, `AW[`, `SZ[` and `GN[` that stands in a comment of a main line, with no `]` behind
-/// it, behind the text.
-fn put_swallowed_property_lines(out: &mut Vec<u8>, nodes: &[Node]) -> Result<(), NoMemory>
-    ensures { OnOk result (out.new.items ≡ out.old.items ++ swallowed_property_lines nodes.now) }
+/// Writes a line for each of `PL[`, `TR[`, `SQ[`, `AB[` and `AW[` that stands in a comment of a main line, with no `]` behind it, behind
+/// the text.
+fn put_swallowed_problem_lines(out: &mut Vec<u8>, nodes: &[Node]) -> Result<(), NoMemory>
+    ensures { OnOk result (out.new.items ≡ out.old.items ++ swallowed_problem_lines nodes.now) }
 {
     put_unclosed_comment_line(out, nodes, b"PL[", b"PL[")?;
     put_unclosed_comment_line(out, nodes, b"TR[", b"TR[")?;
     put_unclosed_comment_line(out, nodes, b"SQ[", b"SQ[")?;
     put_unclosed_comment_line(out, nodes, b"AB[", b"AB[")?;
     put_unclosed_comment_line(out, nodes, b"AW[", b"AW[")?;
+    Ok(())
+}
+
+/// Writes a line for each of `SZ[`, `GN[`, `GM[` and `KM[` that stands so, behind the text.
+fn put_swallowed_root_lines(out: &mut Vec<u8>, nodes: &[Node]) -> Result<(), NoMemory>
+    ensures { OnOk result (out.new.items ≡ out.old.items ++ swallowed_root_lines nodes.now) }
+{
     put_unclosed_comment_line(out, nodes, b"SZ[", b"SZ[")?;
     put_unclosed_comment_line(out, nodes, b"GN[", b"GN[")?;
+    put_unclosed_comment_line(out, nodes, b"GM[", b"GM[")?;
+    put_unclosed_comment_line(out, nodes, b"KM[", b"KM[")?;
     Ok(())
 }
 
@@ -424,6 +433,7 @@ fn put_swallowed_property_lines(out: &mut Vec<u8>, nodes: &[Node]) -> Result<(),
 pub fn put_unclosed_comment_lines(out: &mut Vec<u8>, nodes: &[Node]) -> Result<(), NoMemory>
     ensures { OnOk result (out.new.items ≡ out.old.items ++ unclosed_comment_lines nodes.now) }
 {
-    put_swallowed_property_lines(out, nodes)?;
+    put_swallowed_problem_lines(out, nodes)?;
+    put_swallowed_root_lines(out, nodes)?;
     put_unclosed_comment_line(out, nodes, b"(;", b"a tree")
 }

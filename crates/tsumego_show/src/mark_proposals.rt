@@ -1,4 +1,4 @@
-//! The marks that are proposed for a game, and the group that is open least.
+//! The marks that are proposed for a game, and the chain with the fewest ways out.
 ghost use Rattle.std.specs.Prelude.{◌≡◌, ℕ, ◌<◌, IfSome};
 ghost use Rattle.tt_sgf.specs.Sizes.{point_count};
 ghost use Rattle.tt_board.specs.Reach.{entry_at};

@@ -7,8 +7,10 @@ ghost use Rattle.tt_board.specs.Reach.{entry_at};
 ghost use Rattle.tt_game.specs.Nodes.{SQ, TR, has};
 ghost use Rattle.tt_game.specs.Problems.{node_count_before_solution, game_of};
 ghost use Rattle.tsumego_show.specs.Marking.{nodes_before_solution, chain_name, game_marked_or_kept, other_enclosed_chains_line, is_some_with_property, is_proposal_missing, is_last_problem_node_squared, is_colour_on_board, has_triangles, is_game_left_unmarked, is_left_unmarked};
-ghost use Rattle.tsumego_show.specs.Marking.{tree_marked_or_kept, problem_of_proposal, no_enclosed_group_text, hints_and_marked_tree, unsquared_triangle_node, empty_point_line, off_board_line, open_group_line, how_to_close_text, open_text, ways_out_or_nearby_text, kept_problem_text, proposal_unless_squared, why_no_group_enclosed, chain_and_ways_out_text, why_unmarked_at_point};
-ghost use Rattle.tsumego_show.specs.Marking.{why_unmarked, why_unmarked_by_name, why_unmarked_or_off_board, proposal_or_reason, tree_with_marks, unsquared_node_line};
+ghost use Rattle.tsumego_show.specs.Marking.{tree_marked_or_kept, problem_of_proposal, no_enclosed_group_text, hints_and_marked_tree, unsquared_triangle_node, empty_point_line, off_board_line, open_group_line, enclosed_text, unmarked_group_line, how_to_close_text, open_text, kept_problem_text, proposal_unless_squared, why_no_group_enclosed, chain_and_ways_out_text, why_unmarked_at_point};
+ghost use Rattle.tsumego_show.specs.Marking.{why_unmarked, why_unmarked_by_name, why_unmarked_or_off_board, proposal_or_reason, tree_with_marks, kept_marks_line};
+ghost use Rattle.tsumego_show.specs.Hints.{point_names_line};
+ghost use Rattle.tsumego_show.specs.Picture.{colour_name};
 ghost use Rattle.tsumego_show.specs.Refusals.{refusal_and_why_text};
 ghost use Rattle.tsumego_show.specs.TreeBytes.{tree_as_given};
 
@@ -24,16 +26,13 @@ use crate::mode::PointName;
 use crate::node_values::has_property;
 use crate::picture::colour_name;
 use crate::refusals::{put_refusal_and_why, put_refusal_line};
-use crate::regions::{closing_points, nearby_empties, stones_of_colour, ways_out};
+use crate::regions::{WayToClose, proposed_region, stones_of_colour, way_to_close};
 use crate::tree_bytes::{from_first_parenthesis, put_tree_as_given, semicolon_end};
 use crate::variations::{RootPointProperty, put_point_list_property};
 use std::alloc::Global;
 use tt_board::{Board, Colour};
 use tt_game::{Game, GameFault, Line, game_before_solution, node_count_before_solution};
 use tt_sgf::{MainLine, NoMemory, Node, Point, PointSet, Size};
-
-/// The most points that are named where one stone more closes the wall.
-const MOST_CLOSING_POINTS: u16 = 8;
 
 /// Writes a tree with the marks of a problem at the head of the node of this number behind the text.
 fn put_tree_with_marks(
@@ -87,49 +86,75 @@ fn put_chain_name(
     put_both_point_names(alloc, out, size, usize::from(stone.number()))
 }
 
-/// Writes the ways out, or where there are none the other points, behind the text.
-#[tactic(auto, unfolding(crate::specs::Marking::ways_out_or_nearby_text))]
-fn put_ways_out_or_nearby(
+/// Writes so many stones of a colour, words and the points behind the text.
+fn put_stones_and_points(
     alloc: Global,
     out: &mut Vec<u8>,
     size: Size,
-    ways: &PointSet,
-    others: &PointSet,
+    how_many: &[u8],
+    colour: Colour,
+    words: &[u8],
+    points: &PointSet,
 ) -> Result<(), NoMemory>
-    ensures { OnOk result (out.new.items ≡ out.old.items ++ ways_out_or_nearby_text size ways.now others.now) }
+    ensures { OnOk result (out.new.items ≡ out.old.items ++ (how_many.now ++ (colour_name colour ++ (words.now ++ point_names_line size points.now)))) }
 {
-    if ways.count() == 0 {
-        out.extend_from_slice(b"put stones of the wall on some of these, or mark by hand:")?;
-        return put_point_names_line(alloc, out, size, others);
-    }
-    out.extend_from_slice(b"it gets out by way of")?;
-    put_point_names_line(alloc, out, size, ways)
+    out.extend_from_slice(how_many)?;
+    out.extend_from_slice(colour_name(colour))?;
+    out.extend_from_slice(words)?;
+    put_point_names_line(alloc, out, size, points)
 }
 
-/// Writes where one stone of this colour closes the wall, where there are some such points and not too many, or the other points,
-/// behind the text.
+/// Writes words and the points behind the text.
+fn put_words_and_points(
+    alloc: Global,
+    out: &mut Vec<u8>,
+    size: Size,
+    words: &[u8],
+    points: &PointSet,
+) -> Result<(), NoMemory>
+    ensures { OnOk result (out.new.items ≡ out.old.items ++ (words.now ++ point_names_line size points.now)) }
+{
+    out.extend_from_slice(words)?;
+    put_point_names_line(alloc, out, size, points)
+}
+
+/// Writes how stones of this colour may close the wall behind the text.
 #[tactic(auto, unfolding(crate::specs::Marking::how_to_close_text))]
 fn put_how_to_close(
     alloc: Global,
     out: &mut Vec<u8>,
     size: Size,
     colour: Colour,
-    closing: &PointSet,
-    ways: &PointSet,
-    others: &PointSet,
+    way: &WayToClose,
 ) -> Result<(), NoMemory>
-    ensures { OnOk result (out.new.items ≡ out.old.items ++ how_to_close_text size colour closing.now ways.now others.now) }
+    ensures { OnOk result (out.new.items ≡ out.old.items ++ how_to_close_text size colour way.now) }
 {
-    if 0 < closing.count() && closing.count() <= MOST_CLOSING_POINTS {
-        out.extend_from_slice(b"a ")?;
-        out.extend_from_slice(colour_name(colour))?;
-        out.extend_from_slice(b" stone on one of these encloses it:")?;
-        return put_point_names_line(alloc, out, size, closing);
+    match way {
+        WayToClose::OneStone(points) => {
+            let words = b" stone on one of these encloses it:";
+            put_stones_and_points(alloc, out, size, b"a ", colour, words, points)
+        }
+        WayToClose::TwoStones(points) => {
+            let words = b" stones on some of these enclose it:";
+            put_stones_and_points(alloc, out, size, b"two ", colour, words, points)
+        }
+        WayToClose::Nearby(points) => {
+            let words = b"put stones of the wall on some of these, or mark by hand:";
+            put_words_and_points(alloc, out, size, words, points)
+        }
+        WayToClose::WaysOut(points) => {
+            put_words_and_points(
+                alloc,
+                out,
+                size,
+                b"follow these to gaps, if there are any, or mark by hand:",
+                points,
+            )
+        }
     }
-    put_ways_out_or_nearby(alloc, out, size, ways, others)
 }
 
-/// Writes where the chain of a stone of this colour is open, by these points, behind the text.
+/// Writes that the chain of a stone of this colour is open, and how its wall may be closed, behind the text.
 #[tactic(auto, unfolding(crate::specs::Marking::open_text))]
 fn put_open_chain(
     alloc: Global,
@@ -137,19 +162,17 @@ fn put_open_chain(
     size: Size,
     colour: Colour,
     stone: Point,
-    closing: &PointSet,
-    ways: &PointSet,
-    others: &PointSet,
+    way: &WayToClose,
 ) -> Result<(), NoMemory>
     requires { stone < point_count size }
-    ensures { OnOk result (out.new.items ≡ out.old.items ++ open_text size colour stone closing.now ways.now others.now) }
+    ensures { OnOk result (out.new.items ≡ out.old.items ++ open_text size colour stone way.now) }
 {
     put_chain_name(alloc, out, size, colour, stone)?;
     out.extend_from_slice(b" is not enclosed with 2 to 40 points: ")?;
-    put_how_to_close(alloc, out, size, colour.other(), closing, ways, others)
+    put_how_to_close(alloc, out, size, colour.other(), way)
 }
 
-/// Writes where the chain of a stone of this colour is open behind the text.
+/// Writes that the chain of a stone of this colour is open, and how its wall may be closed, behind the text.
 fn put_open_group_line(
     alloc: Global,
     out: &mut Vec<u8>,
@@ -160,19 +183,48 @@ fn put_open_group_line(
     requires { stone < point_count board.now.size }
     ensures { OnOk result (out.new.items ≡ out.old.items ++ open_group_line board.now.size board.now.points colour stone) }
 {
-    let closing = closing_points(board, colour, stone);
-    let ways = ways_out(board, colour, stone);
-    let others = nearby_empties(board, colour, stone);
-    put_open_chain(
-        alloc,
-        out,
-        board.size(),
-        colour,
-        stone,
-        &closing,
-        &ways,
-        &others,
-    )
+    let way = way_to_close(board, colour, stone);
+    put_open_chain(alloc, out, board.size(), colour, stone, &way)
+}
+
+/// Writes how many points the region of an enclosed chain has behind the text.
+#[tactic(auto, unfolding(crate::specs::Marking::enclosed_text))]
+fn put_enclosed_chain(
+    alloc: Global,
+    out: &mut Vec<u8>,
+    size: Size,
+    colour: Colour,
+    stone: Point,
+    count: u16,
+) -> Result<(), NoMemory>
+    requires { stone < point_count size }
+    ensures { OnOk result (out.new.items ≡ out.old.items ++ enclosed_text size colour stone count) }
+{
+    put_chain_name(alloc, out, size, colour, stone)?;
+    let text = format!(in alloc;
+        " is enclosed with {count}, not with 2 to 40 points: mark it by hand\n"
+    )?;
+    out.extend_from_slice(text.as_bytes())?;
+    Ok(())
+}
+
+/// Writes how many points the region of the chain of a stone of this colour has, or where the chain is open, behind the text.
+fn put_unmarked_group_line(
+    alloc: Global,
+    out: &mut Vec<u8>,
+    board: &Board,
+    colour: Colour,
+    stone: Point,
+) -> Result<(), NoMemory>
+    requires { stone < point_count board.now.size }
+    ensures { OnOk result (out.new.items ≡ out.old.items ++ unmarked_group_line board.now.size board.now.points colour stone) }
+{
+    let found = proposed_region(board, colour, stone);
+    if found.walled {
+        let count = found.points.count();
+        return put_enclosed_chain(alloc, out, board.size(), colour, stone, count);
+    }
+    put_open_group_line(alloc, out, board, colour, stone)
 }
 
 /// Writes that no stone stands on a point behind the text.
@@ -202,7 +254,7 @@ fn put_why_unmarked_at_point(
     ensures { OnOk result (out.new.items ≡ out.old.items ++ why_unmarked_at_point game.now stone (entry_at game.now.present stone)) }
 {
     match game.present().at(stone) {
-        Some(colour) => put_open_group_line(alloc, out, game.present(), colour, stone),
+        Some(colour) => put_unmarked_group_line(alloc, out, game.present(), colour, stone),
         None => put_empty_point(alloc, out, game.size(), stone),
     }
 }
@@ -234,48 +286,50 @@ fn put_why_unmarked_or_off_board(
     }
 }
 
-/// Writes a chain and its ways out behind the text.
+/// Writes a chain and the points beside it that lead on behind the text.
 #[tactic(auto, unfolding(crate::specs::Marking::chain_and_ways_out_text))]
 fn put_chain_and_ways_out(
     alloc: Global,
     out: &mut Vec<u8>,
     size: Size,
-    opening: &StoneWithPoints,
+    found: &StoneWithPoints,
 ) -> Result<(), NoMemory>
-    requires { opening.now.stone < point_count size }
-    ensures { OnOk result (out.new.items ≡ out.old.items ++ chain_and_ways_out_text size opening.now) }
+    requires { found.now.stone < point_count size }
+    ensures { OnOk result (out.new.items ≡ out.old.items ++ chain_and_ways_out_text size found.now) }
 {
-    put_chain_name(alloc, out, size, opening.colour, opening.stone)?;
-    out.extend_from_slice(b", which gets out by way of")?;
-    put_point_names_line(alloc, out, size, &opening.points)
+    put_chain_name(alloc, out, size, found.colour, found.stone)?;
+    out.extend_from_slice(b":")?;
+    put_point_names_line(alloc, out, size, &found.points)
 }
 
-/// Writes which chain is open least, where one is, behind the text.
-fn put_least_open_group_line(
+/// Writes which chain has the fewest ways out, where one is, behind the text.
+fn put_fewest_ways_out_line(
     alloc: Global,
     out: &mut Vec<u8>,
     size: Size,
-    opening: &Option<StoneWithPoints>,
+    found: &Option<StoneWithPoints>,
 ) -> Result<(), NoMemory>
-    requires { IfSome opening.now (λ m. m.stone < point_count size) }
-    ensures { OnOk result (out.new.items ≡ out.old.items ++ no_enclosed_group_text size opening.now) }
+    requires { IfSome found.now (λ m. m.stone < point_count size) }
+    ensures { OnOk result (out.new.items ≡ out.old.items ++ no_enclosed_group_text size found.now) }
 {
-    match opening {
-        Some(opening) => {
-            out.extend_from_slice(b"no group is enclosed with 2 to 40 points: least open is ")?;
-            put_chain_and_ways_out(alloc, out, size, opening)
+    match found {
+        Some(found) => {
+            out.extend_from_slice(
+                b"no group was found that is enclosed with 2 to 40 points: close the wall, or name a stone of the group; the fewest points lead on from ",
+            )?;
+            put_chain_and_ways_out(alloc, out, size, found)
         }
         None => Ok(out.extend_from_slice(
-            b"no group is enclosed with 2 to 40 points: close the wall, or name a stone of the group\n",
+            b"no group was found that is enclosed with 2 to 40 points: close the wall, or name a stone of the group\n",
         )?),
     }
 }
 
-/// Writes that no group is enclosed, and where the least open one gets out, behind the text.
+/// Writes that no group is enclosed, and which chain has the fewest ways out, behind the text.
 fn put_no_group_enclosed(alloc: Global, out: &mut Vec<u8>, game: &Game) -> Result<(), NoMemory>
     ensures { OnOk result (out.new.items ≡ out.old.items ++ why_no_group_enclosed game.now true true) }
 {
-    put_least_open_group_line(alloc, out, game.size(), &stone_with_fewest_ways_out(game))
+    put_fewest_ways_out_line(alloc, out, game.size(), &stone_with_fewest_ways_out(game))
 }
 
 /// Whether a stone of a colour is on the board.
@@ -285,7 +339,7 @@ fn is_colour_on_board(game: &Game, colour: Colour) -> bool
     0 < stones_of_colour(game.present(), colour).count()
 }
 
-/// Writes that no group is enclosed, and where the least open one gets out; or that there is no wall, behind the text.
+/// Writes that no group is enclosed, and which chain has the fewest ways out; or that there is no wall, behind the text.
 fn put_why_no_group_enclosed(alloc: Global, out: &mut Vec<u8>, game: &Game) -> Result<(), NoMemory>
     ensures { OnOk result (out.new.items ≡ out.old.items ++ why_no_group_enclosed game.now (is_colour_on_board game.now Black) (is_colour_on_board game.now White)) }
 {
@@ -531,7 +585,7 @@ fn put_unsquared_node_line(
     number: usize,
     node: usize,
 ) -> Result<(), NoMemory>
-    ensures { OnOk result (out.new.items ≡ out.old.items ++ unsquared_node_line number (Some node)) }
+    ensures { OnOk result (out.new.items ≡ out.old.items ++ kept_marks_line number (Some node)) }
 {
     let text = format!(in alloc;
         "{number} not marked: a triangle stands in node {node}, without squares: put SQ there, or take TR out\n"
@@ -540,22 +594,33 @@ fn put_unsquared_node_line(
     Ok(())
 }
 
-/// Writes the line on a problem with a node whose triangles have no squares, where there is one, behind the text.
-fn put_unsquared_node_if_any(
+/// Writes that the marks of a problem stay behind the text.
+fn put_marks_stay_line(alloc: Global, out: &mut Vec<u8>, number: usize) -> Result<(), NoMemory>
+    ensures { OnOk result (out.new.items ≡ out.old.items ++ kept_marks_line number None) }
+{
+    let text = format!(in alloc;
+        "{number} keeps its marks: take TR and SQ out to have others proposed\n"
+    )?;
+    out.extend_from_slice(text.as_bytes())?;
+    Ok(())
+}
+
+/// Writes the line on the marks of a problem, by the node whose triangles have no squares, where there is one, behind the text.
+fn put_kept_marks_line(
     alloc: Global,
     out: &mut Vec<u8>,
     number: usize,
     node: Option<usize>,
 ) -> Result<(), NoMemory>
-    ensures { OnOk result (out.new.items ≡ out.old.items ++ unsquared_node_line number node) }
+    ensures { OnOk result (out.new.items ≡ out.old.items ++ kept_marks_line number node) }
 {
     match node {
         Some(node) => put_unsquared_node_line(alloc, out, number, node),
-        None => Ok(()),
+        None => put_marks_stay_line(alloc, out, number),
     }
 }
 
-/// Writes a tree that is a problem as it was behind the text. Where it has no squares, a line says so.
+/// Writes the line on the marks of a tree that is a problem, and the tree as it was, behind the text.
 pub fn put_kept_problem(
     alloc: Global,
     out: &mut Vec<u8>,
@@ -565,6 +630,6 @@ pub fn put_kept_problem(
 ) -> Result<(), NoMemory>
     ensures { OnOk result (out.new.items ≡ out.old.items ++ kept_problem_text number tree.now nodes.now) }
 {
-    put_unsquared_node_if_any(alloc, out, number, unsquared_triangle_node(nodes))?;
+    put_kept_marks_line(alloc, out, number, unsquared_triangle_node(nodes))?;
     put_tree_as_given(out, tree)
 }

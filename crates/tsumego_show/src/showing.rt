@@ -2,7 +2,8 @@
 ghost use Rattle.std.specs.Prelude.{◌≡◌, ◌++◌, if◌then◌else◌, ℕ, List, [], true, IfOk, OnOk};
 ghost use Rattle.tt_game.specs.Problems.{game_of, problem_of};
 ghost use Rattle.tsumego_show.specs.declared.mode.Mode.TheVariants.{Picture, Variations};
-ghost use Rattle.tsumego_show.specs.Shown.{IsFollowingText, IsDiagram, IsProblemText, IsShown, IsGameTreeText, non_problem_text, is_only_tree, game_board_text, is_non_problem_refused, is_problem_refused, mode_refuses_tree, picture_and_hints_text, refusal_and_board_text, not_drawn_line, no_strategy_words};
+ghost use Rattle.tsumego_show.specs.inside.Trees.{found_of};
+ghost use Rattle.tsumego_show.specs.Shown.{IsFollowingText, IsDiagram, IsProblemText, IsShown, IsGameTreeText, non_problem_text, is_only_tree, game_board_text, is_non_problem_refused, is_problem_refused, mode_refuses_tree, picture_and_hints_text, refusal_and_board_text, not_drawn_line, no_certificate_words, no_strategy_words};
 
 use crate::diagram::put_svg;
 use crate::following_strategy::{claimed_winner, read_following_strategy};
@@ -16,7 +17,8 @@ use crate::strategy_listing::put_certificate_listing;
 use crate::tree_bytes::has_no_parenthesis;
 use crate::variations::put_sgf;
 use std::alloc::Global;
-use tt_game::{GameFault, Line, game_before_solution, problem};
+use tt_game::{GameFault, Line, Side, game_before_solution, problem};
+use tt_proof::Tree;
 use tt_sgf::{MainLine, NoMemory, Node, SgfFault, has_tree, read_tree, trim};
 
 /// Writes the text on what follows a problem behind the text, where it is the last of an input.
@@ -83,7 +85,24 @@ fn put_not_drawn_line(alloc: Global, out: &mut Vec<u8>, number: usize) -> Result
     Ok(())
 }
 
-/// Writes a problem, with the solution of the strategy behind it and who wins by it, as a diagram behind the text.
+/// What is said below a diagram where something stands behind its problem that is no strategy.
+fn no_certificate_words(behind: &[u8], found: &Option<(Side, Tree)>) -> &'static [u8]
+    ensures { result.now ≡ no_certificate_words behind.now (found_of found.now) }
+{
+    match found {
+        Some(_) => b"",
+        None => {
+            if !trim(behind).is_empty() {
+                b": no certificate"
+            } else {
+                b""
+            }
+        }
+    }
+}
+
+/// Writes a problem, with the solution of the strategy behind it and who wins by it, or that no certificate stands there, as a diagram
+/// behind the text.
 fn put_sole_diagram(
     alloc: Global,
     out: &mut Vec<u8>,
@@ -96,7 +115,8 @@ fn put_sole_diagram(
     let found = read_following_strategy(alloc, line.frame().size, behind)?;
     let plays = numbered_plays(alloc, line, &found)?;
     let winner = claimed_winner(line, &found);
-    put_svg(alloc, out, line, plays.as_slice(), winner)
+    let words = no_certificate_words(behind, &found);
+    put_svg(alloc, out, line, plays.as_slice(), winner, words)
 }
 
 /// Writes the diagram of a problem behind the text, or that it isn't drawn.

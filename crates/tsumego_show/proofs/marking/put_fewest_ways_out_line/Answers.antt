@@ -1,5 +1,5 @@
 use Rattle.tsumego_show.proofs.Texts.{behind_words}
-use Rattle.tsumego_show.proofs.marking.put_least_open_group_line.Goals as goal
+use Rattle.tsumego_show.proofs.marking.put_fewest_ways_out_line.Goals as goal
 
 pub returns-in_ok-extend_from_slice-in-Some : goal.returns-in_ok-extend_from_slice-in-Some
 returns-in_ok-extend_from_slice-in-Some c =
