@@ -5,7 +5,7 @@ use Rattle.tt_sgf.specs.declared.size.Size.{Size}
 use Rattle.tt_sgf.specs.Sizes.{point_count}
 use Rattle.tt_board.specs.Play.{is_empty}
 use Rattle.tt_board.specs.Reach.{entry_at}
-use Rattle.tt_game.specs.declared.faults.WhyIllegal.{WhyIllegal}
+use Rattle.tt_game.specs.declared.faults.Why.{Why}
 use Rattle.tt_game.specs.declared.frame.Frame.{Frame}
 use Rattle.tt_game.specs.declared.turns.Turn.{Turn}
 use Rattle.tt_game.specs.declared.turns.Turn.TheVariants.{Play, Pass}
@@ -31,7 +31,7 @@ module _ (f : Frame) (s : State) (q : ℕ) (behind : List ℕ) where
   played l = ap line_if ((is_legal_is_exact f s (Play q)).1 l)
 
   -- a turn that is refused
-  pub refused : (why : WhyIllegal) → IsRefusalOfTurn f s (Play q) why → [] ≡ plays_from_turn f s (Play q) behind
+  pub refused : (why : Why) → IsRefusalOfTurn f s (Play q) why → [] ≡ plays_from_turn f s (Play q) behind
   unfolding line_if
   refused why r = sym (ap line_if ((is_legal_is_exact f s (Play q)).2 (not_legal f s (Play q) why r)))
 

@@ -3,8 +3,8 @@ use Rattle.std.proofs.Common.{◌≡◌, ◌<◌, ◌-◌, ℕ, zero, suc, List,
 use Rattle.std.specs.declared.result.Result.{Result}
 use Rattle.tt_sgf.specs.Bytes.{close_tree}
 use Rattle.tt_board.specs.declared.Colour.{Colour}
-use Rattle.tt_game.specs.declared.faults.WhyIllegal.{WhyIllegal}
-use Rattle.tt_game.specs.declared.faults.WhyIllegal.TheVariants.{Over, Occupied, Outside, Repeats}
+use Rattle.tt_game.specs.declared.faults.Why.{Why}
+use Rattle.tt_game.specs.declared.faults.Why.TheVariants.{Over, Occupied, Outside, Repeats}
 use Rattle.tt_game.specs.declared.frame.Frame.{Frame}
 use Rattle.tt_game.specs.declared.turns.Turn.{Turn}
 use Rattle.tt_game.specs.declared.turns.Turn.TheVariants.{Play, Pass}
@@ -15,7 +15,7 @@ use Rattle.tt_proof.specs.Strategy.{Strategy, Entries, pick, reply}
 use Rattle.tsumego_show.specs.Variations.{variation_if_legal, variation_head, turns_or_ending, reply_variations, variations}
 
 -- a turn that is refused isn't legal
-pub not_legal : (f : Frame) (s : State) (t : Turn) (why : WhyIllegal) → IsRefusalOfTurn f s t why → IsLegal f s t → ⊥
+pub not_legal : (f : Frame) (s : State) (t : Turn) (why : Why) → IsRefusalOfTurn f s t why → IsLegal f s t → ⊥
 not_legal f s Pass Over r l = r l
 not_legal f s (Play p) Over r l = r l.0
 not_legal f s Pass Occupied r l = r
@@ -34,7 +34,7 @@ module _ (f : Frame) (s : State) (t : Turn) (behind : List ℕ) where
   legal_written l = ap text_if ((is_legal_is_exact f s t).1 l)
 
   -- nothing is written of a turn that is refused
-  pub refused_written : (old : List ℕ) (why : WhyIllegal) → IsRefusalOfTurn f s t why → old ≡ old ++ variation_if_legal f s t behind
+  pub refused_written : (old : List ℕ) (why : Why) → IsRefusalOfTurn f s t why → old ≡ old ++ variation_if_legal f s t behind
   unfolding text_if
   refused_written old why r = sym (ap (λ (b : Bool). old ++ text_if b) ((is_legal_is_exact f s t).2 (not_legal f s t why r)) ∙ append-nil old)
 

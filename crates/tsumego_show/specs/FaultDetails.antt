@@ -134,17 +134,17 @@ first_or_second None other = other
 module _ (size : Size) (n : Node) where
   -- of a list of points
   abbrev pub unreadable_point_of : List ℕ → Option (List ℕ)
-  unreadable_point_of name = first_unreadable_point size (values_of name n.properties)
+  unreadable_point_of name = first_unreadable_point size (values_of name n.props)
 
   abbrev pub unreadable_setup_value : Option PropertyValue
   unreadable_setup_value = property_value_or AB (unreadable_point_of AB) (property_value_or AW (unreadable_point_of AW) (property_value_or AE (unreadable_point_of AE) None))
 
   abbrev pub unreadable_move_value : Option PropertyValue
-  unreadable_move_value = property_value_or B (unreadable_move_of size (values_of B n.properties)) (property_value_or W (unreadable_move_of size (values_of W n.properties)) None)
+  unreadable_move_value = property_value_or B (unreadable_move_of size (values_of B n.props)) (property_value_or W (unreadable_move_of size (values_of W n.props)) None)
 
   -- PL is read where there is no move
   abbrev pub unreadable_move_or_pl_value : Option PropertyValue
-  unreadable_move_or_pl_value = if nat_le 1 (move_count n) then unreadable_move_value else property_value_or PL (unreadable_colour (values_of PL n.properties)) None
+  unreadable_move_or_pl_value = if nat_le 1 (move_count n) then unreadable_move_value else property_value_or PL (unreadable_colour (values_of PL n.props)) None
 
   abbrev pub unreadable_mark_value : Option PropertyValue
   unreadable_mark_value = property_value_or TR (unreadable_point_of TR) (property_value_or SQ (unreadable_point_of SQ) None)
@@ -181,8 +181,8 @@ unreadable_value_line (Some v) = codes "look at: " ++ (v.0 ++ (bracketed (value_
 
 -- the size of the board
 abbrev pub size_by_first_node : List Node → Node → Option Size
-size_by_first_node [] n = size_or_default (values_of SZ n.properties)
-size_by_first_node (m ∷ ms) n = size_or_default (values_of SZ m.properties)
+size_by_first_node [] n = size_or_default (values_of SZ n.props)
+size_by_first_node (m ∷ ms) n = size_or_default (values_of SZ m.props)
 
 abbrev pub look_at_text_for_size : GameFault → List Node → Node → Option Size → List ℕ
 look_at_text_for_size e front n None = []

@@ -137,7 +137,7 @@ abbrev pub is_unclosed_comment : List ℕ → Property → Bool
 is_unclosed_comment name p = pointwise ◌==◌ p.ident (codes "C") && list_any (is_opener_unclosed name) p.values
 
 abbrev pub has_unclosed_comment : List ℕ → Node → Bool
-has_unclosed_comment name n = list_any (is_unclosed_comment name) n.properties
+has_unclosed_comment name n = list_any (is_unclosed_comment name) n.props
 
 abbrev pub unclosed_comment_line : List ℕ → List ℕ → List Node → List ℕ
 unclosed_comment_line opener words ns =

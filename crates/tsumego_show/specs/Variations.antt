@@ -96,7 +96,7 @@ first_value_text name (v ∷ vs) = name ++ bracketed v
 -- a property of the first node, where it has it
 abbrev pub kept_property : List ℕ → List Node → List ℕ
 kept_property name [] = []
-kept_property name (n ∷ ns) = first_value_text name (values_of name n.properties)
+kept_property name (n ∷ ns) = first_value_text name (values_of name n.props)
 
 -- its comment, where this text of a strategy is empty or begins with a variation: else it begins with a comment, and a node has one at most
 abbrev pub kept_comment : List Node → List ℕ → List ℕ

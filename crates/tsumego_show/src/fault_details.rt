@@ -33,7 +33,7 @@ pub struct StoneSets {
 fn points_of_property(size: Size, node: &Node, name: &[u8]) -> PointSet
     ensures { result ≡ points_of_property size node.now name.now }
 {
-    match named_set(node.properties.as_slice(), name, size) {
+    match named_set(node.props.as_slice(), name, size) {
         Ok(points) => points,
         Err(_) => PointSet::empty(),
     }
@@ -221,7 +221,7 @@ fn value_or_dots(value: &[u8]) -> &[u8]
 fn unreadable_point_of<'a>(size: Size, node: &'a Node, name: &[u8]) -> Option<&'a [u8]>
     ensures { MatchOption result (unreadable_point_of size node.now name.now ≡ None) (λ v. unreadable_point_of size node.now name.now ≡ Some v.now) }
 {
-    let mut rest = node.properties.as_slice();
+    let mut rest = node.props.as_slice();
     while let Some((property, behind)) = rest.split_first() {
         if property.ident.as_slice() == name {
             if let Some(value) = first_unreadable_point(size, property.values.as_slice()) {
@@ -251,9 +251,9 @@ fn unreadable_setup_value(size: Size, node: &Node) -> Option<PropertyValue<'_>>
 
 /// The value of a move of this colour that is neither a point nor a pass.
 fn unreadable_move_of<'a>(size: Size, node: &'a Node, name: &[u8]) -> Option<&'a [u8]>
-    ensures { MatchOption result (unreadable_move_of size (values_of name.now node.now.properties) ≡ None) (λ v. unreadable_move_of size (values_of name.now node.now.properties) ≡ Some v.now) }
+    ensures { MatchOption result (unreadable_move_of size (values_of name.now node.now.props) ≡ None) (λ v. unreadable_move_of size (values_of name.now node.now.props) ≡ Some v.now) }
 {
-    let value = first_value(node.properties.as_slice(), name)?;
+    let value = first_value(node.props.as_slice(), name)?;
     match point(value, size) {
         Some(_) => None,
         None => Some(value),
@@ -274,9 +274,9 @@ fn is_colour(value: &[u8]) -> bool
 
 /// The value of PL that is no colour.
 fn unreadable_colour(node: &Node) -> Option<&[u8]>
-    ensures { MatchOption result (unreadable_colour (values_of PL node.now.properties) ≡ None) (λ v. unreadable_colour (values_of PL node.now.properties) ≡ Some v.now) }
+    ensures { MatchOption result (unreadable_colour (values_of PL node.now.props) ≡ None) (λ v. unreadable_colour (values_of PL node.now.props) ≡ Some v.now) }
 {
-    let value = first_value(node.properties.as_slice(), b"PL")?;
+    let value = first_value(node.props.as_slice(), b"PL")?;
     if is_colour(value) {
         return None;
     }
@@ -357,7 +357,7 @@ fn size_by_first_node(front: &MainLine, node: &Node) -> Option<Size>
         Some((first, _)) => first,
         None => node,
     };
-    match first_value(first.properties.as_slice(), b"SZ") {
+    match first_value(first.props.as_slice(), b"SZ") {
         Some(value) => board_size(value),
         None => Size::new(19, 19),
     }

@@ -367,7 +367,7 @@ fn is_unclosed_comment(property: &Property, name: &[u8]) -> bool
 fn has_unclosed_comment(node: &Node, name: &[u8]) -> bool
     ensures { result ≡ has_unclosed_comment name.now node.now }
 {
-    let properties = node.properties.as_slice();
+    let properties = node.props.as_slice();
     properties
         .iter()
         .any(|property| is_unclosed_comment(property, name))

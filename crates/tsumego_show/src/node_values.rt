@@ -25,5 +25,5 @@ pub fn first_value<'a>(properties: &'a [Property], name: &[u8]) -> Option<&'a [u
 pub fn has_property(node: &Node, name: &[u8]) -> bool
     ensures { result ≡ has name.now node.now }
 {
-    first_value(node.properties.as_slice(), name).is_some()
+    first_value(node.props.as_slice(), name).is_some()
 }

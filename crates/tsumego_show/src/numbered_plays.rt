@@ -11,7 +11,7 @@ ghost use Rattle.tsumego_show.specs.Variations.{shown_depth};
 use crate::depths::shown_depth;
 use crate::following_strategy::is_for_mover;
 use std::alloc::Global;
-use tt_game::{Line, PushError, Side, Turn};
+use tt_game::{Line, Refused, Side, Turn};
 use tt_proof::Tree;
 use tt_sgf::{NoMemory, Point};
 
@@ -71,8 +71,8 @@ fn plays_from_turn(
             line.pop();
             made
         }
-        Err(PushError::Illegal(_)) => Ok(Vec::new(alloc)),
-        Err(PushError::NoMemory) => Err(NoMemory),
+        Err(Refused::Illegal(_)) => Ok(Vec::new(alloc)),
+        Err(Refused::NoMemory) => Err(NoMemory),
     }
 }
 

@@ -19,7 +19,7 @@ use crate::picture::{
 use crate::points::{has_stone_of_colour, is_target, point_numbered};
 use std::alloc::Global;
 use tt_board::Colour;
-use tt_game::{Line, PushError, Side, Turn};
+use tt_game::{Line, Refused, Side, Turn};
 use tt_proof::{Tree, put_turn};
 use tt_sgf::{NoMemory, Node, Property, Size};
 
@@ -215,7 +215,7 @@ fn put_kept_property(out: &mut Vec<u8>, name: &[u8], nodes: &[Node]) -> Result<(
     ensures { OnOk result (out.new.items ≡ out.old.items ++ kept_property name.now nodes.now) }
 {
     match nodes.first() {
-        Some(node) => put_first_value(out, name, node.properties.as_slice()),
+        Some(node) => put_first_value(out, name, node.props.as_slice()),
         None => Ok(()),
     }
 }
@@ -342,8 +342,8 @@ fn put_variation_if_legal(
             line.pop();
             put
         }
-        Err(PushError::Illegal(_)) => Ok(()),
-        Err(PushError::NoMemory) => Err(NoMemory),
+        Err(Refused::Illegal(_)) => Ok(()),
+        Err(Refused::NoMemory) => Err(NoMemory),
     }
 }
 

@@ -26,7 +26,7 @@ use Rattle.tt_board.specs.Stones.{PointNumberSet, any_empty}
 use Rattle.tt_board.specs.Setup.{placed}
 use Rattle.tt_game.specs.declared.faults.GameFault.{GameFault}
 use Rattle.tt_game.specs.declared.faults.GameFault.TheVariants.{NoTarget}
-use Rattle.tt_game.specs.declared.faults.WhyIllegal.{WhyIllegal}
+use Rattle.tt_game.specs.declared.faults.Why.{Why}
 use Rattle.tt_game.specs.declared.records.Record.{Record}
 use Rattle.tt_game.specs.declared.records.GameSoFar.{GameSoFar}
 use Rattle.tt_game.specs.declared.turns.Turn.{Turn}
@@ -125,7 +125,7 @@ turn_made r t q e = elim (choice (r.game.passes == 2) _ _ _ e) [
   ]
 ]
   where
-    gone : (o : Option WhyIllegal) → turn_or_fault r t o ≡ Ok q → (o ≡ None) × (after_turn r t ≡ q)
+    gone : (o : Option Why) → turn_or_fault r t o ≡ Ok q → (o ≡ None) × (after_turn r t ≡ q)
     gone None h = let same : after_turn r t ≡ q = cc in (refl, same)
     gone (Some why) h = let bad : Err _ ≡ Ok q = h in cc
 
@@ -234,11 +234,11 @@ unfolding step_node
 node_does r n q e = elim (choice (is_setup n) _ _ _ e) [
   | inl setup ↦ elim (choice (nat_le 1 (move_count n)) _ _ _ setup.1) [
     | inl mixed ↦ let bad : Err _ ≡ Ok q = mixed.1 in cc
-    | inr pure ↦ inl (setup.0, set_up_anew r (set_named r.game.size AB n) (set_named r.game.size AW n) (set_named r.game.size AE n) (mover_of_values (values_of PL n.properties)) q pure.1)
+    | inr pure ↦ inl (setup.0, set_up_anew r (set_named r.game.size AB n) (set_named r.game.size AW n) (set_named r.game.size AE n) (mover_of_values (values_of PL n.props)) q pure.1)
   ]
   | inr moves ↦ elim (choice (nat_le 2 (move_count n)) _ _ _ moves.1) [
     | inl mixed ↦ let bad : Err _ ≡ Ok q = mixed.1 in cc
-    | inr pure ↦ inr (moves.0, move_goes r (values_of B n.properties) (values_of W n.properties) q pure.1)
+    | inr pure ↦ inr (moves.0, move_goes r (values_of B n.props) (values_of W n.props) q pure.1)
   ]
 ]
 
@@ -272,8 +272,8 @@ empty_lawful (Some size) q e =
 begin_lawful : (ns : List Node) (q : GameSoFar) → empty_game_for_nodes ns ≡ Ok q → IsLawful q
 unfolding empty_game_for_root
 begin_lawful [] q e = empty_lawful (sized 19 19) q e
-begin_lawful (n ∷ ns) q e = elim (choice (is_go (values_of GM n.properties)) _ _ _ e) [
-  | inl go ↦ empty_lawful (size_or_default (values_of SZ n.properties)) q go.1
+begin_lawful (n ∷ ns) q e = elim (choice (is_go (values_of GM n.props)) _ _ _ e) [
+  | inl go ↦ empty_lawful (size_or_default (values_of SZ n.props)) q go.1
   | inr other ↦ let bad : Err _ ≡ Ok q = other.1 in cc
 ]
 

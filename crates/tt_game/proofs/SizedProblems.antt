@@ -15,7 +15,7 @@ use Rattle.tt_board.specs.Position.{Colouring}
 use Rattle.tt_board.specs.Play.{length-play_of, same_colour}
 use Rattle.tt_board.specs.Stones.{PointNumberSet, any_empty}
 use Rattle.tt_board.specs.Setup.{length-placed, placed}
-use Rattle.tt_game.specs.declared.faults.WhyIllegal.{WhyIllegal}
+use Rattle.tt_game.specs.declared.faults.Why.{Why}
 use Rattle.tt_game.specs.declared.records.GameSoFar.{GameSoFar}
 use Rattle.tt_game.specs.declared.turns.Turn.{Turn}
 use Rattle.tt_game.specs.declared.turns.Turn.TheVariants.{Play, Pass}
@@ -43,7 +43,7 @@ sized_turned g (Play p) h = All-push (λ c. length c ≡ point_count g.size) (ga
 -- ---- turns
 
 -- so does a turn that was taken: alone, of a colour, by a value, or as a node's move
-sized_on : (r : GameSoFar) (t : Turn) (o : Option WhyIllegal) (q : GameSoFar) → turn_or_fault r t o ≡ Ok q → IsSized r.game → IsSized q.game
+sized_on : (r : GameSoFar) (t : Turn) (o : Option Why) (q : GameSoFar) → turn_or_fault r t o ≡ Ok q → IsSized r.game → IsSized q.game
 sized_on r t None q e h =
     let same : record { game = game_after_turn r.game t; turns = r.turns + 1 } ≡ q = cc in
     subst (λ (x : GameSoFar). IsSized x.game) same (sized_turned r.game t h)
@@ -105,11 +105,11 @@ unfolding step_node
 sized_step r n q e h = elim (either (is_setup n) _ _ _ e) [
   | inl setup ↦ elim (either (nat_le 1 (move_count n)) _ _ _ setup) [
     | inl mixed ↦ let bad : Err _ ≡ Ok q = mixed in cc
-    | inr pure ↦ sized_set_up r (set_named r.game.size AB n) (set_named r.game.size AW n) (set_named r.game.size AE n) (mover_of_values (values_of PL n.properties)) q pure
+    | inr pure ↦ sized_set_up r (set_named r.game.size AB n) (set_named r.game.size AW n) (set_named r.game.size AE n) (mover_of_values (values_of PL n.props)) q pure
   ]
   | inr moves ↦ elim (either (nat_le 2 (move_count n)) _ _ _ moves) [
     | inl mixed ↦ let bad : Err _ ≡ Ok q = mixed in cc
-    | inr pure ↦ sized_move r (values_of B n.properties) (values_of W n.properties) q pure h
+    | inr pure ↦ sized_move r (values_of B n.props) (values_of W n.props) q pure h
   ]
 ]
 
@@ -124,8 +124,8 @@ sized_empty (Some size) q e =
 sized_begin : (ns : List Node) (q : GameSoFar) → empty_game_for_nodes ns ≡ Ok q → IsSized q.game
 unfolding empty_game_for_root
 sized_begin [] q e = sized_empty (sized 19 19) q e
-sized_begin (n ∷ ns) q e = elim (either (is_go (values_of GM n.properties)) _ _ _ e) [
-  | inl go ↦ sized_empty (size_or_default (values_of SZ n.properties)) q go
+sized_begin (n ∷ ns) q e = elim (either (is_go (values_of GM n.props)) _ _ _ e) [
+  | inl go ↦ sized_empty (size_or_default (values_of SZ n.props)) q go
   | inr other ↦ let bad : Err _ ≡ Ok q = other in cc
 ]
 

@@ -7,10 +7,10 @@ use Rattle.tt_board.specs.declared.Colour.TheVariants.{Black}
 use Rattle.tt_board.specs.Position.{Colouring}
 use Rattle.tt_board.specs.Reach.{entry_at}
 use Rattle.tt_board.specs.Play.{play_of, other, is_empty}
-use Rattle.tt_game.specs.declared.faults.WhyIllegal.{WhyIllegal}
-use Rattle.tt_game.specs.declared.faults.WhyIllegal.TheVariants.{Over, Occupied, Repeats}
-use Rattle.tt_game.specs.declared.faults.PushError.{PushError}
-use Rattle.tt_game.specs.declared.faults.PushError.TheVariants.{Illegal, NoMemory}
+use Rattle.tt_game.specs.declared.faults.Why.{Why}
+use Rattle.tt_game.specs.declared.faults.Why.TheVariants.{Over, Occupied, Repeats}
+use Rattle.tt_game.specs.declared.faults.Refused.{Refused}
+use Rattle.tt_game.specs.declared.faults.Refused.TheVariants.{Illegal, NoMemory}
 use Rattle.tt_game.specs.declared.turns.Turn.{Turn}
 use Rattle.tt_game.specs.declared.turns.Turn.TheVariants.{Play, Pass}
 use Rattle.tt_game.specs.GameHistory.{GameHistory, so_far, with_next_colouring, with_pass, new_game_history}
@@ -42,11 +42,11 @@ abbrev pub colouring_after_move : GameState → ℕ → Colouring
 colouring_after_move s p = play_of s.size s.present s.to_move p
 
 -- why a move is refused: a stone is there, or the colouring has been
-abbrev pub move_refusal : GameState → ℕ → Option WhyIllegal
+abbrev pub move_refusal : GameState → ℕ → Option Why
 move_refusal s p = cond (is_empty (entry_at s.present p)) (cond (repeats (game_colourings s) (colouring_after_move s p)) (Some Repeats) None) (Some Occupied)
 
 -- why a turn is refused: two passes ended the game, or the move is refused
-abbrev pub refusal_of : GameState → Turn → Option WhyIllegal
+abbrev pub refusal_of : GameState → Turn → Option Why
 refusal_of s Pass = cond (s.passes == 2) (Some Over) None
 refusal_of s (Play p) = cond (s.passes == 2) (Some Over) (move_refusal s p)
 
@@ -56,7 +56,7 @@ game_after_turn s Pass = game_from_history (with_pass (game_history s)) (other s
 game_after_turn s (Play p) = game_from_history (with_next_colouring (game_history s) (colouring_after_move s p)) (other s.to_move)
 
 -- an error of a push
-abbrev pub IsGamePushError : GameState → Turn → PushError → Type 0
+abbrev pub IsGamePushError : GameState → Turn → Refused → Type 0
 IsGamePushError s t (Illegal why) = refusal_of s t ≡ Some why
 IsGamePushError s t NoMemory = refusal_of s t ≡ None
 

@@ -5,10 +5,10 @@ use Rattle.tt_sgf.specs.Sizes.{point_count}
 use Rattle.tt_board.specs.Position.{Position}
 use Rattle.tt_board.specs.Reach.{entry_at}
 use Rattle.tt_board.specs.Stones.{IsSetOnBoard}
-use Rattle.tt_game.specs.declared.faults.WhyIllegal.{WhyIllegal}
-use Rattle.tt_game.specs.declared.faults.WhyIllegal.TheVariants.{Over, Occupied, Outside, Repeats}
-use Rattle.tt_game.specs.declared.faults.PushError.{PushError}
-use Rattle.tt_game.specs.declared.faults.PushError.TheVariants.{Illegal, NoMemory}
+use Rattle.tt_game.specs.declared.faults.Why.{Why}
+use Rattle.tt_game.specs.declared.faults.Why.TheVariants.{Over, Occupied, Outside, Repeats}
+use Rattle.tt_game.specs.declared.faults.Refused.{Refused}
+use Rattle.tt_game.specs.declared.faults.Refused.TheVariants.{Illegal, NoMemory}
 use Rattle.tt_game.specs.declared.frame.Frame.{Frame}
 use Rattle.tt_game.specs.declared.turns.Turn.{Turn}
 use Rattle.tt_game.specs.declared.turns.Turn.TheVariants.{Play, Pass}
@@ -47,7 +47,7 @@ abbrev pub HasBoardInHistory : Frame → State → Position → Type 0
 HasBoardInHistory f s b = (b.size ≡ f.size) × IsInHistory (history s) b.points
 
 -- why a turn is refused: the first cause that holds
-abbrev pub IsRefusalOfTurn : Frame → State → Turn → WhyIllegal → Type 0
+abbrev pub IsRefusalOfTurn : Frame → State → Turn → Why → Type 0
 IsRefusalOfTurn f s t Over = winner_of f s ≢ None
 IsRefusalOfTurn f s Pass Occupied = ⊥
 IsRefusalOfTurn f s (Play p) Occupied = (winner_of f s ≡ None) × (entry_at s.present p ≢ None)
@@ -58,7 +58,7 @@ IsRefusalOfTurn f s (Play p) Repeats =
     (winner_of f s ≡ None) × (entry_at s.present p ≡ None) × IsTrue (set.contains f.region p) × IsInHistory (history s) (colouring_after_play f s p)
 
 -- an error of a push
-abbrev pub IsPushError : Frame → State → Turn → PushError → Type 0
+abbrev pub IsPushError : Frame → State → Turn → Refused → Type 0
 IsPushError f s t (Illegal why) = IsRefusalOfTurn f s t why
 IsPushError f s t NoMemory = IsLegal f s t
 

@@ -59,11 +59,11 @@ has_some_value (v ∷ vs) = true
 
 -- a property has a value in the node
 abbrev pub has : List ℕ → Node → Bool
-has name n = has_some_value (values_of name n.properties)
+has name n = has_some_value (values_of name n.props)
 
 -- the points that the property names, or none where an entry is bad
 abbrev pub set_named : Size → List ℕ → Node → Option PointNumberSet
-set_named size name n = set_of size (values_of name n.properties)
+set_named size name n = set_of size (values_of name n.props)
 
 -- a function returned the set that is named, or an error where an entry is bad
 abbrev pub ReadsSet : {E : Type 0} → Result PointNumberSet E → Option PointNumberSet → Type 0
@@ -85,7 +85,7 @@ apart a b = set.len (set.intersection a b) == 0
 
 -- how many moves the node has, of either colour
 abbrev pub move_count : Node → ℕ
-move_count n = length (values_of B n.properties) + length (values_of W n.properties)
+move_count n = length (values_of B n.props) + length (values_of W n.props)
 
 -- a node with AB, AW or AE sets up, and one with PL and no move
 abbrev pub is_setup : Node → Bool

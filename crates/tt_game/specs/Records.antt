@@ -16,8 +16,8 @@ use Rattle.tt_board.specs.Play.{same_colour, is_empty}
 use Rattle.tt_board.specs.Stones.{PointNumberSet}
 use Rattle.tt_board.specs.Setup.{placed}
 use Rattle.tt_board.specs.Score.{score_of}
-use Rattle.tt_game.specs.declared.faults.WhyIllegal.{WhyIllegal}
-use Rattle.tt_game.specs.declared.faults.WhyIllegal.TheVariants.{Over, Occupied, Outside, Repeats}
+use Rattle.tt_game.specs.declared.faults.Why.{Why}
+use Rattle.tt_game.specs.declared.faults.Why.TheVariants.{Over, Occupied, Outside, Repeats}
 use Rattle.tt_game.specs.declared.faults.GameFault.{GameFault}
 use Rattle.tt_game.specs.declared.faults.GameFault.TheVariants.{NotGo, BadSize, BadValue, PointTwice, MixedNode, StoneWithoutLiberty, OccupiedPoint, RepeatedBoard, AfterEnd, TooManyTurns, NoMemory}
 use Rattle.tt_game.specs.declared.records.Record.{Record}
@@ -38,14 +38,14 @@ and_then (Err e) f = Err e
 -- ---- turns
 
 -- the fault that a refused turn is; a game has no region, so no turn is outside
-abbrev pub fault_of : WhyIllegal → GameFault
+abbrev pub fault_of : Why → GameFault
 fault_of Over = AfterEnd
 fault_of Occupied = OccupiedPoint
 fault_of Outside = OccupiedPoint
 fault_of Repeats = RepeatedBoard
 
 -- a turn that is refused is the fault, any other is made and counted
-abbrev pub turn_or_fault : GameSoFar → Turn → Option WhyIllegal → Result GameSoFar GameFault
+abbrev pub turn_or_fault : GameSoFar → Turn → Option Why → Result GameSoFar GameFault
 turn_or_fault r t None = Ok (record { game = game_after_turn r.game t; turns = r.turns + 1 })
 turn_or_fault r t (Some why) = Err (fault_of why)
 
@@ -99,7 +99,7 @@ set_up_by r (Some black) (Some white) (Some clear) None = Err BadValue
 
 -- a node's setup: the sets of AB, AW and AE, and the colour of PL
 abbrev pub set_up_node : GameSoFar → Node → Result GameSoFar GameFault
-set_up_node r n = set_up_by r (set_named r.game.size AB n) (set_named r.game.size AW n) (set_named r.game.size AE n) (mover_of_values (values_of PL n.properties))
+set_up_node r n = set_up_by r (set_named r.game.size AB n) (set_named r.game.size AW n) (set_named r.game.size AE n) (mover_of_values (values_of PL n.props))
 
 -- ---- nodes
 
@@ -107,7 +107,7 @@ set_up_node r n = set_up_by r (set_named r.game.size AB n) (set_named r.game.siz
 unfoldable pub step_node : GameSoFar → Node → Result GameSoFar GameFault
 step_node r n =
     cond (is_setup n) (cond (nat_le 1 (move_count n)) (Err MixedNode) (set_up_node r n))
-    (cond (nat_le 2 (move_count n)) (Err MixedNode) (play_node_move r (values_of B n.properties) (values_of W n.properties)))
+    (cond (nat_le 2 (move_count n)) (Err MixedNode) (play_node_move r (values_of B n.props) (values_of W n.props)))
 
 -- the empty board of this size, and no turn played; without a size a fault
 abbrev pub empty_game_of_size : Option Size → Result GameSoFar GameFault
@@ -116,7 +116,7 @@ empty_game_of_size (Some size) = Ok (record { game = empty_game size; turns = 0 
 
 -- before the first node: its game and its size
 unfoldable pub empty_game_for_root : Node → Result GameSoFar GameFault
-empty_game_for_root n = cond (is_go (values_of GM n.properties)) (empty_game_of_size (size_or_default (values_of SZ n.properties))) (Err NotGo)
+empty_game_for_root n = cond (is_go (values_of GM n.props)) (empty_game_of_size (size_or_default (values_of SZ n.props))) (Err NotGo)
 
 -- before the first node; where there is none, on a board of 19 by 19
 abbrev pub empty_game_for_nodes : List Node → Result GameSoFar GameFault

@@ -4,7 +4,7 @@ ghost use Rattle.std.specs.Prelude.{◌≡◌};
 
 /// Why a turn is refused. Where several causes hold, the first in this order is the one that is answered.
 #[derive(Clone, Copy, Debug, PartialEq, Eq)]
-pub enum WhyIllegal {
+pub enum Why {
     /// Somebody has won, or the game is over.
     Over,
     /// A stone stands on the point.
@@ -17,9 +17,9 @@ pub enum WhyIllegal {
 
 /// Why a turn was not made.
 #[derive(Clone, Copy, Debug, PartialEq, Eq)]
-pub enum PushError {
+pub enum Refused {
     /// The turn is not legal.
-    Illegal(WhyIllegal),
+    Illegal(Why),
     /// An allocation was refused.
     NoMemory,
 }

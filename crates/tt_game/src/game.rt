@@ -5,7 +5,7 @@ ghost use Rattle.tt_sgf.specs.Sizes.{point_count};
 ghost use Rattle.tt_game.specs.GameHistory.{so_far};
 ghost use Rattle.tt_game.specs.BloomFilter.{filter_index, MayHoldAll};
 
-use crate::faults::{PushError, WhyIllegal};
+use crate::faults::{Refused, Why};
 use crate::frame::{Frame, Side};
 use crate::history::History;
 use crate::history::bloom_filter::{BloomFilter, filter_index};
@@ -141,30 +141,30 @@ impl Game {
     }
 
     /// The board that a move makes, or why the move is refused.
-    fn board_after_move(&self, p: Point) -> Result<Board, WhyIllegal>
+    fn board_after_move(&self, p: Point) -> Result<Board, Why>
         requires { p < point_count self.now.size }
         ensures { MatchResult result
             (λ b. (move_refusal self.now p ≡ None) × (b ≡ record { size = self.now.size; points = colouring_after_move self.now p }))
             (λ why. move_refusal self.now p ≡ Some why) }
     {
         let next = match self.present().play(self.to_move, p) {
-            Err(Occupied) => return Err(WhyIllegal::Occupied),
+            Err(Occupied) => return Err(Why::Occupied),
             Ok(next) => next,
         };
         if self.has_been(&next, filter_index(&next)) {
-            return Err(WhyIllegal::Repeats);
+            return Err(Why::Repeats);
         }
         Ok(next)
     }
 
     /// Why a turn is refused, or none where it is legal: `Over` exactly where two passes ended the game. A
     /// play is on a point of the board.
-    pub fn refusal(&self, t: Turn) -> Option<WhyIllegal>
+    pub fn refusal(&self, t: Turn) -> Option<Why>
         requires { IsTurnOnBoardOfSize self.now.size t }
         ensures { result ≡ refusal_of self.now t }
     {
         if self.history.passes() == 2 {
-            return Some(WhyIllegal::Over);
+            return Some(Why::Over);
         }
         match t {
             Turn::Pass => None,
@@ -182,7 +182,7 @@ impl Game {
     }
 
     /// Makes a move before the end; after an error the game is as it was.
-    fn push_play(&mut self, p: Point) -> Result<(), PushError>
+    fn push_play(&mut self, p: Point) -> Result<(), Refused>
         requires on_board { p < point_count self.old.size }
         requires open { self.old.passes < 2 }
         ensures ok { OnOk result ((refusal_of self.old (Turn.Play p) ≡ None) × (self.new ≡ game_after_turn self.old (Turn.Play p))) }
@@ -190,7 +190,7 @@ impl Game {
         ensures why { IfErr result (λ e. IsGamePushError self.old (Turn.Play p) e) }
     {
         if self.present().at(p).is_some() {
-            return Err(PushError::Illegal(WhyIllegal::Occupied));
+            return Err(Refused::Illegal(Why::Occupied));
         }
         ensure_chains_counted(&mut self.board, self.counted, self.history.present());
         self.board.play(self.to_move, p);
@@ -198,10 +198,10 @@ impl Game {
         let next = self.board.board();
         let hash = filter_index(&next);
         if self.has_been(&next, hash) {
-            return Err(PushError::Illegal(WhyIllegal::Repeats));
+            return Err(Refused::Illegal(Why::Repeats));
         }
         if self.history.push(next).is_err() {
-            return Err(PushError::NoMemory);
+            return Err(Refused::NoMemory);
         }
         note_present_board(&mut self.filter, &self.history, hash);
         self.counted = true;
@@ -211,14 +211,14 @@ impl Game {
 
     /// Makes a turn: a pass, or a play on a point of the board. `Illegal` where it is refused, `NoMemory` where memory
     /// was; the game is then as it was.
-    pub fn push(&mut self, t: Turn) -> Result<(), PushError>
+    pub fn push(&mut self, t: Turn) -> Result<(), Refused>
         requires { IsTurnOnBoardOfSize self.old.size t }
         ensures ok { OnOk result ((refusal_of self.old t ≡ None) × (self.new ≡ game_after_turn self.old t)) }
         ensures err { OnErr result (self.new ≡ self.old) }
         ensures why { IfErr result (λ e. IsGamePushError self.old t e) }
     {
         if self.history.passes() == 2 {
-            return Err(PushError::Illegal(WhyIllegal::Over));
+            return Err(Refused::Illegal(Why::Over));
         }
         match t {
             Turn::Play(p) => self.push_play(p),

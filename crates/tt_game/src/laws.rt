@@ -5,13 +5,13 @@ ghost use Rattle.tt_game.specs.Keys.{SameKeyIffAlike};
 ghost use Rattle.tt_game.specs.RecordLaws.{RecordsAreGames, ProblemsAreGames, SetupsBeginHistories, FirstRefusalDecides, RefusalsCarryToProblems, UnmarkedAreNoProblems, RepeatsTestIsExact};
 
 /// Not both sides force a win at one state.
-pub fn at_most_one_side_forces()
+pub fn l2()
     ensures { AtMostOneSideForces }
 {}
 
 /// At a state whose colourings fit the board, with two passes at most, one side forces a win, within twice as many turns as there
 /// are colourings of the board.
-pub fn some_side_forces()
+pub fn l4()
     ensures { SomeSideForces }
 {}
 
@@ -41,7 +41,7 @@ pub fn problems_have_no_winner()
     ensures { ProblemsHaveNoWinner }
 {}
 
-/// The state of a problem is of those that `some_side_forces` and `values_are_forced` speak of: its colourings fit the board, and the passes are
+/// The state of a problem is of those that `l4` and `values_are_forced` speak of: its colourings fit the board, and the passes are
 /// two at most.
 pub fn problems_are_states()
     ensures { ProblemsAreStates }

@@ -17,7 +17,7 @@ mod problems;
 mod records;
 mod turns;
 
-pub use faults::{GameFault, PushError, WhyIllegal};
+pub use faults::{GameFault, Refused, Why};
 pub use frame::{Frame, Side};
 pub use game::Game;
 pub use history::bloom_filter::{BloomFilter, board_hash};

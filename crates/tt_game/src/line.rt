@@ -7,7 +7,7 @@ ghost use Rattle.tt_game.specs.Mixing.{mix_board};
 ghost use Rattle.tt_board.specs.Position.{Colouring};
 ghost use Rattle.tt_sgf.specs.Sizes.{point_count};
 
-use crate::faults::{PushError, WhyIllegal};
+use crate::faults::{Refused, Why};
 use crate::frame::{Frame, Side};
 use crate::history::History;
 use crate::history::bloom_filter::{filter_index_with_stone, mix_board};
@@ -280,19 +280,19 @@ impl Line {
     }
 
     /// Why a play of the side to move is refused, or none where it is legal.
-    pub(crate) fn play_refusal(&self, p: Point) -> Option<WhyIllegal>
+    pub(crate) fn play_refusal(&self, p: Point) -> Option<Why>
         requires on_board { p < point_count self.now.frame.size }
         requires open { winner_of self.now.frame self.now.state ≡ None }
         ensures { MatchOption result (IsLegal self.now.frame self.now.state (Turn.Play p)) (IsRefusalOfTurn self.now.frame self.now.state (Turn.Play p)) }
     {
         if self.present().at(p).is_some() {
-            return Some(WhyIllegal::Occupied);
+            return Some(Why::Occupied);
         }
         if !self.frame.region.has(p) {
-            return Some(WhyIllegal::Outside);
+            return Some(Why::Outside);
         }
         if self.repeats(p) {
-            return Some(WhyIllegal::Repeats);
+            return Some(Why::Repeats);
         }
         None
     }
@@ -318,13 +318,13 @@ impl Line {
 
     /// Why a turn is refused, or none where it is legal: `Over` exactly where somebody has won. A play is
     /// on a point of the board.
-    pub fn refusal(&self, t: Turn) -> Option<WhyIllegal>
+    pub fn refusal(&self, t: Turn) -> Option<Why>
         requires { IsTurnOnBoard self.now.frame t }
         ensures { MatchOption result (IsLegal self.now.frame self.now.state t)
             (IsRefusalOfTurn self.now.frame self.now.state t) }
     {
         if self.winner().is_some() {
-            return Some(WhyIllegal::Over);
+            return Some(Why::Over);
         }
         match t {
             Turn::Pass => None,
@@ -367,7 +367,7 @@ impl Line {
     }
 
     /// Makes a play where nobody has won.
-    fn push_play(&mut self, p: Point) -> Result<(), PushError>
+    fn push_play(&mut self, p: Point) -> Result<(), Refused>
         requires on_board { p < point_count self.old.frame.size }
         requires open { winner_of self.old.frame self.old.state ≡ None }
         ensures ok { OnOk result (IsLegal self.old.frame self.old.state (Turn.Play p) × IsLineAfterTurn self.old self.new (Turn.Play p)) }
@@ -375,30 +375,30 @@ impl Line {
         ensures why { IfErr result (λ e. IsPushError self.old.frame self.old.state (Turn.Play p) e) }
     {
         if let Some(why) = self.play_refusal(p) {
-            return Err(PushError::Illegal(why));
+            return Err(Refused::Illegal(why));
         }
         if self.push_play_on_empty(p).is_err() {
-            return Err(PushError::NoMemory);
+            return Err(Refused::NoMemory);
         }
         Ok(())
     }
 
     /// Makes a turn: a pass, or a play on a point of the board. `Illegal` where the turn isn't legal, `NoMemory` where
     /// memory was refused; the line is then as it was.
-    pub fn push(&mut self, t: Turn) -> Result<(), PushError>
+    pub fn push(&mut self, t: Turn) -> Result<(), Refused>
         requires { IsTurnOnBoard self.old.frame t }
         ensures ok { OnOk result (IsLegal self.old.frame self.old.state t × IsLineAfterTurn self.old self.new t) }
         ensures err { OnErr result (self.new ≡ self.old) }
         ensures why { IfErr result (λ e. IsPushError self.old.frame self.old.state t e) }
     {
         if self.winner().is_some() {
-            return Err(PushError::Illegal(WhyIllegal::Over));
+            return Err(Refused::Illegal(Why::Over));
         }
         match t {
             Turn::Play(p) => self.push_play(p),
             Turn::Pass => {
                 if self.push_pass().is_err() {
-                    return Err(PushError::NoMemory);
+                    return Err(Refused::NoMemory);
                 }
                 Ok(())
             }

@@ -110,7 +110,7 @@ pub(crate) fn has_value(properties: &[Property], name: &[u8]) -> bool
 pub(crate) fn sets_up(node: &Node) -> bool
     ensures { result ≡ is_setup node.now }
 {
-    let properties = node.properties.as_slice();
+    let properties = node.props.as_slice();
     has_value(properties, b"AB")
         || has_value(properties, b"AW")
         || has_value(properties, b"AE")
@@ -123,7 +123,7 @@ pub(crate) fn sets_up(node: &Node) -> bool
 pub fn has_move(node: &Node) -> bool
     ensures { result ≡ nat_le 1 (move_count node.now) }
 {
-    let properties = node.properties.as_slice();
+    let properties = node.props.as_slice();
     1 <= count_values_to_two(properties, b"B") + count_values_to_two(properties, b"W")
 }
 
@@ -132,7 +132,7 @@ pub fn has_move(node: &Node) -> bool
 pub(crate) fn has_several_moves(node: &Node) -> bool
     ensures { result ≡ nat_le 2 (move_count node.now) }
 {
-    let properties = node.properties.as_slice();
+    let properties = node.props.as_slice();
     2 <= count_values_to_two(properties, b"B") + count_values_to_two(properties, b"W")
 }
 

@@ -19,7 +19,7 @@ use tt_sgf::{BadPoint, MainLine, Node, PointSet, Size};
 fn said_region(node: &Node, size: Size) -> Result<PointSet, BadPoint>
     ensures { ReadsSet result (region_of size node.now) }
 {
-    let properties = node.properties.as_slice();
+    let properties = node.props.as_slice();
     if !has_value(properties, b"SQ") {
         return Ok(PointSet::whole(size));
     }
@@ -32,7 +32,7 @@ fn said_targets(node: &Node, size: Size) -> Result<PointSet, BadPoint>
     ensures value { ReadsSet result (set_named size TR node.now) }
     ensures on_board { IfOk result (λ s. IsSetOnBoard size s) }
 {
-    named_set(node.properties.as_slice(), b"TR", size)
+    named_set(node.props.as_slice(), b"TR", size)
 }
 
 /// The colour of all stones on these points of the board: none where there are both.
@@ -83,7 +83,7 @@ fn problem_at_targets(replay: GameSoFar, nodes: &[Node]) -> Result<Line, GameFau
     let mut rest = nodes;
     while let Some((node, behind)) = rest.split_first() {
         last.play_node(node)?;
-        if has_value(node.properties.as_slice(), b"TR") {
+        if has_value(node.props.as_slice(), b"TR") {
             return problem_at(last.game, node);
         }
         rest = behind;
@@ -111,7 +111,7 @@ pub fn problem(alloc: Global, line: &MainLine) -> Result<Line, GameFault>
 fn adds_stones(node: &Node) -> bool
     ensures { result ≡ adds_stones node.now }
 {
-    let properties = node.properties.as_slice();
+    let properties = node.props.as_slice();
     has_value(properties, b"AB") || has_value(properties, b"AW")
 }
 

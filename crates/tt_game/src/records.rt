@@ -9,7 +9,7 @@ ghost use Rattle.tt_game.specs.Nodes.{values_of, mover_of_values, AB, AW, AE, PL
 ghost use Rattle.tt_game.specs.Records.{ReturnsUnlessNoMemory, UpdatesUnlessNoMemory, fault_of, as_turn, play_next_turn, play_turn_by, play_named_turn, play_node_move, game_after_setup};
 ghost use Rattle.tt_game.specs.Records.{set_up_by, step_node, empty_game_of_size, empty_game_for_root, empty_game_for_nodes, apply_nodes, record_of_game, record_of};
 
-use crate::faults::{GameFault, PushError, WhyIllegal};
+use crate::faults::{GameFault, Refused, Why};
 use crate::game::Game;
 use crate::nodes::{
     are_disjoint, first_value, has_move, has_several_moves, is_go, mover_of_properties, named_set,
@@ -42,13 +42,13 @@ pub(crate) struct GameSoFar {
 }
 
 /// The fault that a refused turn is.
-fn fault_of(why: WhyIllegal) -> GameFault
+fn fault_of(why: Why) -> GameFault
     ensures { result ≡ fault_of why }
 {
     match why {
-        WhyIllegal::Over => GameFault::AfterEnd,
-        WhyIllegal::Occupied | WhyIllegal::Outside => GameFault::OccupiedPoint,
-        WhyIllegal::Repeats => GameFault::RepeatedBoard,
+        Why::Over => GameFault::AfterEnd,
+        Why::Occupied | Why::Outside => GameFault::OccupiedPoint,
+        Why::Repeats => GameFault::RepeatedBoard,
     }
 }
 
@@ -79,8 +79,8 @@ impl GameSoFar {
                 self.turns += 1;
                 Ok(())
             }
-            Err(PushError::Illegal(why)) => Err(fault_of(why)),
-            Err(PushError::NoMemory) => Err(GameFault::NoMemory),
+            Err(Refused::Illegal(why)) => Err(fault_of(why)),
+            Err(Refused::NoMemory) => Err(GameFault::NoMemory),
         }
     }
 
@@ -174,12 +174,12 @@ impl GameSoFar {
             if has_move(node) {
                 return Err(GameFault::MixedNode);
             }
-            return self.set_up_node(node.properties.as_slice());
+            return self.set_up_node(node.props.as_slice());
         }
         if has_several_moves(node) {
             return Err(GameFault::MixedNode);
         }
-        self.play_node_move(node.properties.as_slice())
+        self.play_node_move(node.props.as_slice())
     }
 
     /// Before the first turn on a board of this size.
@@ -197,10 +197,10 @@ impl GameSoFar {
     fn begin_at_node(alloc: Global, node: &Node) -> Result<GameSoFar, GameFault>
         ensures { ReturnsUnlessNoMemory result (empty_game_for_root node.now) }
     {
-        if !is_go(node.properties.as_slice()) {
+        if !is_go(node.props.as_slice()) {
             return Err(GameFault::NotGo);
         }
-        let Some(size) = said_size(node.properties.as_slice()) else {
+        let Some(size) = said_size(node.props.as_slice()) else {
             return Err(GameFault::BadSize);
         };
         GameSoFar::begin(alloc, size)

@@ -4,8 +4,8 @@ use Rattle.tt_sgf.specs.declared.size.Size.{Size}
 use Rattle.tt_board.specs.Position.{Position, Colouring}
 use Rattle.tt_game.specs.Game.{State, IsLegal, after, history, colouring_after_play}
 use Rattle.tt_game.specs.Line.{IsRefusalOfTurn}
-use Rattle.tt_game.specs.declared.faults.WhyIllegal.{WhyIllegal}
-use Rattle.tt_game.specs.declared.faults.WhyIllegal.TheVariants.{Over, Occupied, Outside, Repeats}
+use Rattle.tt_game.specs.declared.faults.Why.{Why}
+use Rattle.tt_game.specs.declared.faults.Why.TheVariants.{Over, Occupied, Outside, Repeats}
 use Rattle.tt_game.specs.declared.frame.Frame.{Frame}
 use Rattle.tt_game.specs.declared.turns.Turn.{Turn}
 use Rattle.tt_game.specs.declared.turns.Turn.TheVariants.{Play, Pass}
@@ -279,7 +279,7 @@ foot_done f s x n a = record {
 -- ---- turns that are refused
 
 -- a turn that is refused is not legal
-pub refused_bars : (f : Frame) (s : State) (t : Turn) (why : WhyIllegal) → IsRefusalOfTurn f s t why → IsLegal f s t → ⊥
+pub refused_bars : (f : Frame) (s : State) (t : Turn) (why : Why) → IsRefusalOfTurn f s t why → IsLegal f s t → ⊥
 refused_bars f s Pass Over r l = r l
 refused_bars f s (Play p) Over r l = r l.0
 refused_bars f s Pass Occupied r l = r

@@ -18,7 +18,7 @@ use crate::board_set_bounds::{BoardSetBound, union_of_bounds};
 use crate::tree::Tree;
 use std::alloc::Global;
 use tt_board::Board;
-use tt_game::{Line, PushError, Turn};
+use tt_game::{Line, Refused, Turn};
 use tt_sgf::{NoMemory, Point, PointSet};
 
 /// What a tree needs in the history of its state, and what it avoids there: the boards of two sets of colourings. Each board that
@@ -248,8 +248,8 @@ fn join_entry(
                 Err(e) => Err(e),
             }
         }
-        Err(PushError::Illegal(_)) => Ok(()),
-        Err(PushError::NoMemory) => Err(NoMemory),
+        Err(Refused::Illegal(_)) => Ok(()),
+        Err(Refused::NoMemory) => Err(NoMemory),
     }
 }
 
@@ -276,8 +276,8 @@ fn footprint_of_pick(
                 Err(e) => Err(e),
             }
         }
-        Err(PushError::Illegal(_)) => Ok(Footprint::empty(alloc)),
-        Err(PushError::NoMemory) => Err(NoMemory),
+        Err(Refused::Illegal(_)) => Ok(Footprint::empty(alloc)),
+        Err(Refused::NoMemory) => Err(NoMemory),
     }
 }
 

@@ -4,12 +4,12 @@ ghost use Rattle.tt_proof.specs.OutlineLaws.{OneOutlinePerCertificate, PlainIsSh
 ghost use Rattle.tt_proof.specs.StrategyLaws.{WinningStrategyForces, FittingTreesWin, FootprintsCarryOverIfUnmet, NeedsLosePlayedColouring, OneStrategyPerTextPrefix, OneStrategyPerCertificate, StrategyOfEquations};
 
 /// A winning tree of depth n makes its side force a win within n turns.
-pub fn winning_strategy_forces()
+pub fn l1()
     ensures { WinningStrategyForces }
 {}
 
 /// A tree that wins from one state wins from each state that it fits, whatever the path there.
-pub fn fitting_trees_win()
+pub fn l3()
     ensures { FittingTreesWin }
 {}
 

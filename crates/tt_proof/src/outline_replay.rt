@@ -15,7 +15,7 @@ use crate::position_footprint::PositionFootprint;
 use crate::replays::awaits_other_side;
 use std::alloc::Global;
 use tt_board::Board;
-use tt_game::{Line, PushError, Side, Turn};
+use tt_game::{Line, Refused, Side, Turn};
 use tt_sgf::NoMemory;
 
 /// What is found on a tree where it stands: it wins, and on what that rests; or it doesn't win; or a part doesn't fit.
@@ -258,11 +258,11 @@ fn replay_branch(
                 Err(e) => Err(e),
             }
         }
-        Err(PushError::Illegal(_)) => {
+        Err(Refused::Illegal(_)) => {
             skip(child, names)?;
             Ok(ReplayResult::Won(PositionFootprint::of(alloc, line)))
         }
-        Err(PushError::NoMemory) => Err(NoMemory),
+        Err(Refused::NoMemory) => Err(NoMemory),
     }
 }
 
@@ -338,11 +338,11 @@ fn replay_pick(
                 Err(e) => Err(e),
             }
         }
-        Err(PushError::Illegal(_)) => {
+        Err(Refused::Illegal(_)) => {
             skip(child, names)?;
             Ok(ReplayResult::Lost)
         }
-        Err(PushError::NoMemory) => Err(NoMemory),
+        Err(Refused::NoMemory) => Err(NoMemory),
     }
 }
 

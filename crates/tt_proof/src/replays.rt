@@ -10,7 +10,7 @@ ghost use Rattle.tt_game.specs.Game.{IsLegal, winner_of, opponent};
 ghost use Rattle.tt_sgf.specs.Sizes.{point_count};
 
 use crate::tree::Tree;
-use tt_game::{Line, PushError, Side, Turn};
+use tt_game::{Line, Refused, Side, Turn};
 use tt_sgf::{NoMemory, Point};
 
 fn has_turn(list: &[(Turn, Tree)], turn: Turn) -> bool
@@ -101,8 +101,8 @@ fn replay_after(
                 Err(e) => Err(e),
             }
         }
-        Err(PushError::Illegal(_)) => Ok(None),
-        Err(PushError::NoMemory) => Err(NoMemory),
+        Err(Refused::Illegal(_)) => Ok(None),
+        Err(Refused::NoMemory) => Err(NoMemory),
     }
 }
 

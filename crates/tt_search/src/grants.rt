@@ -31,11 +31,11 @@ pub trait Grants {
 
 /// Grants each ask, and counts them. It takes no memory.
 #[derive(Debug, Drop)]
-pub struct AlwaysGranting {
+pub struct Free {
     count: u64,
 }
 
-impl Model for AlwaysGranting {
+impl Model for Free {
     ghost use Rattle.std.specs.Prelude.{ℕ};
 
     ghost Value = { ℕ };
@@ -43,16 +43,16 @@ impl Model for AlwaysGranting {
     ghost view = { λ f. f.count };
 }
 
-impl AlwaysGranting {
+impl Free {
     /// One that has not been asked.
-    pub fn new() -> AlwaysGranting
+    pub fn new() -> Free
         ensures { result ≡ 0 }
     {
-        AlwaysGranting { count: 0 }
+        Free { count: 0 }
     }
 }
 
-impl Grants for AlwaysGranting {
+impl Grants for Free {
     ghost asked = { λ f. record { granted = f; refused = false } };
 
     ghost source = { λ _. tt };

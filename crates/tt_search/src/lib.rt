@@ -20,7 +20,7 @@ mod settled;
 mod store;
 mod tree;
 
-pub use grants::{AlwaysGranting, Grants};
+pub use grants::{Free, Grants};
 pub use limits::{Limits, MOST_EXPANDED, Reason, Step};
 pub use search::{End, Search};
 pub use store::key_index::{KeyIndex, ProofList};

@@ -20,7 +20,7 @@ use Rattle.tt_sgf.proofs.ListLemmas.{Ends, after_blanks_at, properties_take, pro
 abbrev pub EventText : Event → List ℕ → List ℕ → Type 0
 EventText Open text rest = text ≡ open_tree ∷ rest
 EventText Close text rest = text ≡ close_tree ∷ rest
-EventText (Item n) text rest = (properties : List ℕ) × AreProperties properties n.properties × (text ≡ semicolon ∷ (properties ++ rest))
+EventText (Item n) text rest = (properties : List ℕ) × AreProperties properties n.props × (text ≡ semicolon ∷ (properties ++ rest))
 
 -- a choice that gives something gives what its test chose
 cond_cases : {A : Type 0} (b : Bool) (x y : Option A) (z : A) → cond b x y ≡ Some z → ((b ≡ true) × (x ≡ Some z)) ⊎ ((b ≡ false) × (y ≡ Some z))
@@ -39,12 +39,12 @@ event_of_takes (b ∷ bs) e r h =
       | inl p ↦ let same = some_pair_parts Open e bs r p.1 in EventText-moved e Open (b ∷ bs) r bs same.0 same.1 (ap (λ (x : ℕ). x ∷ bs) (eqb-true b open_tree p.0))
       | inr q ↦ elim (cond_cases (eqb b close_tree) _ _ (e, r) q.1) [
         | inl p ↦ let same = some_pair_parts Close e bs r p.1 in EventText-moved e Close (b ∷ bs) r bs same.0 same.1 (ap (λ (x : ℕ). x ∷ bs) (eqb-true b close_tree p.0))
-        | inr s ↦ elim (cond_cases (eqb b semicolon) (properties_at bs >>= λ x. Some (Item (record { properties = x.0 }), x.1)) None (e, r) s.1) [
+        | inr s ↦ elim (cond_cases (eqb b semicolon) (properties_at bs >>= λ x. Some (Item (record { props = x.0 }), x.1)) None (e, r) s.1) [
           | inl p ↦
-              let x = bind_some (properties_at bs) (λ x. Some (Item (record { properties = x.0 }), x.1)) (e, r) p.1 in
+              let x = bind_some (properties_at bs) (λ x. Some (Item (record { props = x.0 }), x.1)) (e, r) p.1 in
               let t = properties_take _ bs x.0.0 x.0.1 x.1 in
-              let same = some_pair_parts (Item (record { properties = x.0.0 })) e x.0.1 r x.2 in
-              EventText-moved e (Item (record { properties = x.0.0 })) (b ∷ bs) r x.0.1 same.0 same.1 (t.text, t.are, rw (eqb-true b semicolon p.0) (ap (λ (y : List ℕ). semicolon ∷ y) t.parts))
+              let same = some_pair_parts (Item (record { props = x.0.0 })) e x.0.1 r x.2 in
+              EventText-moved e (Item (record { props = x.0.0 })) (b ∷ bs) r x.0.1 same.0 same.1 (t.text, t.are, rw (eqb-true b semicolon p.0) (ap (λ (y : List ℕ). semicolon ∷ y) t.parts))
           | inr u ↦ absurd (let n = u.1 in cc)
         ]
       ]
@@ -91,9 +91,9 @@ pub event_close : (r : List ℕ) → event_at (close_tree ∷ r) ≡ Some (Close
 unfolding event_at
 event_close r = ap event_of (after_blanks-other close_tree r no_blank_41)
 
-pub event_item : (n : Node) (text r : List ℕ) → AreProperties text n.properties → Ends r → event_at (semicolon ∷ (text ++ r)) ≡ Some (Item n, r)
+pub event_item : (n : Node) (text r : List ℕ) → AreProperties text n.props → Ends r → event_at (semicolon ∷ (text ++ r)) ≡ Some (Item n, r)
 unfolding event_at properties_at
-event_item n text r h e = rw (after_blanks-other semicolon (text ++ r) no_blank_59, properties_again n.properties text r h e) refl
+event_item n text r h e = rw (after_blanks-other semicolon (text ++ r) no_blank_59, properties_again n.props text r h e) refl
 
 -- no value and no property stands before an event
 no_word_40 : (is_letter_or_digit open_tree ≡ false) × (is_letter_or_digit close_tree ≡ false) × (is_letter_or_digit semicolon ≡ false)

@@ -92,7 +92,7 @@ never_rest bytes i h t rest b = h t rest (rw take_rest b)
 
 -- each property of the nodes has a value
 abbrev HaveValues : List Node → Type 0
-HaveValues ns = AllByRecursion (λ n. AllByRecursion (λ p. p.values ≢ []) n.properties) ns
+HaveValues ns = AllByRecursion (λ n. AllByRecursion (λ p. p.values ≢ []) n.props) ns
 
 -- in a text of properties each has a value
 properties_have : (ps : List Property) (text : List ℕ) → AreProperties text ps → AllByRecursion (λ p. p.values ≢ []) ps
@@ -102,7 +102,7 @@ properties_have (p ∷ ps) text h = (h.6, properties_have ps h.3 h.8)
 -- so has each in a text of nodes, before others that have
 nodes_have : (ns ms : List Node) (text : List ℕ) → AreNodes text ns → HaveValues ms → HaveValues (ns ++ ms)
 nodes_have [] ms text h k = k
-nodes_have (n ∷ ns) ms text h k = (properties_have n.properties h.1 h.4, nodes_have ns ms h.2 h.5 k)
+nodes_have (n ∷ ns) ms text h k = (properties_have n.props h.1 h.4, nodes_have ns ms h.2 h.5 k)
 
 -- and each on the main line of the first tree in a text of trees
 trees_have : (ts : Trees) (text : List ℕ) → AreTrees text ts → HaveValues (first_main_line ts)

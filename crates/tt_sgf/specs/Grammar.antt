@@ -73,7 +73,7 @@ AreProperties text (p ∷ ps) = (blank : List ℕ) × (ident : List ℕ) × (val
 -- nodes: a semicolon and properties each
 abbrev pub AreNodes : List ℕ → List Node → Type 0
 AreNodes text [] = text ≡ []
-AreNodes text (n ∷ ns) = (blank : List ℕ) × (properties : List ℕ) × (more : List ℕ) × AreBlanks blank × AreProperties properties n.properties × AreNodes more ns
+AreNodes text (n ∷ ns) = (blank : List ℕ) × (properties : List ℕ) × (more : List ℕ) × AreBlanks blank × AreProperties properties n.props × AreNodes more ns
     × (text ≡ blank ++ (semicolon ∷ (properties ++ more)))
 
 -- ---- trees
@@ -132,4 +132,4 @@ HasNoTree bytes = (t : GameTree) (count : ℕ) → FirstTreeEndsAt bytes count t
 -- what each main line is: not empty, and each property has a value
 pub record IsMainLine (nodes : List Node) : Type 0 where
   pub some : nodes ≢ []
-  pub values : AllByRecursion (λ n. AllByRecursion (λ p. p.values ≢ []) n.properties) nodes
+  pub values : AllByRecursion (λ n. AllByRecursion (λ p. p.values ≢ []) n.props) nodes

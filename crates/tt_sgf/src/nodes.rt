@@ -21,7 +21,7 @@ pub struct Property {
 #[derive(Drop)]
 pub struct Node {
     /// The properties, as they stood.
-    pub properties: ItemList<Property>,
+    pub props: ItemList<Property>,
 }
 
 /// The nodes of a game tree, followed by the main line of its first sub-tree where it has one.

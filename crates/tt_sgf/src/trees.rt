@@ -34,7 +34,7 @@ fn next_event(alloc: Global, bytes: &[u8]) -> Result<(Event, &[u8]), SgfFault>
             let (properties, rest) = properties(alloc, after)?;
             Ok((
                 Event::Item(Node {
-                    properties: ItemList::from_vec(properties),
+                    props: ItemList::from_vec(properties),
                 }),
                 rest,
             ))

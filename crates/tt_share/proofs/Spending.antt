@@ -13,7 +13,7 @@ use Rattle.tt_game.specs.Line.{LineWithUndo}
 use Rattle.tt_search.specs.Grants.{GrantTally}
 use Rattle.tt_search.specs.declared.limits.Limits.{Limits}
 use Rattle.tt_share.specs.declared.jobs.JobResult.{JobResult}
-use Rattle.tt_share.specs.declared.desk.DeskCounts.{DeskCounts}
+use Rattle.tt_share.specs.declared.desk.Closed.{Closed}
 use Rattle.tt_share.specs.declared.jobs.SearchedJob.{SearchedJob}
 use Rattle.tt_share.specs.declared.workers.HandedBack.{HandedBack}
 use Rattle.tt_share.specs.Answers.{spent_in_all}
@@ -110,7 +110,7 @@ own_spent n first last before after total blank unspent unasked granted h asked 
 
 -- ---- all workers and the caller
 
-module _ (line : LineWithUndo) (limits : Limits) (desk : DeskModel) (closed : DeskCounts) (work : List HandedBack) (seats : List SeatModel) (own : SeatModel)
+module _ (line : LineWithUndo) (limits : Limits) (desk : DeskModel) (closed : Closed) (work : List HandedBack) (seats : List SeatModel) (own : SeatModel)
     (works : All (IsWork line limits desk) work)
     (backs : (weight : SeatModel → ℕ) → sum_by weight seats ≡ sum_by (λ (b : HandedBack). weight b.seat) work)
     (closes : AreDeskCounts desk (seats ++ own ∷ []) closed) where

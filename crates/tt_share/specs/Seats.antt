@@ -4,7 +4,7 @@ use Rattle.std.specs.Prelude.{sum_by, count_by, nat_eq, IsTrue, All, Contains, M
 use Rattle.std.specs.List.{list_any}
 use Rattle.std.specs.List.Sorted.{IsStrictlyIncreasing}
 use Rattle.atomic_table.specs.Seated.{TableId}
-use Rattle.tt_share.specs.declared.desk.DeskCounts.{DeskCounts}
+use Rattle.tt_share.specs.declared.desk.Closed.{Closed}
 
 -- which desk it is, how many jobs and seats it has, and how many grants it gives: none for no bound
 pub record DeskModel : Type 0 where
@@ -82,7 +82,7 @@ pub record AreGrantsOfTotal (total granted : ℕ) (seats : List SeatModel) : Typ
   pub refused : (s : SeatModel) → Contains seats s → EndsInOverdraw total s.grants → granted ≡ total
 
 -- What all seats of a desk show once it is closed
-pub record AreDeskCounts (desk : DeskModel) (seats : List SeatModel) (closed : DeskCounts) : Type 0 where
+pub record AreDeskCounts (desk : DeskModel) (seats : List SeatModel) (closed : Closed) : Type 0 where
   -- these are all of the desk's seats
   pub seats_are_all : length seats ≡ desk.seats
   -- the count of draws is that of the numbers that they drew, which are those below it, each once

@@ -24,7 +24,7 @@ type Words = Table<(), SeatKnowledge, DeskSize, DeskRule, Global>;
 /// What a closed desk counted: the steps that all draws made, and the grants that it gave of its total, or 0 where it had
 /// none.
 #[derive(Debug, Drop, PartialEq, Eq)]
-pub struct DeskCounts {
+pub struct Closed {
     pub draws: u64,
     pub granted: u64,
 }
@@ -218,7 +218,7 @@ impl Desk {
     }
 
     /// Raises the flag, by one step. Nothing lowers it. The seat is one of this desk's.
-    pub fn raise_flag(&self, s: &mut Seat)
+    pub fn raise(&self, s: &mut Seat)
         requires { s.old.desk ≡ self.now.id }
         ensures { s.new ≡ seat_of s.old.desk s.old.numbers s.old.grants true s.old.saw_flag }
     {
@@ -265,7 +265,7 @@ impl Desk {
     /// How many steps all draws made, those that found no job among them, and how many grants the desk gave of its total,
     /// exactly where as many seats come back as the desk has, so all of them; else the desk and the seats, unchanged. The
     /// seats are this desk's.
-    pub fn close(self, mut seats: Vec<Seat>) -> Result<DeskCounts, (Desk, Vec<Seat>)>
+    pub fn close(self, mut seats: Vec<Seat>) -> Result<Closed, (Desk, Vec<Seat>)>
         requires { All (λ s. s.desk ≡ self.id) seats.items }
         ensures { MatchResult result (λ closed. AreDeskCounts self seats.items closed) (λ back. (length seats.items ≢ self.seats) × (back.0 ≡ self) × (back.1.items ≡ seats.items)) }
     {
@@ -281,6 +281,6 @@ impl Desk {
         let draws = words.word(0);
         let granted = granted_of_total(words.word(2), total);
         words.free();
-        Ok(DeskCounts { draws, granted })
+        Ok(Closed { draws, granted })
     }
 }

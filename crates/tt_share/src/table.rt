@@ -109,7 +109,7 @@ impl TableState {
     }
 
     /// The rising slots of the proofs of the key.
-    pub fn slots(&self, k: &Key) -> &[usize]
+    pub fn places(&self, k: &Key) -> &[usize]
         ensures { result.now ≡ slots_with_key k.now self.now }
     {
         match self.index.get(k) {
@@ -138,11 +138,11 @@ impl TableState {
         ensures found { IfSome result (λ r. HasKeyAndSide line.now s (arc_value r.now)) }
     {
         let key = line.key();
-        let slots = self.slots(&key);
-        let mut left = slots.len();
+        let places = self.places(&key);
+        let mut left = places.len();
         while 0 < left {
             left -= 1;
-            if let Some(p) = self.proofs.get(slots[left]) {
+            if let Some(p) = self.proofs.get(places[left]) {
                 if p.side() == s {
                     return Some(p);
                 }

@@ -6,7 +6,7 @@ use crate::search_tests::{
     AMPLE, SPLIT, TreeOutcome, end_of, has_trace, letter, searching, stepped,
 };
 use std::alloc::Global;
-use tt_search::{AlwaysGranting, Grants, NoStore, PrivateStore, Reason, Search, Step};
+use tt_search::{Free, Grants, NoStore, PrivateStore, Reason, Search, Step};
 
 /// Grants so many asks.
 #[derive(Drop)]
@@ -119,7 +119,7 @@ fn spends_two(search: Search) -> bool {
 
 /// Whether a run that is granted all it asks for asks three times.
 fn spends_three(search: Search) -> bool {
-    let mut grants = AlwaysGranting::new();
+    let mut grants = Free::new();
     let end = end_of(search.run(&mut NoStore, &mut grants));
     grants.granted() == 3 && !grants.refused() && matches!(end, TreeOutcome::Settled(_))
 }

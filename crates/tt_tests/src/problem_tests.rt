@@ -50,11 +50,11 @@ fn own_property(alloc: Global, property: Property) -> Result<Property, NoMemory>
 /// This node, as a reader of one's own makes it.
 fn own_node(alloc: Global, node: Node) -> Result<Node, NoMemory> {
     let mut made = Vec::new(alloc);
-    for property in node.properties.into_vec() {
+    for property in node.props.into_vec() {
         made.push(own_property(alloc, property)?)?;
     }
     Ok(Node {
-        properties: ItemList::from_vec(made),
+        props: ItemList::from_vec(made),
     })
 }
 

@@ -5,7 +5,7 @@ use std::alloc::Global;
 use std::sync::Arc;
 use tt_game::{Line, Side};
 use tt_proof::Proof;
-use tt_search::{AlwaysGranting, End, Limits, NoStore, PrivateStore, Reason, Search, Step, Store};
+use tt_search::{End, Free, Limits, NoStore, PrivateStore, Reason, Search, Step, Store};
 
 /// The letter of what a step answered.
 pub(crate) fn letter(step: Step) -> char {
@@ -70,7 +70,7 @@ pub(crate) fn searching(alloc: Global, text: &[u8], budget: u32, depth: u16) -> 
 
 /// A step of a search.
 pub(crate) fn stepped<S: Store>(search: &mut Search, store: &mut S) -> Step {
-    search.step(store, &mut AlwaysGranting::new())
+    search.step(store, &mut Free::new())
 }
 
 /// Adds each step of a search with the root's numbers after it, up to a step that leaves the search as it is.
@@ -185,7 +185,7 @@ fn last_step(alloc: Global, end: TreeOutcome, kept: usize) -> Option<String> {
 
 /// What a search ends with.
 fn run_of<S: Store>(search: Search, store: &mut S) -> TreeOutcome {
-    end_of(search.run(store, &mut AlwaysGranting::new()))
+    end_of(search.run(store, &mut Free::new()))
 }
 
 /// What a search at a problem ends with.

@@ -86,7 +86,7 @@ fn has_names(alloc: Global, bytes: &[u8], names: &[&[u8]]) -> bool {
     let Some(node) = line.nodes.as_slice().first() else {
         return false;
     };
-    let properties = node.properties.as_slice();
+    let properties = node.props.as_slice();
     for (i, name) in names.iter().enumerate() {
         if i >= properties.len() || properties[i].ident.as_slice() != *name {
             return false;
@@ -181,7 +181,7 @@ fn points(rt: HostRuntime) {
 fn named(alloc: Global, bytes: &[u8], size: Size) -> Option<Result<PointSet, BadPoint>> {
     let (line, _) = read_tree(alloc, bytes).ok()?;
     let node = line.nodes.as_slice().first()?;
-    let property = node.properties.as_slice().first()?;
+    let property = node.props.as_slice().first()?;
     Some(point_set(property.values.as_slice(), size))
 }
 

@@ -8,7 +8,7 @@ use std::alloc::Global;
 use std::sync::Arc;
 use tt_game::{Line, Side};
 use tt_proof::Proof;
-use tt_search::{AlwaysGranting, End, Kept, PrivateStore, Reason, Search, Step, Store};
+use tt_search::{End, Free, Kept, PrivateStore, Reason, Search, Step, Store};
 use tt_sgf::NoMemory;
 
 /// A store with room for a hundred proofs, which refuses to keep any. It counts the questions, those out of turn, since the
@@ -247,7 +247,7 @@ const NINE: &[u8] =
 
 /// How deep the proof is that a search ends with; none where it is stuck.
 fn settled_depth(search: Search, store: &mut PrivateStore) -> Option<u16> {
-    match search.run(store, &mut AlwaysGranting::new()) {
+    match search.run(store, &mut Free::new()) {
         End::Settled(proof) => Some(proof.depth()),
         End::Stuck(_, _) => None,
     }

@@ -8,7 +8,7 @@ use crate::turn_tables::TURNS;
 use std::alloc::{AllocError, Global};
 use std::sync::Arc;
 use tt_board::{Board, BoardDeltas};
-use tt_game::{Line, Side, Snapshot, WhyIllegal};
+use tt_game::{Line, Side, Snapshot, Why};
 
 /// Whether the boards of a history are those that are drawn, with a stroke between two.
 fn is_history(boards: &[Board], drawn: &[u8]) -> bool {
@@ -30,12 +30,12 @@ fn is_history(boards: &[Board], drawn: &[u8]) -> bool {
 }
 
 /// The letter of a cause, or a dash where the turn is legal.
-fn letter(why: Option<WhyIllegal>) -> u8 {
+fn letter(why: Option<Why>) -> u8 {
     match why {
-        Some(WhyIllegal::Over) => b'O',
-        Some(WhyIllegal::Occupied) => b'S',
-        Some(WhyIllegal::Outside) => b'X',
-        Some(WhyIllegal::Repeats) => b'R',
+        Some(Why::Over) => b'O',
+        Some(Why::Occupied) => b'S',
+        Some(Why::Outside) => b'X',
+        Some(Why::Repeats) => b'R',
         None => b'-',
     }
 }

@@ -11,7 +11,7 @@ use crate::position_footprint::PositionFootprint;
 use crate::tree::Tree;
 use std::alloc::Global;
 use tt_board::Board;
-use tt_game::{Line, PushError, Side, Turn};
+use tt_game::{Line, Refused, Side, Turn};
 use tt_sgf::NoMemory;
 
 /// A text whose names are still open: `=` stands in front of each tree that is more than a leaf, and `*` for each part. `marked`
@@ -203,12 +203,12 @@ fn walk_branch(
                 None => Ok(None),
             }
         }
-        Err(PushError::Illegal(_)) => {
+        Err(Refused::Illegal(_)) => {
             let _ = draft.text.pop();
             let _ = draft.text.pop();
             Ok(Some(before))
         }
-        Err(PushError::NoMemory) => Err(NoMemory),
+        Err(Refused::NoMemory) => Err(NoMemory),
     }
 }
 
@@ -264,8 +264,8 @@ fn walk_pick(
                 None => Ok(None),
             }
         }
-        Err(PushError::Illegal(_)) => Ok(None),
-        Err(PushError::NoMemory) => Err(NoMemory),
+        Err(Refused::Illegal(_)) => Ok(None),
+        Err(Refused::NoMemory) => Err(NoMemory),
     }
 }
 

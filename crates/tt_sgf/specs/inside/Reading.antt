@@ -96,7 +96,7 @@ properties_at bytes = repeat property_follows (λ bs. property_at (after_blanks 
 abbrev pub event_of : List ℕ → Option (Event × List ℕ)
 event_of [] = None
 event_of (b ∷ bs) = cond (b == open_tree) (Some (events.Open, bs)) (cond (b == close_tree) (Some (events.Close, bs)) (cond (b == semicolon)
-    (properties_at bs >>= λ x. Some (events.Item (record { properties = x.0 }), x.1)) None))
+    (properties_at bs >>= λ x. Some (events.Item (record { props = x.0 }), x.1)) None))
 
 -- the next bracket of a tree, or the next node
 unfoldable pub event_at : List ℕ → Option (Event × List ℕ)

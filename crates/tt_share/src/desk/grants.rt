@@ -41,7 +41,7 @@ impl<'a> SeatGrants<'a> {
         ensures seat { self.new.seat ≡ seat_of self.old.seat.desk self.old.seat.numbers self.old.seat.grants (self.old.seat.flag || won) self.old.seat.saw_flag }
     {
         if won {
-            self.desk.raise_flag(&mut self.seat);
+            self.desk.raise(&mut self.seat);
         }
     }
 

@@ -33,13 +33,13 @@ impl Table {
 /// A handle on a table, through which at most 4,096 proofs may be kept. What it finds may have been kept through another
 /// handle.
 #[derive(Drop)]
-pub struct TableStore<'a, R> {
+pub struct LockedStore<'a, R> {
     rt: &'a R,
     table: &'a Table,
     kept: usize,
 }
 
-impl<'a, R> Model for TableStore<'a, R> {
+impl<'a, R> Model for LockedStore<'a, R> {
     ghost use Rattle.std.specs.Prelude.{◌≤◌, ℕ};
     ghost use Rattle.tt_share.specs.declared.capacity.TheConstants.{MOST_KEPT_PROOFS};
 
@@ -50,16 +50,16 @@ impl<'a, R> Model for TableStore<'a, R> {
     ghost invariant = { λ s. s.kept ≤ MOST_KEPT_PROOFS };
 }
 
-impl<'a, R> TableStore<'a, R> {
+impl<'a, R> LockedStore<'a, R> {
     /// A handle through which nothing was kept yet.
-    pub fn new(rt: &'a R, table: &'a Table) -> TableStore<'a, R>
+    pub fn new(rt: &'a R, table: &'a Table) -> LockedStore<'a, R>
         ensures { result ≡ 0 }
     {
-        TableStore { rt, table, kept: 0 }
+        LockedStore { rt, table, kept: 0 }
     }
 }
 
-impl<'a, R: Wait> Store for TableStore<'a, R> {
+impl<'a, R: Wait> Store for LockedStore<'a, R> {
     ghost use Rattle.tt_share.specs.declared.capacity.TheConstants.{MOST_KEPT_PROOFS};
 
     ghost capacity = { λ _. MOST_KEPT_PROOFS };

@@ -8,7 +8,7 @@ use std::test::Fail;
 use std::thread::Threads;
 use tt_game::{Line, Side, Turn, problem};
 use tt_proof::{Proof, put_turn, read_cert, write_cert};
-use tt_search::{AlwaysGranting, End, Limits, NoStore, Reason, Search};
+use tt_search::{End, Free, Limits, NoStore, Reason, Search};
 use tt_sgf::{Size, read_tree};
 use tt_share::{Answer, CertLog, Gate, Stuck, solve};
 
@@ -66,7 +66,7 @@ fn end_of(alloc: Global, text: &[u8]) -> Result<End, Fail> {
         return Err(Fail::new("no limits"));
     };
     let line = posed(alloc, text)?;
-    Ok(Search::new(alloc, line, limits)?.run(&mut NoStore, &mut AlwaysGranting::new()))
+    Ok(Search::new(alloc, line, limits)?.run(&mut NoStore, &mut Free::new()))
 }
 
 /// The proof that a search at the problem ends with.

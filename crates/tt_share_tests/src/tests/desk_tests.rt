@@ -7,7 +7,7 @@ use std::test::Fail;
 use std::thread;
 use std::thread::Threads;
 use tt_sgf::NoMemory;
-use tt_share::{Desk, DeskCounts, Seat};
+use tt_share::{Closed, Desk, Seat};
 
 // Draws until there is no job left, and counts the jobs.
 fn draw_all(desk: &Desk, jobs: &AtomicU64, mut seat: Seat) -> Seat
@@ -95,7 +95,7 @@ fn two_seats_draw_in_turn(rt: HostRuntime) -> Result<(), Fail> {
         panic!(rt; "a seat is missing")
     };
     seats.push(last)?;
-    let wanted = DeskCounts {
+    let wanted = Closed {
         draws: 4,
         granted: 0,
     };
@@ -133,7 +133,7 @@ fn two_seats_share_a_total(rt: HostRuntime) -> Result<(), Fail> {
     let fifth = desk.grant(&mut seats[0]);
     let sixth = desk.grant(&mut seats[1]);
     assert!(rt; !fourth && !fifth && !sixth);
-    let wanted = DeskCounts {
+    let wanted = Closed {
         draws: 0,
         granted: 3,
     };
@@ -156,7 +156,7 @@ fn a_joined_thread_shows_its_mark(rt: HostRuntime) -> Result<(), Fail> {
         || (),
         move || {
             let mut first = seats.remove(0);
-            shared.raise_flag(&mut first);
+            shared.raise(&mut first);
             first
         },
     );

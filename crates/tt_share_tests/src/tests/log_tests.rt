@@ -8,8 +8,8 @@ use std::thread;
 use std::thread::Threads;
 use tt_game::{Line, Side};
 use tt_proof::Proof;
-use tt_search::{AlwaysGranting, Kept, Limits, PrivateStore, ProofPerSide, Search, Step, Store};
-use tt_share::{CertLog, LogStore, Table, TableStore, View};
+use tt_search::{Free, Kept, Limits, PrivateStore, ProofPerSide, Search, Step, Store};
+use tt_share::{CertLog, LockedStore, LogStore, Table, View};
 
 /// The colouring of the first problem reached by moves, so that Black may not repeat the board before.
 const REPEATED: &[u8] = b"(;SZ[4:1]AW[ba];B[ca];W[da]TR[ba])";
@@ -402,7 +402,7 @@ fn a_view_is_full(rt: HostRuntime) -> Result<(), Fail> {
 
 /// Steps a search that asks nobody for its expansions.
 fn stepped<S: Store>(search: &mut Search, store: &mut S) -> Step {
-    search.step(store, &mut AlwaysGranting::new())
+    search.step(store, &mut Free::new())
 }
 
 /// The letter of what a step answered.
@@ -551,7 +551,7 @@ fn search_in_turn<S: Store>(alloc: Global, store: &mut S) -> Result<(), Fail> {
 /// The same over a table behind a lock.
 fn over_a_table<R: Wait>(rt: &R, alloc: Global) -> Result<(), Fail> {
     let table = Table::new(alloc)?;
-    let mut store = TableStore::new(rt, &table);
+    let mut store = LockedStore::new(rt, &table);
     search_in_turn(alloc, &mut store)
 }
 

@@ -10,7 +10,7 @@ use std::thread::Threads;
 use tt_game::{Line, Side};
 use tt_proof::{Proof, write_cert};
 use tt_search::{Kept, Store};
-use tt_share::{Table, TableState, TableStore};
+use tt_share::{LockedStore, Table, TableState};
 
 /// The colouring of the first problem reached by moves, so that Black may not repeat the board before: White lives.
 const REPEATED: &[u8] = b"(;SZ[4:1]AW[ba];B[ca];W[da]TR[ba])";
@@ -26,7 +26,7 @@ fn has_slots(
     want: &[usize],
 ) -> Result<bool, Fail> {
     let line = posed(alloc, record)?;
-    Ok(table.slots(&line.key()) == want)
+    Ok(table.places(&line.key()) == want)
 }
 
 /// The index to which the proof of a certificate goes.
@@ -224,8 +224,8 @@ fn share_a_table<A: Store, B: Store>(
 fn kept_by_one_found_by_another(rt: HostRuntime) -> Result<(), Fail> {
     let alloc = rt.alloc();
     let table = Table::new(alloc)?;
-    let mut one = TableStore::new(&rt, &table);
-    let mut other = TableStore::new(&rt, &table);
+    let mut one = LockedStore::new(&rt, &table);
+    let mut other = LockedStore::new(&rt, &table);
     share_a_table(alloc, &mut one, &mut other)
 }
 
@@ -238,8 +238,8 @@ fn keep_at_once<R: Threads + Wait + Sync>(
 ) -> (Kept, Kept) {
     thread::join(
         rt,
-        move || TableStore::new(rt, table).keep(first),
-        move || TableStore::new(rt, table).keep(second),
+        move || LockedStore::new(rt, table).keep(first),
+        move || LockedStore::new(rt, table).keep(second),
     )
 }
 
@@ -251,7 +251,7 @@ fn kept_by_threads(rt: HostRuntime) -> Result<(), Fail> {
     let second = proof_of(alloc, NARROW, b"killed ?aa.--!aa.;")?;
     let (one, other) = keep_at_once(&rt, &table, first, second);
     want(one == Kept::Stored && other == Kept::Stored, "kept")?;
-    let mut store = TableStore::new(&rt, &table);
+    let mut store = LockedStore::new(&rt, &table);
     want(has_found(alloc, &mut store, SPLIT)?, "split")?;
     want(has_found(alloc, &mut store, NARROW)?, "narrow")
 }

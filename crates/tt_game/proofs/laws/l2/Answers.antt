@@ -1,5 +1,5 @@
 use Rattle.tt_game.proofs.OneSide.{not_both}
-use Rattle.tt_game.proofs.laws.at_most_one_side_forces.Goals as goal
+use Rattle.tt_game.proofs.laws.l2.Goals as goal
 
 pub returns : goal.returns
 returns c = λ f s m n a d. not_both m n f s a d
