@@ -1,35 +1,16 @@
-//! Counted boards over stored games, held against plain ones after each turn. An independent program made the games from the rules.
+//! Boards and counted boards over stored games, held point by point against a plain one after each turn. An independent program
+//! made the games from the rules.
 
 ghost use Rattle.std.specs.Prelude.{◌≡◌, ◌<◌};
 ghost use Rattle.tt_sgf.specs.Sizes.{point_count};
 
 use crate::board_tables::CHAIN_GAMES;
 use crate::board_tests::{point_number, sized};
+use crate::plain_board::{PlainBoard, beside};
 use crate::rows::{Table, cut, holding, short_number};
 use std::alloc::Global;
 use tt_board::{Board, Colour, CountedBoard};
 use tt_sgf::{Point, Size};
-
-/// The points beside one: above, left, right and below; 361 where there is none.
-fn beside(size: Size, p: usize) -> [usize; 4] {
-    let columns = usize::from(size.columns());
-    let count = size.point_count();
-    let column = p.checked_rem(columns).unwrap_or(0);
-    let mut near = [361; 4];
-    if columns <= p {
-        near[0] = p - columns;
-    }
-    if column != 0 && p != 0 {
-        near[1] = p - 1;
-    }
-    if column.wrapping_add(1) < columns && p < 360 {
-        near[2] = p + 1;
-    }
-    if p.wrapping_add(columns) < count {
-        near[3] = p.wrapping_add(columns);
-    }
-    near
-}
 
 /// The least mark of a stone and of those of its colour beside it.
 fn least_beside(
@@ -215,6 +196,19 @@ fn counts(counted: &CountedBoard, board: &Board) -> bool {
     counted.board().same(board) && agrees(counted, Colour::Black) && agrees(counted, Colour::White)
 }
 
+/// Whether a board has on each point what the plain one has.
+fn is_plain(board: &Board, plain: &PlainBoard) -> bool {
+    let size = board.size();
+    for k in 0..361 {
+        if let Some(p) = size.point(k) {
+            if board.at(p) != plain.at(usize::from(k)) {
+                return false;
+            }
+        }
+    }
+    true
+}
+
 /// A board with its chains counted, which a game's turns are played on, and one that each turn writes over.
 #[derive(Drop)]
 struct Counted {
@@ -238,16 +232,22 @@ impl Counted {
         }
         None
     }
+
+    /// Whether both have on each point what the plain board has.
+    fn are_plain(&self, plain: &PlainBoard) -> bool {
+        is_plain(&self.played.board(), plain) && is_plain(&self.above.board(), plain)
+    }
 }
 
-/// What the plays of a game do at the most; none where a counted board isn't the plain one after some turn, or says at the end of
-/// some play what another doesn't.
+/// What the plays of a game do at the most; none where a board isn't the plain one after some turn, or a counted board says at the
+/// end of some play what another doesn't.
 fn played(size: Size, turns: &[u8]) -> Option<Most> {
     let mut board = Board::empty(size);
     let mut counted = Counted {
         played: CountedBoard::of(&board),
         above: CountedBoard::of(&board),
     };
+    let mut plain = PlainBoard::empty(size);
     let mut colour = Colour::Black;
     let mut most = Most {
         taken: 0,
@@ -257,6 +257,10 @@ fn played(size: Size, turns: &[u8]) -> Option<Most> {
     for word in turns.chunks(3) {
         if let Some(p) = size.point(point_number(size, word)) {
             let next = counted.play(colour, p)?;
+            plain.play(colour, usize::from(p.number()));
+            if !is_plain(&next, &plain) || !counted.are_plain(&plain) {
+                return None;
+            }
             most = most.with(done(&board, colour, p, &next));
             board = next;
         }

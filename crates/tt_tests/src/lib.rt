@@ -5,6 +5,7 @@
 //! |---|---|
 //! | `sgf_tests` | `tt_sgf`: trees and values |
 //! | `board_tests`, `chain_tests`, `trail_tests`, `board_tables` | `tt_board`: boards and moves, counted chains, trails, and tables of these |
+//! | `plain_board` | a board by the rules alone, which `chain_tests` holds boards against |
 //! | `record_tests` | `tt_game`: records and games |
 //! | `problem_tests`, `turn_tests`, `turn_tables` | `tt_game`: problems, their turns, and tables of these |
 //! | `proof_tests` | `tt_proof`: certificates and proofs |
@@ -34,6 +35,8 @@ mod footprint_tables;
 mod footprint_tests;
 #[cfg(test)]
 mod grants_tests;
+#[cfg(test)]
+mod plain_board;
 #[cfg(test)]
 mod problem_tests;
 #[cfg(test)]
