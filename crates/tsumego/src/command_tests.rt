@@ -1,11 +1,15 @@
-//! Rows of words, input and answer, through `command` and `run` over a reader and a writer in memory.
+//! Rows of words, input and answer, through `command` and `run` over a reader and a writer in memory, also over those that fail or
+//! take few bytes a call.
+
+ghost use Rattle.std.specs.Io.{WritesAtMost};
 
 use crate::answer::run;
 use crate::arguments::command;
 use crate::command_cases::{COMMAND_CASES, PREFIX_CASES, SOLVE_CASES};
-use devices::Watched;
+use devices::{RunFault, Watched};
 use std::alloc::{AllocError, Global};
-use std::io::Eprint;
+use std::io;
+use std::io::{Eprint, Read, Write};
 use std::str::from_utf8;
 use std::sync::Wait;
 use std::thread::Threads;
@@ -66,6 +70,26 @@ fn put_words(alloc: Global, out: &mut Vec<String>, line: &[u8]) -> Result<(), Al
     Ok(())
 }
 
+/// Runs what the words ask for; none where they are refused.
+fn run_words<X: Threads + Wait + Eprint + Sync, R: Read, W: Write>(
+    rt: &X,
+    alloc: Global,
+    words: &[String],
+    reader: R,
+    writer: W,
+) -> Option<Result<u8, RunFault>>
+where
+    R: Drop,
+    W: Drop,
+{
+    let Ok(command) = command(alloc, words) else {
+        return None;
+    };
+    let mut reader = Watched::new(reader);
+    let mut writer = Watched::new(writer);
+    Some(run(rt, alloc, &command, &mut reader, &mut writer))
+}
+
 /// Puts what the words answer to an input, and gives the status: 2 where the words are refused, 3 where the run failed.
 fn put_answer<X: Threads + Wait + Eprint + Sync>(
     rt: &X,
@@ -74,14 +98,10 @@ fn put_answer<X: Threads + Wait + Eprint + Sync>(
     input: &[u8],
     out: &mut Vec<u8>,
 ) -> u8 {
-    let Ok(command) = command(alloc, words) else {
-        return 2;
-    };
-    let mut reader = Watched::new(input);
-    let mut writer = Watched::new(out);
-    match run(rt, alloc, &command, &mut reader, &mut writer) {
-        Ok(status) => status,
-        Err(_) => 3,
+    match run_words(rt, alloc, words, input, out) {
+        None => 2,
+        Some(Ok(status)) => status,
+        Some(Err(_)) => 3,
     }
 }
 
@@ -209,4 +229,247 @@ fn solve_cases_hold(rt: HostRuntime) {
 #[test]
 fn prefix_cases_hold(rt: HostRuntime) {
     assert_eq!(&rt; prefix_cases_holding(&rt, rt.alloc()), 3);
+}
+
+// ---- readers and writers that fail or go slowly
+
+/// Gives at most so many bytes a call, and fails where no call is left.
+#[derive(Drop)]
+struct SlowReader<'a> {
+    rest: &'a [u8],
+    step: usize,
+    calls: usize,
+}
+
+impl Read for SlowReader<'_> {
+    fn read(&mut self, buf: &mut [u8]) -> io::Result<usize> {
+        if self.calls == 0 {
+            return Err(io::Error::from(io::ErrorKind::ConnectionReset));
+        }
+        self.calls -= 1;
+        let count = self.rest.len().min(buf.len()).min(self.step);
+        buf[..count].copy_from_slice(&self.rest[..count]);
+        self.rest = &self.rest[count..];
+        Ok(count)
+    }
+}
+
+/// Takes at most so many bytes a call, and fails where there is no room.
+#[derive(Drop)]
+struct SlowWriter {
+    taken: Vec<u8>,
+    step: usize,
+    room: usize,
+}
+
+impl SlowWriter {
+    /// Takes a beginning of the bytes, none where there is no room.
+    fn take(&mut self, bytes: &[u8]) -> io::Result<usize>
+        ensures { WritesAtMost result bytes.now }
+    {
+        let count = bytes.len().min(self.step).min(self.room);
+        self.taken.extend_from_slice(&bytes[..count])?;
+        self.room -= count;
+        Ok(count)
+    }
+}
+
+impl Write for SlowWriter {
+    fn write(&mut self, buf: &[u8]) -> io::Result<usize> {
+        if self.room == 0 {
+            return Err(io::Error::from(io::ErrorKind::ConnectionReset));
+        }
+        self.take(buf)
+    }
+
+    fn flush(&mut self) -> io::Result<()> {
+        Ok(())
+    }
+}
+
+/// Takes bytes as the one in it does, and where that fails it takes none.
+#[derive(Drop)]
+struct FullWriter(SlowWriter);
+
+impl Write for FullWriter {
+    fn write(&mut self, buf: &[u8]) -> io::Result<usize> {
+        self.0.take(buf)
+    }
+
+    fn flush(&mut self) -> io::Result<()> {
+        Ok(())
+    }
+}
+
+/// A run over a reader and a writer: its words, its input, its status and its answer.
+#[derive(Drop)]
+struct Run<'a> {
+    words: &'a [String],
+    input: &'a [u8],
+    status: u8,
+    want: &'a [u8],
+}
+
+const EACH: [usize; 3] = [1, 7, 64];
+
+impl Run<'_> {
+    /// Whether it ends with the status and the answer where reads give so many bytes, and writes take so many.
+    fn goes_slowly<X: Threads + Wait + Eprint + Sync>(
+        &self,
+        rt: &X,
+        alloc: Global,
+        read: usize,
+        written: usize,
+    ) -> bool {
+        let reader = SlowReader {
+            rest: self.input,
+            step: read,
+            calls: usize::MAX,
+        };
+        let mut writer = SlowWriter {
+            taken: Vec::new(alloc),
+            step: written,
+            room: usize::MAX,
+        };
+        let ended = run_words(rt, alloc, self.words, reader, &mut writer);
+        ended == Some(Ok(self.status)) && writer.taken.as_slice() == self.want
+    }
+
+    /// Whether it ends with `input` and writes nothing where the read behind so many fails. Reads give so many bytes.
+    fn ends_unread<X: Threads + Wait + Eprint + Sync>(
+        &self,
+        rt: &X,
+        alloc: Global,
+        step: usize,
+        calls: usize,
+    ) -> bool {
+        let reader = SlowReader {
+            rest: self.input,
+            step,
+            calls,
+        };
+        let mut taken = Vec::new(alloc);
+        let ended = run_words(rt, alloc, self.words, reader, &mut taken);
+        ended == Some(Err(RunFault::Input)) && taken.is_empty()
+    }
+
+    /// Whether it ends with `output` where the writer fails, or takes none, behind so many bytes, which are a beginning of the answer.
+    fn ends_unwritten<X: Threads + Wait + Eprint + Sync>(
+        &self,
+        rt: &X,
+        alloc: Global,
+        step: usize,
+        room: usize,
+    ) -> bool {
+        let mut failing = SlowWriter {
+            taken: Vec::new(alloc),
+            step,
+            room,
+        };
+        let mut full = FullWriter(SlowWriter {
+            taken: Vec::new(alloc),
+            step,
+            room,
+        });
+        let failed = run_words(rt, alloc, self.words, self.input, &mut failing);
+        let stopped = run_words(rt, alloc, self.words, self.input, &mut full);
+        failed == Some(Err(RunFault::Output))
+            && stopped == Some(Err(RunFault::Output))
+            && is_beginning(failing.taken.as_slice(), self.want, room)
+            && is_beginning(full.0.taken.as_slice(), self.want, room)
+    }
+
+    /// Whether it ends so for each way to cut its input and its answer.
+    fn holds<X: Threads + Wait + Eprint + Sync>(&self, rt: &X, alloc: Global) -> bool {
+        for step in EACH {
+            if !self.goes_slowly(rt, alloc, step, 64) || !self.goes_slowly(rt, alloc, 4096, step) {
+                return false;
+            }
+            // One read more than the input has pieces: the last one says that nothing is left.
+            for calls in 0..=self.input.len().div_ceil(step) {
+                if !self.ends_unread(rt, alloc, step, calls) {
+                    return false;
+                }
+            }
+            for room in 0..self.want.len() {
+                if !self.ends_unwritten(rt, alloc, step, room) {
+                    return false;
+                }
+            }
+        }
+        true
+    }
+}
+
+/// Whether bytes are the first ones of a text, so many.
+fn is_beginning(bytes: &[u8], text: &[u8], count: usize) -> bool {
+    count <= text.len() && bytes == &text[..count]
+}
+
+/// Whether a row holds over such readers and writers: its words, the status, the input, and the answer.
+fn row_is_cut<X: Threads + Wait + Eprint + Sync>(rt: &X, alloc: Global, row: &[u8]) -> bool {
+    let (line, rest) = split_at_byte(row, b'|');
+    let (status, rest) = split_at_byte(rest, b'|');
+    let (input, want) = split_at_byte(rest, b'|');
+    let mut words = Vec::new(alloc);
+    let put = put_words(alloc, &mut words, b"tsumego").is_ok()
+        && put_words(alloc, &mut words, line).is_ok();
+    let run = Run {
+        words: words.as_slice(),
+        input,
+        status: if status == b"0".as_slice() { 0 } else { 1 },
+        want,
+    };
+    put && run.holds(rt, alloc)
+}
+
+#[test]
+fn devices_fail_or_go_slowly(rt: HostRuntime) {
+    let alloc = rt.alloc();
+    assert!(&rt;
+        row_is_cut(
+            &rt,
+            alloc,
+            b"score|1|(;SZ[1])(;SZ[1];B[aa])(;SZ[0])|1 black 0 white 0 unfinished\n2 refused 17\n3 refused 11\n"
+        )
+    );
+    assert!(&rt;
+        row_is_cut(
+            &rt,
+            alloc,
+            b"solve --cert|0|(;SZ[4:1]AW[ba][da]PL[B]TR[ba])|1 killed ca\nkilled !ca?aa.--!aa.;\n"
+        )
+    );
+    assert!(&rt;
+        row_is_cut(
+            &rt,
+            alloc,
+            b"check|0|(;SZ[4:1]AW[ba];B[ca];W[da]TR[ba])lives ?--!--.;|valid\n"
+        )
+    );
+}
+
+/// What is said of refused words; none where they aren't refused.
+fn refusal_of(alloc: Global, words: &[String]) -> Option<String> {
+    match command(alloc, words) {
+        Ok(_) => None,
+        Err(fault) => Some(fault.0),
+    }
+}
+
+/// Whether no word at all is refused as the program's name alone, with a text.
+fn no_words_are_the_name(alloc: Global) -> bool {
+    let mut name = Vec::new(alloc);
+    let put = put_words(alloc, &mut name, b"tsumego").is_ok();
+    match (refusal_of(alloc, &[]), refusal_of(alloc, name.as_slice())) {
+        (Some(of_none), Some(of_name)) => {
+            put && !of_none.as_str().is_empty() && of_none.as_str() == of_name.as_str()
+        }
+        _ => false,
+    }
+}
+
+#[test]
+fn no_words_are_refused_as_the_name_alone(rt: HostRuntime) {
+    assert!(&rt; no_words_are_the_name(rt.alloc()));
 }
