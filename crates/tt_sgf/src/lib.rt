@@ -35,7 +35,7 @@ pub use nodes::values::Values;
 pub use nodes::{MainLine, Node, Property};
 pub use point_lists::point_set;
 pub use sets::PointSet;
-pub use size::{MOST_POINTS, Point, PointOrPass, Size};
+pub use size::{MOST_POINTS, MOST_SIDE, Point, PointOrPass, Size};
 pub use tokens::skip_blanks;
 pub use trees::{MAX_BYTES, has_tree, read_tree};
 pub use value_kinds::{board_size, number, point, trim};

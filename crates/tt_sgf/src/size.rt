@@ -4,6 +4,9 @@ ghost use Rattle.std.specs.Prelude.{◌≡◌, ℕ, ◌<◌, ◌≤◌, ◌↔�
 
 use std::marker::Model;
 
+/// How many columns, and how many rows, the largest board has.
+pub const MOST_SIDE: u16 = 19;
+
 /// How many points the largest board has.
 pub const MOST_POINTS: u16 = 361;
 
@@ -52,7 +55,7 @@ impl Size {
         ensures made { IsSome result ↔ ((1 ≤ columns) × (columns ≤ 19) × (1 ≤ rows) × (rows ≤ 19)) }
         ensures sides { IfSome result (λ s. (s.columns ≡ columns) × (s.rows ≡ rows)) }
     {
-        if columns >= 1 && columns <= 19 && rows >= 1 && rows <= 19 {
+        if columns >= 1 && columns <= MOST_SIDE && rows >= 1 && rows <= MOST_SIDE {
             Some(Size { columns, rows })
         } else {
             None
