@@ -8,7 +8,7 @@ ghost use Rattle.tt_sgf.specs.Values.{after_blanks};
 
 use tt_board::Colour;
 use tt_sgf::{
-    BadPoint, Node, PointSet, Property, Size, board_size, number, point_set, skip_blanks,
+    BadPoint, MOST_SIDE, Node, PointSet, Property, Size, board_size, number, point_set, skip_blanks,
 };
 
 /// The union of the sets of points that the properties of this name give (SGF FF[4], "list of point").
@@ -154,7 +154,7 @@ pub(crate) fn said_size(properties: &[Property]) -> Option<Size>
     ensures { result ≡ size_or_default (values_of SZ properties.now) }
 {
     let Some(value) = first_value(properties, b"SZ") else {
-        return Size::new(19, 19);
+        return Size::new(MOST_SIDE, MOST_SIDE);
     };
     board_size(value)
 }

@@ -18,7 +18,7 @@ use crate::nodes::{
 use crate::turns::Turn;
 use std::alloc::Global;
 use tt_board::Colour;
-use tt_sgf::{MainLine, Node, PointOrPass, PointSet, Property, Size, point};
+use tt_sgf::{MOST_SIDE, MainLine, Node, PointOrPass, PointSet, Property, Size, point};
 
 /// What a record comes to.
 #[derive(Clone, Copy, Debug, PartialEq, Eq)]
@@ -214,7 +214,7 @@ pub(crate) fn empty_game_for_nodes(alloc: Global, nodes: &[Node]) -> Result<Game
     if let Some((first, _)) = nodes.split_first() {
         return GameSoFar::begin_at_node(alloc, first);
     }
-    let Some(size) = Size::new(19, 19) else {
+    let Some(size) = Size::new(MOST_SIDE, MOST_SIDE) else {
         return Err(GameFault::BadSize);
     };
     GameSoFar::begin(alloc, size)
