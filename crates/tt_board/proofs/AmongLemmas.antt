@@ -10,10 +10,10 @@ use Rattle.tt_board.specs.declared.Colour.{Colour}
 use Rattle.tt_board.specs.declared.Colour.TheVariants.{Black, White}
 use Rattle.tt_board.specs.Reach.{entry_at}
 use Rattle.tt_board.specs.Play.{other, is_stone_of, play_of}
-use Rattle.tt_board.specs.inside.Around.{AreOn, IsBesideSome}
+use Rattle.tt_board.specs.Around.{AreOn, IsBesideSome}
 use Rattle.tt_board.specs.inside.Chains.{ChainBoard, IsChainBoard, name_at, root_of, colour_number, Touches}
 use Rattle.tt_board.proofs.AroundLemmas.{off_if}
-use Rattle.tt_board.proofs.LiftLemmas.{near_back}
+use Rattle.tt_board.specs.laws.NearLaws.{near_back}
 use Rattle.tt_board.proofs.LinkLemmas.{named_bare}
 use Rattle.tt_board.proofs.LookLemmas.{code_colour, put_no_capture}
 

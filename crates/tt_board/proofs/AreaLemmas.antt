@@ -27,7 +27,7 @@ use Rattle.tt_board.specs.Reach.{entry_at, Reaches}
 use Rattle.tt_board.specs.Decided.{reaches, reaches_is_exact}
 use Rattle.tt_board.specs.Play.{other, is_stone_of}
 use Rattle.tt_board.specs.Score.{counts_for, area_of, score_of}
-use Rattle.tt_board.specs.inside.Around.{AreReaching}
+use Rattle.tt_board.specs.Around.{AreReaching}
 use Rattle.tt_board.proofs.AroundLemmas.{off_if}
 use Rattle.tt_board.proofs.CountLemmas.{count_same}
 

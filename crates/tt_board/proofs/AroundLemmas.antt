@@ -7,7 +7,7 @@ use Rattle.tt_sgf.specs.declared.bits.TheConstants.{BITS}
 use Rattle.tt_sgf.specs.Sizes.{point_count}
 use Rattle.tt_sgf.specs.laws.SizeLaws.{point_count_is_bounded}
 use Rattle.tt_sgf.specs.MachineWords.{bit_in}
-use Rattle.tt_board.specs.inside.Around.{AreOn, IsBesideSome}
+use Rattle.tt_board.specs.Around.{AreOn, IsBesideSome}
 use Rattle.tt_board.proofs.NearLemmas.{Side, above, left, right, below, side_of, of_side, row_above, row_below, row_before}
 
 -- a bit that isn't 1

@@ -17,7 +17,7 @@ use Rattle.tt_board.specs.Reach.{entry_at, Reaches}
 use Rattle.tt_board.specs.ReachLaws.{reaches_beside, reaches_on, reaches_all}
 use Rattle.tt_board.specs.Play.{is_stone_of}
 use Rattle.tt_board.specs.Setup.{AllHaveLiberties, IsLeastWithoutLiberty}
-use Rattle.tt_board.specs.inside.Around.{AreOn, AreThose, AreReaching, IsBesideSome}
+use Rattle.tt_board.specs.Around.{AreOn, AreThose, AreReaching, IsBesideSome}
 use Rattle.tt_board.proofs.AroundLemmas.{off_if}
 use Rattle.tt_board.proofs.CountLemmas.{count_both, count_some}
 use Rattle.tt_board.proofs.PlaneLemmas.{neither}

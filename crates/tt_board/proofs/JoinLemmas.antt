@@ -14,7 +14,7 @@ use Rattle.tt_board.specs.inside.Chains.{AreLinked, name_at, root_of, IsNamed, t
 use Rattle.tt_board.specs.Decided.{decision_test}
 use Rattle.tt_board.specs.declared.counted.play_kind.TheConstants.{OFF_BOARD_NAME}
 use Rattle.tt_board.proofs.CountLemmas.{same_decided, count_same}
-use Rattle.tt_board.proofs.LiftLemmas.{near_back}
+use Rattle.tt_board.specs.laws.NearLaws.{near_back}
 use Rattle.tt_board.proofs.LinkLemmas.{linked_trans, linked_sym, linked_on, linked_self, named_bare}
 use Rattle.tt_board.proofs.PlayKindLemmas.{never_nowhere}
 

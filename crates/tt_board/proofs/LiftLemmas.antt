@@ -13,14 +13,9 @@ use Rattle.tt_board.specs.ReachLaws.{reaches_beside, reaches_on, reaches_all}
 use Rattle.tt_board.specs.Decided.{reaches, reaches_is_exact, decide_same_entry}
 use Rattle.tt_board.specs.Play.{other, clear, play_of}
 use Rattle.tt_board.specs.Setup.{AllHaveLiberties}
-use Rattle.tt_board.proofs.PlayLemmas.{cleared_gone, cleared_kept_other, cleared_kept_alive, clear_from, other_differs}
-
--- neighbours are each other's
-pub near_back : (s : Size) (p q : ℕ) → p < point_count s → IsNeighbour s p q → IsNeighbour s q p
-near_back s p q in_p (in_q, inl (row, inl step)) = (in_p, inl (sym row, inr step))
-near_back s p q in_p (in_q, inl (row, inr step)) = (in_p, inl (sym row, inl step))
-near_back s p q in_p (in_q, inr (column, inl step)) = (in_p, inr (sym column, inr step))
-near_back s p q in_p (in_q, inr (column, inr step)) = (in_p, inr (sym column, inl step))
+use Rattle.tt_board.proofs.PlayLemmas.{clear_from}
+use Rattle.tt_board.specs.laws.NearLaws.{near_back}
+use Rattle.tt_board.specs.laws.ClearLaws.{cleared_gone, cleared_kept_other, cleared_kept_alive, other_differs}
 
 -- d is c, with some whole chains of colour k lifted that don't reach empty
 pub record IsLifted (s : Size) (c : Colouring) (k : Colour) (d : Colouring) : Type 0 where

@@ -11,7 +11,7 @@ use Rattle.tt_board.specs.Position.{Colouring}
 use Rattle.tt_board.specs.Reach.{entry_at, Reaches}
 use Rattle.tt_board.specs.ReachLaws.{reaches_on}
 use Rattle.tt_board.specs.inside.Chains.{Leads, AreLinked, name_at, IsNamed, AreNames, AreNamesBut}
-use Rattle.tt_board.proofs.LiftLemmas.{near_back}
+use Rattle.tt_board.specs.laws.NearLaws.{near_back}
 
 module _ (s : Size) (c : Colouring) where
   -- a point is linked with itself, with what an adjacent point like it is, and with what linked points are

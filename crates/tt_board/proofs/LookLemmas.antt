@@ -22,8 +22,9 @@ use Rattle.tt_board.specs.Play.{other, play_of}
 use Rattle.tt_board.specs.inside.Chains.{name_at, root_of, colour_number, IsNamed, Touches, touching, is_liberty, liberty_count, ChainBoard, IsChainBoard, IsEachOnce, IsOneName, AreNear}
 use Rattle.tt_board.proofs.CountLemmas.{count_some, another_counted, two_counted, in_list}
 use Rattle.tt_board.proofs.LinkLemmas.{linked_kept, reaches_linked, named_bare, bare_named, named_stone, stone_named, one_name}
-use Rattle.tt_board.proofs.LiftLemmas.{IsLifted, near_back, lifted_none, play_is}
-use Rattle.tt_board.proofs.PlayLemmas.{other_differs}
+use Rattle.tt_board.proofs.LiftLemmas.{IsLifted, lifted_none, play_is}
+use Rattle.tt_board.specs.laws.NearLaws.{near_back}
+use Rattle.tt_board.specs.laws.ClearLaws.{other_differs}
 use Rattle.tt_board.proofs.PlayKindLemmas.{coded}
 
 -- whole chains of colour k that no empty point is beside are lifted

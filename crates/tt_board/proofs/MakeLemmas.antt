@@ -13,7 +13,8 @@ use Rattle.tt_board.specs.Play.{other, clear, play_of}
 use Rattle.tt_board.specs.inside.Chains.{name_at, root_of, renamed, IsEachOnce}
 use Rattle.tt_board.proofs.CountLemmas.{in_list}
 use Rattle.tt_board.proofs.JoinLemmas.{name_renamed, renamed_not}
-use Rattle.tt_board.proofs.PlayLemmas.{length-clear, entry_at_clear, length-play, cleared_either}
+use Rattle.tt_board.proofs.PlayLemmas.{length-clear, length-play}
+use Rattle.tt_board.specs.laws.ClearLaws.{entry_at_clear, cleared_either}
 
 -- clearing leaves a point as it is, or empty
 clear_either : (s : Size) (c : Colouring) (k : Colour) (q : ℕ) → (entry_at (clear s c k) q ≡ None) ⊎ (entry_at (clear s c k) q ≡ entry_at c q)

@@ -14,7 +14,7 @@ use Rattle.tt_board.specs.inside.Neighbours.{IsOneOf, ahead, neighbours_there}
 use Rattle.tt_board.specs.Decided.{decide_neighbour, decision_test, decision_test_is_exact, decision_test_is_false}
 use Rattle.tt_board.specs.inside.Chains.{name_at, Touches, touching, is_liberty, liberty_count, IsEachOnce, AreNear, is_new, count_there, count_beside}
 use Rattle.tt_board.proofs.CountLemmas.{same_decided, count_change, count_same, count_both, count_within, in_list}
-use Rattle.tt_board.proofs.LiftLemmas.{near_back}
+use Rattle.tt_board.specs.laws.NearLaws.{near_back}
 use Rattle.tt_board.proofs.NearLemmas.{in_neighbours}
 
 -- a stone beside p touches it

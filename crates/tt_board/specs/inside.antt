@@ -3,5 +3,4 @@ pub mod Planes
 pub mod Differences
 pub mod Boards
 pub mod Chains
-pub mod Around
 pub mod Neighbours

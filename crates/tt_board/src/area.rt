@@ -4,7 +4,7 @@ ghost use Rattle.std.specs.Prelude.{◌≡◌, ◌≤◌, ◌<◌, ◌^◌, leng
 ghost use Rattle.std.specs.List.{range_with_len};
 ghost use Rattle.tt_sgf.specs.Sizes.{point_count};
 ghost use Rattle.tt_sgf.specs.MachineWords.{bit_in};
-ghost use Rattle.tt_board.specs.inside.Around.{AreOn, AreThose, AreReaching};
+ghost use Rattle.tt_board.specs.Around.{AreOn, AreThose, AreReaching};
 ghost use Rattle.tt_board.specs.Play.{other};
 ghost use Rattle.tt_board.specs.Score.{score_of};
 

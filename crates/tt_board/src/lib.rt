@@ -18,6 +18,8 @@ mod setup;
 
 pub use board::{Board, Lifeless, Occupied};
 pub use boards::board_deltas::BoardDeltas;
+pub use colouring::around::{adjacent_points, first_column};
+pub use colouring::fill::reaching;
 pub use counted::CountedBoard;
 pub use counted::play_kind::PlayKind;
 

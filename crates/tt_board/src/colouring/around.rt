@@ -1,16 +1,16 @@
 //! The points beside those of a set, all at once: six words are moved by a column and by a row.
 
-ghost use Rattle.std.specs.Prelude.{◌≡◌, ℕ, ◌%◌, ◌<◌, ◌≤◌, ◌↔◌, true, false};
+ghost use Rattle.std.specs.Prelude.{◌≡◌, ℕ, ◌<◌, ◌≤◌, ◌↔◌, true, false};
 ghost use Rattle.tt_sgf.specs.declared.bits.TheConstants.{BITS};
 ghost use Rattle.tt_sgf.specs.Sizes.{point_count};
 ghost use Rattle.tt_sgf.specs.MachineWords.{bit_in};
-ghost use Rattle.tt_board.specs.inside.Around.{AreOn, IsBesideSome};
+ghost use Rattle.tt_board.specs.Around.{AreFirstColumn, AreOn, IsBesideSome};
 
 use tt_sgf::{Bits, Size};
 
 /// The points of the first column.
-pub(crate) fn first_column(size: Size) -> Bits
-    ensures { (p : ℕ) → p < point_count size → (bit_in result.words p ≡ true) ↔ (p % size.columns ≡ 0) }
+pub fn first_column(size: Size) -> Bits
+    ensures { AreFirstColumn size result.words }
 {
     let count = size.point_count();
     let columns = usize::from(size.columns());
@@ -24,8 +24,8 @@ pub(crate) fn first_column(size: Size) -> Bits
 }
 
 /// The points of the board beside those of a set. A row ends where the first column begins, so no point is beside one of another row there.
-pub(crate) fn adjacent_points(size: Size, first: &Bits, points: &Bits) -> Bits
-    requires first { (p : ℕ) → p < point_count size → (bit_in first.now.words p ≡ true) ↔ (p % size.columns ≡ 0) }
+pub fn adjacent_points(size: Size, first: &Bits, points: &Bits) -> Bits
+    requires first { AreFirstColumn size first.now.words }
     requires on_board { AreOn size points.now.words }
     ensures { (p : ℕ) → p < point_count size → (bit_in result.words p ≡ true) ↔ IsBesideSome size points.now.words p }
 {

@@ -6,7 +6,7 @@ ghost use Rattle.tt_sgf.specs.Sizes.{point_count};
 ghost use Rattle.tt_sgf.specs.MachineWords.{bit_in};
 ghost use Rattle.tt_board.specs.declared.Colour.{Colour};
 ghost use Rattle.tt_board.specs.Position.{Colouring as Entries};
-ghost use Rattle.tt_board.specs.inside.Around.{AreOn, AreThose, AreReaching};
+ghost use Rattle.tt_board.specs.Around.{AreOn, AreThose, AreReaching};
 
 use crate::Colour;
 use crate::colouring::Colouring;
@@ -37,7 +37,7 @@ pub(crate) fn empty_points(size: Size, points: &Colouring) -> Bits
 }
 
 /// Those of the points of `own`, which are all that hold one entry, that reach the entry of the points of `wanted`.
-pub(crate) fn reaching(size: Size, own: &Bits, wanted: &Bits) -> Bits
+pub fn reaching(size: Size, own: &Bits, wanted: &Bits) -> Bits
     requires own_on_board { AreOn size own.now.words }
     requires wanted_on_board { AreOn size wanted.now.words }
     ensures reaching { (c : Entries) → (a e : Option Colour) → a ≢ e → AreThose size own.now.words c a → AreThose size wanted.now.words c e

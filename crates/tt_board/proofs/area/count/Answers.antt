@@ -2,7 +2,7 @@ use Rattle.std.proofs.Common.{◌+◌, ap, sym, subst, ◌∙◌, count_by, arit
 use Rattle.std.specs.List.{range_with_len}
 use Rattle.tt_sgf.specs.Sizes.{point_count}
 use Rattle.tt_sgf.specs.MachineWords.{bit_in}
-use Rattle.tt_board.specs.inside.Around.{AreOn}
+use Rattle.tt_board.specs.Around.{AreOn}
 use Rattle.tt_board.proofs.AreaLemmas.{counted_more, counted_few, counted_all}
 use Rattle.tt_board.proofs.area.count.Goals as goal
 

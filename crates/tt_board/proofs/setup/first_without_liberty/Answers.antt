@@ -1,7 +1,7 @@
 use Rattle.std.proofs.Common.{Option, Some, None, MatchOption, sym, subst}
 use Rattle.tt_board.specs.declared.Colour.TheVariants.{Black, White}
 use Rattle.tt_board.specs.Setup.{IsLeastWithoutLiberty}
-use Rattle.tt_board.specs.inside.Around.{AreReaching}
+use Rattle.tt_board.specs.Around.{AreReaching}
 use Rattle.tt_board.proofs.FillLemmas.{stones_on, stones_those, least_lifeless, none_lifeless}
 use Rattle.tt_board.proofs.setup.first_without_liberty.Goals as goal
 

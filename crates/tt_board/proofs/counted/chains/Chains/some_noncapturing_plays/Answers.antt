@@ -4,7 +4,7 @@ use Rattle.tt_sgf.specs.Sizes.{point_count}
 use Rattle.tt_sgf.specs.MachineWords.{bit_in, AreBitsOf}
 use Rattle.tt_board.specs.Reach.{entry_at}
 use Rattle.tt_board.specs.Play.{other, is_stone_of}
-use Rattle.tt_board.specs.inside.Around.{IsBesideSome}
+use Rattle.tt_board.specs.Around.{IsBesideSome}
 use Rattle.tt_board.specs.inside.Chains.{ChainBoard, IsChainBoard}
 use Rattle.tt_board.proofs.AmongLemmas.{no_capture_here}
 use Rattle.tt_board.proofs.counted.chains.Chains.some_noncapturing_plays.Goals as goal

@@ -1,5 +1,5 @@
--- Points beside those of a set of points that is kept as bits, and those of a set that reach something. Private contracts alone cite these.
-use Rattle.std.specs.Prelude.{◌≡◌, ℕ, ◌<◌, ◌≤◌, ◌↔◌, List, Option, true, false}
+-- Sets of points that are kept as bits: the points beside those of a set, and those of a set that reach something.
+use Rattle.std.specs.Prelude.{◌≡◌, ℕ, ◌%◌, ◌<◌, ◌≤◌, ◌↔◌, List, Option, true, false}
 use Rattle.tt_sgf.specs.declared.size.Size.{Size}
 use Rattle.tt_sgf.specs.declared.bits.TheConstants.{BITS}
 use Rattle.tt_sgf.specs.Sizes.{point_count}
@@ -12,6 +12,10 @@ use Rattle.tt_board.specs.Reach.{entry_at, Reaches}
 -- all bits are of points of a board of this size
 abbrev pub AreOn : Size → List ℕ → Type 0
 AreOn s words = (q : ℕ) → point_count s ≤ q → q < BITS → bit_in words q ≡ false
+
+-- of the points of the board, the set has those of the first column
+abbrev pub AreFirstColumn : Size → List ℕ → Type 0
+AreFirstColumn s words = (p : ℕ) → p < point_count s → (bit_in words p ≡ true) ↔ (p % s.columns ≡ 0)
 
 -- p is adjacent to a point of the set
 abbrev pub IsBesideSome : Size → List ℕ → ℕ → Type 0

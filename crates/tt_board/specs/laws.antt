@@ -1,0 +1,3 @@
+-- What crates above cite: laws of the definitions, with their proofs. Nobody has to believe these.
+pub mod NearLaws
+pub mod ClearLaws
