@@ -1,0 +1,21 @@
+//! Laws of unconditional life, each the contract of a function that does nothing.
+
+ghost use Rattle.tt_life.specs.Life.{LifeIsKept, LifeIsNeverTaken, LifeLives};
+
+/// Where the attacker plays in the region, stones that are unconditionally alive stay so.
+pub fn life_is_kept()
+    ensures { LifeIsKept }
+{}
+
+/// Where the targets are unconditionally alive the attacker can't force a win, in any number of turns: not even if the defender
+/// always passes.
+pub fn life_is_never_taken()
+    ensures { LifeIsNeverTaken }
+{}
+
+/// At a state of the game where the targets are unconditionally alive the defender forces a win, so its value is that it lives.
+pub fn life_lives()
+    ensures { LifeLives }
+{
+    tt_game::laws::values_are_forced();
+}

@@ -1,0 +1,12 @@
+//! Unconditional life: stones that no play can take, even if their side always passes (D. B. Benson, Life in the Game of Go, 1976).
+//!
+//! | Module | What it has |
+//! |---|---|
+//! | `elimination` | the test, exact and without memory of its own: stones that aren't alive go, till none goes |
+//! | `laws` | what is alive stays so whatever the attacker plays; so the attacker can't force a win, and the problem lives |
+#![tactic(auto)]
+
+mod elimination;
+pub mod laws;
+
+pub use elimination::has_unconditional_life;
