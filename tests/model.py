@@ -347,6 +347,55 @@ def value(frame, state):
     return side if wins else other(side)
 
 
+# ---- Unconditional life, by its definition: sets of points are drawn up and tried
+
+
+def subsets(points):
+    points = sorted(points)
+    for number in range(2 ** len(points)):
+        yield {point for place, point in enumerate(points) if number >> place & 1}
+
+
+def touched_by(size, stones, stone):
+    """The points beside one to which adjacent stones of the set lead from the stone."""
+    chain, edge = {stone}, {stone}
+    while edge:
+        edge = {near for one in edge for near in neighbours(size, one) if near in stones} - chain
+        chain |= edge
+    return {near for one in chain for near in neighbours(size, one)}
+
+
+def is_eye(size, board, stones, eye):
+    """Whether a set of points without a stone of the defender is an eye of the stones: it has an empty point, and each point
+    beside one of it is of it or one of the stones."""
+    beside = {near for point in eye for near in neighbours(size, point)}
+    return any(board[point] == EMPTY for point in eye) and beside <= eye | stones
+
+
+def are_unconditionally_alive(frame, board, stones):
+    """Whether each of these stones touches an empty point outside the region, or each point of two disjoint eyes."""
+    size, region, _, defender = frame
+    spaces = subsets(point for point in points_of(size) if board[point] != defender)
+    eyes = [eye for eye in spaces if is_eye(size, board, stones, eye)]
+    for stone in stones:
+        touched = touched_by(size, stones, stone)
+        own = [eye for eye in eyes if eye <= touched]
+        if any(board[point] == EMPTY and point not in region for point in touched):
+            continue
+        if not any(one.isdisjoint(two) for one in own for two in own):
+            return False
+    return True
+
+
+def is_unconditionally_alive(frame, board):
+    """Whether the targets are among some stones of the defender that are unconditionally alive."""
+    size, _, targets, defender = frame
+    return any(
+        targets <= stones and are_unconditionally_alive(frame, board, stones)
+        for stones in subsets(point for point in points_of(size) if board[point] == defender)
+    )
+
+
 # ---- Strategies: ("done",), ("pick", turn, strategy) and ("reply", [(turn, strategy), ..])
 
 

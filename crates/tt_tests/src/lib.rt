@@ -8,6 +8,7 @@
 //! | `plain_board` | a board by the rules alone, which `chain_tests` holds boards against |
 //! | `record_tests` | `tt_game`: records and games |
 //! | `problem_tests`, `turn_tests`, `turn_tables` | `tt_game`: problems, their turns, and tables of these |
+//! | `life_tests` | `tt_life`: unconditional life |
 //! | `proof_tests` | `tt_proof`: certificates and proofs |
 //! | `footprint_tests`, `footprint_tables` | `tt_proof`: footprints, and their tables |
 //! | `search_tests`, `trace_tests`, `trace_tables` | `tt_search`: searches, their traces, and tables of these |
@@ -35,6 +36,8 @@ mod footprint_tables;
 mod footprint_tests;
 #[cfg(test)]
 mod grants_tests;
+#[cfg(test)]
+mod life_tests;
 #[cfg(test)]
 mod plain_board;
 #[cfg(test)]
