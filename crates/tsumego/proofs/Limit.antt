@@ -10,14 +10,15 @@ use Rattle.tt_sgf.specs.declared.nodes.Node.{Node}
 use Rattle.tt_text.specs.declared.checking.CheckOutcome.{CheckOutcome}
 use Rattle.tt_text.specs.Checking.{Finds, IsCheckText, first_tree, no_tree}
 use Rattle.tt_text.specs.Checking as find
+use Rattle.tsumego.specs.declared.request.Command.{Command}
 use Rattle.tsumego.specs.declared.task.TreeTask.{TreeTask}
-use Rattle.tsumego.specs.Tasks.{MakesOutcome}
+use Rattle.tsumego.specs.Tasks.{IsTaskOf, MakesOutcome, reads_shared_parts}
 use Rattle.tt_text.specs.Trees.{AreOutcomes, BeginsTreesText, EarlierTreesText, IsTreesText, all_lines, all_read, before_more, no_line, nothing, some_lines, stopped, too_long}
 use Rattle.devices.specs.Watching.{IsReadInput}
 use Rattle.devices.specs.laws.PrefixLaws.{prefix_is_whole_or_full}
 use Rattle.devices.specs.Faults.{is_output_fault}
 use Rattle.devices.specs.Writing.{HoldsForInput}
-use Rattle.tsumego.specs.Writing.{WritesAnswer}
+use Rattle.tsumego.specs.Writing.{CommandWrites, WritesAnswer}
 
 module _ (allowed : List Node → TreeOutcome → Type 0) where
   -- outcomes for a part of the input that is too long as well are outcomes for the input
@@ -84,7 +85,7 @@ module _ (parts : Bool) where
   writes_whole None input (Err Memory) a b w = w
 
   -- what is written on what was read up to the limit is written on what the reader had to give
-  pub writes_read : (t : Option TreeTask) (given : Option (List ℕ)) (bytes : List ℕ) (r : Result ℕ RunFault) (a b : Option (List ℕ)) → IsReadInput (MAX_BYTES + 1) given bytes
+  writes_read : (t : Option TreeTask) (given : Option (List ℕ)) (bytes : List ℕ) (r : Result ℕ RunFault) (a b : Option (List ℕ)) → IsReadInput (MAX_BYTES + 1) given bytes
       → WritesAnswer parts t bytes r a b → HoldsForInput given (λ input. WritesAnswer parts t input r a b)
   writes_read t None bytes r a b e w = (bytes, w)
   writes_read t (Some input) bytes r a b e w = writes_whole t input r a b (subst (λ (x : List ℕ). WritesAnswer parts t x r a b) e w)
@@ -97,8 +98,17 @@ module _ (parts : Bool) where
   nothing_written (Some task) input Memory a quiet = ([], nothing, Appends-nil a)
   nothing_written None input Memory a quiet = ([], refl, Appends-nil a)
 
-  -- so it may for what the reader had to give
-  pub writes_nothing : (t : Option TreeTask) (given : Option (List ℕ)) (e : RunFault) (a : Option (List ℕ)) → is_output_fault {A = ℕ} (Err e) ≡ false
-      → HoldsForInput given (λ input. WritesAnswer parts t input (Err e) a a)
-  writes_nothing t None e a quiet = ([], nothing_written t [] e a quiet)
-  writes_nothing t (Some input) e a quiet = nothing_written t input e a quiet
+-- what is written for the command's task on what was read the command writes on what the reader had to give
+pub command_writes_read : (c : Command) (given : Option (List ℕ)) (bytes : List ℕ) (r : Result ℕ RunFault) (a b : Option (List ℕ)) (task : Option TreeTask) (parts : Bool)
+    → IsTaskOf c task → parts ≡ reads_shared_parts c → IsReadInput (MAX_BYTES + 1) given bytes → WritesAnswer parts task bytes r a b
+    → HoldsForInput given (λ input. CommandWrites c input r a b)
+command_writes_read c None bytes r a b task parts is same e w =
+    (bytes, (task, is, subst (λ (x : Bool). WritesAnswer x task bytes r a b) same w))
+command_writes_read c (Some input) bytes r a b task parts is same e w =
+    (task, is, writes_read (reads_shared_parts c) task (Some input) bytes r a b e (subst (λ (x : Bool). WritesAnswer x task bytes r a b) same w))
+
+-- where memory or the input failed, the command may have written nothing
+pub command_writes_nothing : (c : Command) (given : Option (List ℕ)) (e : RunFault) (a : Option (List ℕ)) (task : Option TreeTask) → IsTaskOf c task
+    → is_output_fault {A = ℕ} (Err e) ≡ false → HoldsForInput given (λ input. CommandWrites c input (Err e) a a)
+command_writes_nothing c None e a task is quiet = ([], (task, is, nothing_written (reads_shared_parts c) task [] e a quiet))
+command_writes_nothing c (Some input) e a task is quiet = (task, is, nothing_written (reads_shared_parts c) task input e a quiet)

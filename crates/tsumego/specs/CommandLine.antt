@@ -1,5 +1,5 @@
 -- What the command line says.
-use Rattle.std.specs.Prelude.{◌≡◌, ℕ, ◌⊎◌, Bool, true, false, List, [], ◌∷◌, Option, Some, None, codes, pos}
+use Rattle.std.specs.Prelude.{◌≡◌, ◌≤◌, ℕ, ◌⊎◌, Bool, true, false, List, [], ◌∷◌, Option, Some, None, IfSome, codes, pos}
 use Rattle.std.specs.Str.Parse.{IsNumeral, digits_value, without_leading_plus}
 use Rattle.clap.specs.Values.{bool_text}
 use Rattle.clap.specs.Words.{App, Row, Rule, Text, new_app, new_rule, one_of, with_rule, with_subcommand}
@@ -10,11 +10,8 @@ use Rattle.tt_proof.specs.declared.tree.TheConstants.{MOST_DEPTH}
 use Rattle.tt_search.specs.declared.limits.TheConstants.{MOST_EXPANDED}
 use Rattle.tt_share.specs.declared.capacity.TheConstants.{MOST_WORKERS}
 use Rattle.tt_text.specs.declared.options.TheConstants.{MOST_TOTAL}
-use Rattle.tt_text.specs.declared.options.CertKind.{CertKind}
-use Rattle.tt_text.specs.declared.options.CertKind.TheVariants.{Unasked, Plain, Shared}
 use Rattle.tsumego.specs.declared.request.Command.{Command}
-use Rattle.tsumego.specs.declared.request.Command.TheVariants.{Score, Check, Solve}
-use Rattle.tt_text.specs.declared.options.Options.{Options}
+use Rattle.tsumego.specs.declared.request.Command.TheVariants.{Score, Check, CheckParts, Solve}
 
 -- a line without a subcommand is refused
 abbrev pub with_required_subcommand : App → App
@@ -81,31 +78,30 @@ HasOptionalNumber name rows (Some n) = HasNumber name rows n
 abbrev pub HasFlag : Text → List Row → Bool → Type 0
 HasFlag name rows b = one_of name rows ≡ Some (bool_text b)
 
--- whether a certificate is written
-abbrev pub asks_for_certificate : CertKind → Bool
-asks_for_certificate Unasked = false
-asks_for_certificate Plain = true
-asks_for_certificate Shared = true
-
--- whether it may share parts
-abbrev pub asks_for_shared_parts : CertKind → Bool
-asks_for_shared_parts Unasked = false
-asks_for_shared_parts Plain = false
-asks_for_shared_parts Shared = true
-
--- the options of `solve` in these matches
-abbrev pub HasOptions : List Row → Options → Type 0
-HasOptions rows options = HasNumber (codes "budget") rows options.limits.budget × HasNumber (codes "depth") rows options.limits.depth
-    × HasOptionalNumber (codes "total") rows options.total × HasOptionalNumber (codes "dfpn") rows options.dfpn
-    × HasNumber (codes "workers") rows options.workers × HasFlag (codes "cert") rows (asks_for_certificate options.cert) × HasFlag (codes "parts") rows (asks_for_shared_parts options.cert)
-    × HasFlag (codes "turns") rows options.turns
+-- the command is `solve` with the options in these matches
+abbrev pub AsksForSolve : List Row → Command → Type 0
+AsksForSolve rows (Solve limits workers cert total dfpn parts turns progress) =
+    HasNumber (codes "budget") rows limits.budget × HasNumber (codes "depth") rows limits.depth
+    × HasOptionalNumber (codes "total") rows total × HasOptionalNumber (codes "dfpn") rows dfpn
+    × HasNumber (codes "workers") rows workers × HasFlag (codes "cert") rows cert × HasFlag (codes "parts") rows parts
+    × HasFlag (codes "turns") rows turns × HasFlag (codes "progress") rows progress
+AsksForSolve rows _ = ⊥
 
 -- the subcommand that was met, with its matches, is this command
 abbrev pub AsksForCommand : Option (Text × List Row) → Command → Type 0
 AsksForCommand None c = ⊥
 AsksForCommand (Some p) Score = p.0 ≡ codes "score"
-AsksForCommand (Some p) (Check parts) = (p.0 ≡ codes "check") × HasFlag (codes "parts") p.1 parts
-AsksForCommand (Some p) (Solve options shows_progress) = (p.0 ≡ codes "solve") × HasOptions p.1 options × HasFlag (codes "progress") p.1 shows_progress
+AsksForCommand (Some p) Check = (p.0 ≡ codes "check") × HasFlag (codes "parts") p.1 false
+AsksForCommand (Some p) CheckParts = (p.0 ≡ codes "check") × HasFlag (codes "parts") p.1 true
+AsksForCommand (Some p) (Solve limits workers cert total dfpn parts turns progress) =
+    (p.0 ≡ codes "solve") × AsksForSolve p.1 (Solve limits workers cert total dfpn parts turns progress)
+
+-- the options of `solve` lie in their ranges, and its flags are taken together; budget and greatest depth are facts of the limits
+abbrev pub IsInRange : Command → Type 0
+IsInRange (Solve limits workers cert total dfpn parts turns progress) = (1 ≤ limits.depth) × ((1 ≤ workers) × (workers ≤ MOST_WORKERS))
+    × IfSome total (λ n. (1 ≤ n) × (n ≤ MOST_TOTAL)) × IfSome dfpn (λ n. (1 ≤ n) × (n ≤ MOST_POSITIONS))
+    × (parts ≡ true → cert ≡ true) × (cert ≡ true → turns ≡ false)
+IsInRange _ = Unit {0}
 
 -- flags were given that aren't taken together, or one without the one that it goes with
 abbrev pub HasContradictingFlags : Option (Text × List Row) → Type 0

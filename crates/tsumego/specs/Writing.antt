@@ -6,7 +6,7 @@ use Rattle.devices.specs.Writing.{RunWrites}
 use Rattle.tsumego.specs.declared.request.Command.{Command}
 use Rattle.tsumego.specs.declared.task.TreeTask.{TreeTask}
 use Rattle.tt_text.specs.Checking.{IsCheckText}
-use Rattle.tsumego.specs.Tasks.{MakesOutcome, reads_shared_parts, task_of}
+use Rattle.tsumego.specs.Tasks.{IsTaskOf, MakesOutcome, reads_shared_parts}
 use Rattle.tt_text.specs.Trees.{BeginsTreesText, EarlierTreesText, IsTreesText}
 
 -- an answer to the input, or a beginning of one; and where memory was refused the whole lines on earlier trees alone. The flag says
@@ -19,4 +19,5 @@ WritesAnswer parts None input =
 
 -- what the command writes for the input
 abbrev pub CommandWrites : Command → List ℕ → Result ℕ RunFault → Option (List ℕ) → Option (List ℕ) → Type 0
-CommandWrites c = WritesAnswer (reads_shared_parts c) (task_of c)
+CommandWrites c input result before behind =
+    (task : Option TreeTask) × IsTaskOf c task × WritesAnswer (reads_shared_parts c) task input result before behind

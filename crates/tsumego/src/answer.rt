@@ -3,17 +3,18 @@ ghost use Rattle.std.specs.Prelude.{◌≡◌, IfOk, None, Some, false};
 ghost use Rattle.devices.specs.Faults.{is_input_fault, is_output_fault};
 ghost use Rattle.devices.specs.Watching.{TakesAtMost};
 ghost use Rattle.devices.specs.Writing.{HoldsForInput, WritesText};
+ghost use Rattle.tsumego.specs.CommandLine.{IsInRange};
 ghost use Rattle.tsumego.specs.inside.Lines.{WritesOutcome};
-ghost use Rattle.tsumego.specs.Tasks.{MakesOutcome, reads_shared_parts, task_of};
+ghost use Rattle.tsumego.specs.Tasks.{MakesOutcome, reads_shared_parts};
 ghost use Rattle.tt_text.specs.Trees.{outcome_line};
 ghost use Rattle.tsumego.specs.Writing.{CommandWrites, WritesAnswer};
 
-use crate::progress::Progress;
+use crate::progress::{NoProgress, Progress};
 use crate::request::Command;
-use crate::task::TreeTask;
+use crate::task::{TreeTask, task_of};
 use devices::{RunFault, Watched, read_input, write_bytes};
 use std::alloc::Global;
-use std::io::{Eprint, Read, Write};
+use std::io::{Read, Write};
 use std::sync::Wait;
 use std::thread::Threads;
 use tt_sgf::{MAX_BYTES, MainLine, SgfFault, has_tree, read_tree};
@@ -39,26 +40,22 @@ fn write_outcome_line<W: Write>(
     }
 }
 
-/// Writes what becomes of a tree by its main line, whose text has so many bytes, and says whether it was refused. Its progress
-/// may be shown.
-fn answer_tree<X: Threads + Wait + Eprint + Sync, W: Write>(
+/// Writes what becomes of a tree by its main line, whose text has so many bytes, and says whether it was refused.
+fn answer_tree<X: Threads + Wait + Sync, W: Write, P: Progress>(
     rt: &X,
     alloc: Global,
     task: &TreeTask,
-    shows_progress: bool,
     number: usize,
     main: &MainLine,
     bytes: usize,
     writer: &mut Watched<W>,
+    progress: &P,
 ) -> Result<bool, RunFault>
     requires { writer.old.failed ≡ false }
     ensures written { WritesOutcome (MakesOutcome task.now) number main.now.nodes result (W.contents writer.old.device) (W.contents writer.new.device) }
     ensures failed { writer.new.failed ≡ is_output_fault result }
 {
-    let progress = Progress::for_problem(rt, alloc, shows_progress, number);
-    let made = task.perform(rt, alloc, main, bytes, &progress);
-    progress.wipe_line();
-    let Ok(outcome) = made else {
+    let Ok(outcome) = task.perform(rt, alloc, number, main, bytes, progress) else {
         return Err(RunFault::Memory);
     };
     match write_outcome_line(alloc, writer, number, &outcome) {
@@ -86,13 +83,13 @@ fn write_refusal<W: Write>(
 }
 
 /// Answers the trees of an input one after the other.
-fn answer_trees<X: Threads + Wait + Eprint + Sync, W: Write>(
+fn answer_trees<X: Threads + Wait + Sync, W: Write, P: Progress>(
     rt: &X,
     alloc: Global,
     task: &TreeTask,
-    shows_progress: bool,
     input: &[u8],
     writer: &mut Watched<W>,
+    progress: &P,
 ) -> Result<u8, RunFault>
     requires { writer.old.failed ≡ false }
     ensures written { WritesAnswer false (Some task.now) input.now result (W.contents writer.old.device) (W.contents writer.new.device) }
@@ -106,7 +103,7 @@ fn answer_trees<X: Threads + Wait + Eprint + Sync, W: Write>(
         match read_tree(alloc, rest) {
             Ok((main, used)) => {
                 rest = &rest[used..];
-                match answer_tree(rt, alloc, task, shows_progress, number, &main, used, writer) {
+                match answer_tree(rt, alloc, task, number, &main, used, writer, progress) {
                     Ok(bad) => refused |= bad,
                     Err(fault) => return Err(fault),
                 }
@@ -154,68 +151,47 @@ fn answer_check<W: Write>(
     }
 }
 
-/// What a command does with each tree, where it goes tree by tree.
-fn task_of(command: &Command) -> Option<TreeTask>
-    ensures { result ≡ task_of command.now }
-{
-    match command {
-        Command::Score => Some(TreeTask::Score),
-        Command::Check(_) => None,
-        Command::Solve(options, _) => Some(TreeTask::Solve(*options)),
-    }
-}
-
 /// Whether a certificate may share parts.
 fn reads_shared_parts(command: &Command) -> bool
     ensures { result ≡ reads_shared_parts command.now }
 {
     match command {
-        Command::Score => false,
-        Command::Check(parts) => *parts,
-        Command::Solve(_, _) => false,
+        Command::CheckParts => true,
+        Command::Score | Command::Check | Command::Solve { .. } => false,
     }
 }
 
-/// Whether a command shows its progress.
-fn shows_progress(command: &Command) -> bool {
-    match command {
-        Command::Solve(_, shows_progress) => *shows_progress,
-        Command::Score | Command::Check(_) => false,
-    }
-}
-
-/// Answers an input.
-fn answer<X: Threads + Wait + Eprint + Sync, W: Write>(
+/// Answers an input: by what is done with each of its trees, or by its certificate, which may share parts where that is said.
+fn answer<X: Threads + Wait + Sync, W: Write, P: Progress>(
     rt: &X,
     alloc: Global,
-    command: &Command,
+    parts: bool,
+    task: Option<TreeTask>,
     input: &[u8],
     writer: &mut Watched<W>,
+    progress: &P,
 ) -> Result<u8, RunFault>
     requires { writer.old.failed ≡ false }
-    ensures written { CommandWrites command.now input.now result (W.contents writer.old.device) (W.contents writer.new.device) }
+    ensures written { WritesAnswer parts task input.now result (W.contents writer.old.device) (W.contents writer.new.device) }
     ensures reading { is_input_fault result ≡ false }
     ensures failed { writer.new.failed ≡ is_output_fault result }
 {
-    match task_of(command) {
-        Some(task) => answer_trees(rt, alloc, &task, shows_progress(command), input, writer),
-        None => answer_check(alloc, reads_shared_parts(command), input, writer),
+    match task {
+        Some(task) => answer_trees(rt, alloc, &task, input, writer, progress),
+        None => answer_check(alloc, parts, input, writer),
     }
 }
 
-/// Runs a command on an input: reads it whole, or 1,048,577 bytes of a longer one, and writes its answer and nothing
-/// else. The status is 1 where something was refused or the certificate is invalid, else 0.
-///
-/// Neither reader nor writer has failed before. `Input` comes exactly where a read failed, and then nothing is written;
-/// `Output` exactly where a write failed or took no byte, and then a beginning of the answer is written; after `Memory`
-/// the whole lines of earlier trees are written, or nothing.
-pub fn run<X: Threads + Wait + Eprint + Sync, R: Read, W: Write>(
+/// Runs a command on an input as `run` does, and tells how far its problems are.
+pub fn run_telling<X: Threads + Wait + Sync, R: Read, W: Write, P: Progress>(
     rt: &X,
     alloc: Global,
     command: &Command,
     reader: &mut Watched<R>,
     writer: &mut Watched<W>,
+    progress: &P,
 ) -> Result<u8, RunFault>
+    requires in_range { IsInRange command.now }
     requires reader { reader.old.failed ≡ false }
     requires writer { writer.old.failed ≡ false }
     ensures written { HoldsForInput (R.remaining reader.old.device) (λ input.
@@ -224,8 +200,35 @@ pub fn run<X: Threads + Wait + Eprint + Sync, R: Read, W: Write>(
     ensures input { reader.new.failed ≡ is_input_fault result }
     ensures output { writer.new.failed ≡ is_output_fault result }
 {
+    let task = task_of(command);
+    let parts = reads_shared_parts(command);
     match read_input(alloc, reader, MOST_READ) {
-        Ok(input) => answer(rt, alloc, command, input.as_slice(), writer),
+        Ok(input) => answer(rt, alloc, parts, task, input.as_slice(), writer, progress),
         Err(fault) => Err(fault),
     }
+}
+
+/// Runs a command on an input: reads it whole, or 1,048,577 bytes of a longer one, and writes its answer and nothing
+/// else. The status is 1 where something was refused or the certificate is invalid, else 0.
+///
+/// The options of `Solve` lie in their ranges, and neither reader nor writer has failed before. `Input` comes exactly where a
+/// read failed, and then nothing is written; `Output` exactly where a write failed or took no byte, and then a beginning of the
+/// answer is written; after `Memory` the whole lines of earlier trees are written, or nothing.
+pub fn run<X: Threads + Wait + Sync, R: Read, W: Write>(
+    rt: &X,
+    alloc: Global,
+    command: &Command,
+    reader: &mut Watched<R>,
+    writer: &mut Watched<W>,
+) -> Result<u8, RunFault>
+    requires in_range { IsInRange command.now }
+    requires reader { reader.old.failed ≡ false }
+    requires writer { writer.old.failed ≡ false }
+    ensures written { HoldsForInput (R.remaining reader.old.device) (λ input.
+        CommandWrites command.now input result (W.contents writer.old.device) (W.contents writer.new.device)) }
+    ensures taken { TakesAtMost MOST_READ (R.remaining reader.old.device) (R.remaining reader.new.device) }
+    ensures input { reader.new.failed ≡ is_input_fault result }
+    ensures output { writer.new.failed ≡ is_output_fault result }
+{
+    run_telling(rt, alloc, command, reader, writer, &NoProgress)
 }

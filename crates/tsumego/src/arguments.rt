@@ -1,8 +1,8 @@
 //! The command line.
-ghost use Rattle.std.specs.Prelude.{◌≡◌, ◌≢◌, ◌⊎◌, ◌≤◌, false, [], true, IfErr, IfOk, OnOk, IfSome, map, string_bytes};
+ghost use Rattle.std.specs.Prelude.{◌≡◌, ◌⊎◌, ◌≤◌, false, [], true, IfErr, IfOk, OnOk, IfSome, map, string_bytes};
 ghost use Rattle.clap.specs.Words.{app_of, subcommand_of, subcommand_rows_of, fault_of, takes, kind_of, new_app, rows_of, rule_of, found_of};
 ghost use Rattle.clap.specs.declared.builder.command.Command.TheViews.{out-Command};
-ghost use Rattle.tsumego.specs.CommandLine.{AsksForCommand, HasContradictingFlags, HasOptionalNumber, HasFlag, HasNumber, HasOptions, check_app, flag_arg, asks_for_certificate, asks_for_shared_parts, number_arg, optional_number_arg, solve_app, tsumego_app};
+ghost use Rattle.tsumego.specs.CommandLine.{AsksForCommand, AsksForSolve, HasContradictingFlags, HasFlag, HasNumber, HasOptionalNumber, IsInRange, check_app, flag_arg, number_arg, optional_number_arg, solve_app, tsumego_app};
 
 use crate::request::Command;
 use clap::error::ErrorKind;
@@ -13,7 +13,7 @@ use tt_dfpn::MOST_POSITIONS;
 use tt_proof::MOST_DEPTH;
 use tt_search::{Limits, MOST_EXPANDED};
 use tt_share::MOST_WORKERS;
-use tt_text::{CertKind, MOST_TOTAL, Options};
+use tt_text::MOST_TOTAL;
 
 /// Why a command line was refused: the parser's text, empty where memory was refused or the words couldn't be read.
 #[derive(Debug, Drop)]
@@ -237,66 +237,68 @@ fn is_in_range(given: Option<u32>, most: u32) -> bool
     }
 }
 
-/// Which certificate the flags ask for, where they go together.
-fn cert_kind_of_flags(cert: bool, parts: bool, turns: bool) -> Option<CertKind>
-    ensures flags { IfSome result (λ c. (cert ≡ asks_for_certificate c) × (parts ≡ asks_for_shared_parts c)) }
-    ensures apart { IfSome result (λ c. c ≢ CertKind.Unasked → turns ≡ false) }
+/// Whether the flags are taken together: a certificate has no lines on turns beside it, and only a certificate shares parts.
+fn are_flags_compatible(cert: bool, parts: bool, turns: bool) -> bool
+    ensures parts { result ≡ true → parts ≡ true → cert ≡ true }
+    ensures apart { result ≡ true → cert ≡ true → turns ≡ false }
 {
-    if !cert {
-        return if parts { None } else { Some(CertKind::Unasked) };
-    }
-    if turns {
-        return None;
-    }
-    if parts {
-        Some(CertKind::Shared)
-    } else {
-        Some(CertKind::Plain)
-    }
+    if cert { !turns } else { !parts }
 }
 
-/// The options of `solve`.
-fn options_of(matches: &ArgMatches<'_>) -> Option<Options>
-    ensures { IfSome result (HasOptions (rows_of (found_of matches.now))) }
+/// The command `solve` with its options.
+fn solve_of(matches: &ArgMatches<'_>) -> Option<Command>
+    ensures asked { IfSome result (AsksForSolve (rows_of (found_of matches.now))) }
+    ensures in_range { IfSome result IsInRange }
 {
     let budget = number_of(matches, "budget")?;
     let depth = number_of(matches, "depth")?;
     let total = optional_number_of(matches, "total").ok()?;
     let dfpn = optional_number_of(matches, "dfpn").ok()?;
     let workers = number_of(matches, "workers")?;
+    let cert = flag_of(matches, "cert")?;
+    let parts = flag_of(matches, "parts")?;
     let turns = flag_of(matches, "turns")?;
-    let cert = cert_kind_of_flags(flag_of(matches, "cert")?, flag_of(matches, "parts")?, turns)?;
+    let progress = flag_of(matches, "progress")?;
     if depth < 1
         || depth > MOST_DEPTH as u32
         || workers < 1
         || workers > MOST_WORKERS as u32
         || !is_in_range(total, MOST_TOTAL)
         || !is_in_range(dfpn, MOST_POSITIONS)
+        || !are_flags_compatible(cert, parts, turns)
     {
         return None;
     }
     let limits = Limits::new(budget, depth as u16)?;
-    Some(Options {
+    let workers = workers as usize;
+    Some(Command::Solve {
         limits,
+        workers,
+        cert,
         total,
         dfpn,
-        workers: workers as usize,
-        cert,
+        parts,
         turns,
+        progress,
     })
 }
 
 /// The command that a parse met.
 fn command_of(matches: &ArgMatches<'_>) -> Option<Command>
-    ensures { IfSome result (AsksForCommand (subcommand_rows_of matches.now)) }
+    ensures asked { IfSome result (AsksForCommand (subcommand_rows_of matches.now)) }
+    ensures in_range { IfSome result IsInRange }
 {
     match matches.subcommand() {
         Some(("score", _)) => Some(Command::Score),
-        Some(("check", matches)) => Some(Command::Check(flag_of(matches, "parts")?)),
-        Some(("solve", matches)) => Some(Command::Solve(
-            options_of(matches)?,
-            flag_of(matches, "progress")?,
-        )),
+        Some(("check", matches)) => {
+            let parts = flag_of(matches, "parts")?;
+            Some(if parts {
+                Command::CheckParts
+            } else {
+                Command::Check
+            })
+        }
+        Some(("solve", matches)) => solve_of(matches),
         _ => None,
     }
 }
@@ -334,6 +336,7 @@ fn contradiction_fault(alloc: Global, matches: &ArgMatches<'_>) -> ArgFault
 /// name alone.
 pub fn command(alloc: Global, words: &[String]) -> Result<Command, ArgFault>
     ensures asked { IfOk result (AsksForCommand (subcommand_of tsumego_app (map string_bytes words.now))) }
+    ensures in_range { IfOk result IsInRange }
     ensures clean { OnOk result (fault_of tsumego_app (map string_bytes words.now) ≡ []) }
     ensures taken { takes tsumego_app (map string_bytes words.now) ≡ true
         → IfErr result (λ fault. (string_bytes fault.0 ≡ []) ⊎ HasContradictingFlags (subcommand_of tsumego_app (map string_bytes words.now))) }

@@ -11,9 +11,10 @@ mod progress;
 mod request;
 mod task;
 
-use answer::run;
+use answer::{run, run_telling};
 use arguments::{ArgFault, command};
 use devices::Watched;
+use progress::ProgressLine;
 use request::Command;
 use std::alloc::AllocError;
 use std::io::IsTerminal;
@@ -39,14 +40,11 @@ fn print_fault(rt: &HostRuntime, text: &str) -> io::Result<()> {
     rt.eprint(text)
 }
 
-/// The command, which tells how far it is where standard error is a terminal too.
-fn with_progress_on_terminal(command: Command, terminal: bool) -> Command {
+/// Whether a command shows how far it is: where that is asked for, or standard error is a terminal.
+fn shows_progress(command: &Command, terminal: bool) -> bool {
     match command {
-        Command::Solve(options, shows_progress) => Command::Solve(
-            options,
-            shows_progress || terminal,
-        ),
-        Command::Score | Command::Check(_) => command,
+        Command::Solve { progress, .. } => *progress || terminal,
+        Command::Score | Command::Check | Command::CheckParts => false,
     }
 }
 
@@ -62,10 +60,16 @@ fn main(rt: HostRuntime) -> ExitCode {
             return ExitCode::from(2);
         }
     };
-    let command = with_progress_on_terminal(command, rt.stderr().is_terminal());
     let mut reader = Watched::new(rt.stdin());
     let mut writer = Watched::new(rt.stdout());
-    match run(&rt, rt.alloc(), &command, &mut reader, &mut writer) {
+    let alloc = rt.alloc();
+    let ran = if shows_progress(&command, rt.stderr().is_terminal()) {
+        let line = ProgressLine::new(&rt, alloc);
+        run_telling(&rt, alloc, &command, &mut reader, &mut writer, &line)
+    } else {
+        run(&rt, alloc, &command, &mut reader, &mut writer)
+    };
+    match ran {
         Ok(status) => ExitCode::from(status),
         Err(fault) => {
             let _ = eprintln!(rt; "tsumego: {fault}");

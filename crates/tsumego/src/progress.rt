@@ -1,67 +1,84 @@
-//! How far a problem is, shown on standard error while it is solved.
+//! How far a problem is while it is solved: who is told, and what stands on standard error.
 
 use std::alloc::Global;
 use std::io::Eprint;
 use tt_share::Gate;
 
-/// Tells which problem is being solved, and which of its first turns was begun last, where that is asked for. It stands on one line,
-/// which is wiped in the end. Workers draw first turns in rising order, so those before it are through or under way.
+/// Is told how far the problems of an input are, by several threads at once.
+pub trait Progress: Sync {
+    /// The problem with this number begins.
+    fn begin_problem(&self, number: usize);
+
+    /// One of its first turns begins, by its number among the legal turns, from 0 on. Workers draw first turns in rising order, so
+    /// those before it are through or under way.
+    fn begin_turn(&self, number: usize, job: usize);
+
+    /// The problem that began last has ended.
+    fn end_problem(&self);
+}
+
+/// Is told, and does nothing.
+#[derive(Clone, Copy, Debug, Default)]
+pub struct NoProgress;
+
+impl Progress for NoProgress {
+    fn begin_problem(&self, _number: usize) {}
+
+    fn begin_turn(&self, _number: usize, _job: usize) {}
+
+    fn end_problem(&self) {}
+}
+
+/// Shows the problem, and the first turn that was begun last, on one line of standard error, which is wiped in the end.
 #[derive(Clone, Copy)]
-pub struct Progress<'a, X> {
+pub struct ProgressLine<'a, X> {
     rt: &'a X,
     alloc: Global,
-    is_wanted: bool,
+}
+
+impl<'a, X> ProgressLine<'a, X> {
+    /// A line on which nothing stands yet.
+    pub fn new(rt: &'a X, alloc: Global) -> ProgressLine<'a, X> {
+        ProgressLine { rt, alloc }
+    }
+}
+
+impl<X: Eprint + Sync> Progress for ProgressLine<'_, X> {
+    fn begin_problem(&self, number: usize) {
+        if let Ok(text) = format!(in self.alloc; "problem {number}") {
+            let _ = self.rt.eprint(text.as_str());
+        }
+    }
+
+    fn begin_turn(&self, number: usize, job: usize) {
+        let turn = job.saturating_add(1);
+        if let Ok(text) = format!(in self.alloc; "\rproblem {number}: first turn {turn}") {
+            let _ = self.rt.eprint(text.as_str());
+        }
+    }
+
+    fn end_problem(&self) {
+        let _ = self.rt.eprint("\r\u{1b}[K");
+    }
+}
+
+/// Tells of the first turns of one problem.
+#[derive(Clone, Copy)]
+pub struct ProblemGate<'a, P> {
+    progress: &'a P,
     number: usize,
 }
 
-impl<'a, X: Eprint> Progress<'a, X> {
-    /// Of the problem with this number, which begins now.
-    pub fn for_problem(
-        rt: &'a X,
-        alloc: Global,
-        is_wanted: bool,
-        number: usize,
-    ) -> Progress<'a, X> {
-        let progress = Progress {
-            rt,
-            alloc,
-            is_wanted,
-            number,
-        };
-        progress.tell_problem();
-        progress
-    }
-
-    fn tell_problem(&self) {
-        if !self.is_wanted {
-            return;
-        }
-        if let Ok(text) = format!(in self.alloc; "problem {}", self.number) {
-            let _ = self.rt.eprint(text.as_str());
-        }
-    }
-
-    fn tell_turn_begun(&self, job: usize) {
-        if !self.is_wanted {
-            return;
-        }
-        let turn = job.saturating_add(1);
-        if let Ok(text) = format!(in self.alloc; "\rproblem {}: first turn {turn}", self.number) {
-            let _ = self.rt.eprint(text.as_str());
-        }
-    }
-
-    /// Wipes the line.
-    pub fn wipe_line(&self) {
-        if self.is_wanted {
-            let _ = self.rt.eprint("\r\u{1b}[K");
-        }
+impl<'a, P: Progress> ProblemGate<'a, P> {
+    /// Of the problem with this number.
+    pub fn new(progress: &'a P, number: usize) -> ProblemGate<'a, P> {
+        ProblemGate { progress, number }
     }
 }
 
-impl<X: Eprint + Sync> Gate for Progress<'_, X> {
+impl<P: Progress> Gate for ProblemGate<'_, P> {
     fn begin(&self, job: usize) {
-        self.tell_turn_begun(job);
+        self.progress.begin_turn(self.number, job);
     }
 
     fn end(&self, _job: usize) {}

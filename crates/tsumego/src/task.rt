@@ -1,13 +1,15 @@
 //! What is done with each tree of an input.
-ghost use Rattle.std.specs.Prelude.{IfOk};
-ghost use Rattle.tsumego.specs.Tasks.{MakesOutcome};
+ghost use Rattle.std.specs.Prelude.{◌≡◌, IfOk, true};
+ghost use Rattle.tsumego.specs.CommandLine.{IsInRange};
+ghost use Rattle.tsumego.specs.Tasks.{IsTaskOf, MakesOutcome, asks_for_certificate, asks_for_shared_parts};
 
+use crate::progress::{ProblemGate, Progress};
+use crate::request::Command;
 use std::alloc::Global;
 use std::sync::Wait;
 use std::thread::Threads;
 use tt_sgf::{MainLine, NoMemory};
-use tt_share::Gate;
-use tt_text::{Options, TreeOutcome, score, solve};
+use tt_text::{CertKind, Options, TreeOutcome, score, solve};
 
 /// What is done with each tree of an input: it is scored as a record or solved as a problem.
 #[derive(Clone, Copy, Debug)]
@@ -16,21 +18,68 @@ pub enum TreeTask {
     Solve(Options),
 }
 
+/// The kind of certificate that the flags ask for.
+fn cert_kind_of_flags(cert: bool, parts: bool) -> CertKind
+    requires { parts ≡ true → cert ≡ true }
+    ensures { (asks_for_certificate result ≡ cert) × (asks_for_shared_parts result ≡ parts) }
+{
+    match (cert, parts) {
+        (true, true) => CertKind::Shared,
+        (true, false) => CertKind::Plain,
+        (false, _) => CertKind::Unasked,
+    }
+}
+
+/// What a command does with each tree, where it goes tree by tree.
+pub fn task_of(command: &Command) -> Option<TreeTask>
+    requires { IsInRange command.now }
+    ensures { IsTaskOf command.now result }
+{
+    match command {
+        Command::Score => Some(TreeTask::Score),
+        Command::Check | Command::CheckParts => None,
+        Command::Solve {
+            limits,
+            workers,
+            cert,
+            total,
+            dfpn,
+            parts,
+            turns,
+            ..
+        } => Some(TreeTask::Solve(Options {
+            limits: *limits,
+            total: *total,
+            dfpn: *dfpn,
+            workers: *workers,
+            cert: cert_kind_of_flags(*cert, *parts),
+            turns: *turns,
+        })),
+    }
+}
+
 impl TreeTask {
-    /// What becomes of a tree, whose text has so many bytes. The gate hears of a problem's first turns.
-    pub fn perform<X: Threads + Wait + Sync, G: Gate>(
+    /// What becomes of the tree with this number, whose text has so many bytes. Where it is solved, it is told how far that is.
+    pub fn perform<X: Threads + Wait + Sync, P: Progress>(
         &self,
         rt: &X,
         alloc: Global,
+        number: usize,
         main: &MainLine,
         bytes: usize,
-        gate: &G,
+        progress: &P,
     ) -> Result<TreeOutcome, NoMemory>
         ensures { IfOk result (MakesOutcome self.now main.now.nodes) }
     {
         match self {
             TreeTask::Score => score(alloc, main),
-            TreeTask::Solve(options) => solve(rt, alloc, main, *options, bytes, gate),
+            TreeTask::Solve(options) => {
+                progress.begin_problem(number);
+                let gate = ProblemGate::new(progress, number);
+                let outcome = solve(rt, alloc, main, *options, bytes, &gate);
+                progress.end_problem();
+                outcome
+            }
         }
     }
 }

@@ -1,4 +1,4 @@
-use Rattle.std.proofs.Common.{◌≡◌, ◌∙◌, ℕ, Bool, false, List, Option, None, Some, subst, sym}
+use Rattle.std.proofs.Common.{◌≡◌, ℕ, Bool, false, List, Option, None, Some, subst, sym}
 use Rattle.std.specs.declared.result.Result.{Result}
 use Rattle.devices.specs.declared.fault.RunFault.{RunFault}
 use Rattle.tsumego.specs.declared.task.TreeTask.{TreeTask}
@@ -6,20 +6,19 @@ use Rattle.tsumego.specs.Writing.{WritesAnswer}
 use Rattle.tsumego.proofs.answer.answer.Goals as goal
 
 -- what is written for the task is written for what has that task, whatever is said of parts
-of_task : (parts : Bool) (asked : Option TreeTask) (t : TreeTask) (o : Option TreeTask) (input : List ℕ) (r : Result ℕ RunFault) (a b : Option (List ℕ)) → o ≡ asked → o ≡ Some t
-    → WritesAnswer false (Some t) input r a b → WritesAnswer parts asked input r a b
-of_task parts asked t o input r a b is some w = subst (λ (x : Option TreeTask). WritesAnswer parts x input r a b) (sym some ∙ is) w
+of_task : (parts : Bool) (t : TreeTask) (o : Option TreeTask) (input : List ℕ) (r : Result ℕ RunFault) (a b : Option (List ℕ)) → o ≡ Some t
+    → WritesAnswer false (Some t) input r a b → WritesAnswer parts o input r a b
+of_task parts t o input r a b some w = subst (λ (x : Option TreeTask). WritesAnswer parts x input r a b) (sym some) w
 
 pub returns-in-Some-clause-written : goal.returns-in-Some-clause-written
 returns-in-Some-clause-written g c =
-    of_task _ _ c.in-Some.task _ c.args.input.now c.answer_trees.result _ _ c.task_of.ensures c.in-Some.is c.answer_trees.ensures.written
+    of_task _ c.in-Some.task _ c.args.input.now c.answer_trees.result _ _ c.in-Some.is c.answer_trees.ensures.written
 
--- what is written for no task is written for what has none, where the same is said of parts
-of_check : (p q : Bool) (asked o : Option TreeTask) (input : List ℕ) (r : Result ℕ RunFault) (a b : Option (List ℕ)) → p ≡ q → o ≡ asked → o ≡ None
-    → WritesAnswer p None input r a b → WritesAnswer q asked input r a b
-of_check p q asked o input r a b same is none w =
-    subst (λ (x : Bool). WritesAnswer x asked input r a b) same (subst (λ (x : Option TreeTask). WritesAnswer p x input r a b) (sym none ∙ is) w)
+-- what is written for no task is written for what has none
+of_check : (parts : Bool) (o : Option TreeTask) (input : List ℕ) (r : Result ℕ RunFault) (a b : Option (List ℕ)) → o ≡ None
+    → WritesAnswer parts None input r a b → WritesAnswer parts o input r a b
+of_check parts o input r a b none w = subst (λ (x : Option TreeTask). WritesAnswer parts x input r a b) (sym none) w
 
 pub returns-in-None-clause-written : goal.returns-in-None-clause-written
 returns-in-None-clause-written g c =
-    of_check _ _ _ _ c.args.input.now c.answer_check.result _ _ c.reads_shared_parts.ensures c.task_of.ensures c.in-None.is c.answer_check.ensures.written
+    of_check _ _ c.args.input.now c.answer_check.result _ _ c.in-None.is c.answer_check.ensures.written
