@@ -8,6 +8,7 @@ ghost use Rattle.tt_search.specs.Stores.{HasKeyAndSide, IsNewest};
 ghost use Rattle.tt_search.specs.declared.store.Kept.TheVariants.{Stored, Full};
 ghost use Rattle.tt_share.specs.Log.{KeepsProof, Extends, proofs_newest_first, HasTokenOfKeyAndSide};
 
+use crate::capacity::MOST_KEPT_PROOFS;
 use crate::log::view::View;
 use std::marker::Model;
 use std::sync::{Arc, Wait};
@@ -54,6 +55,21 @@ impl<'a, R> LogStore<'a, R> {
         let LogStore { rt: _, view } = self;
         view
     }
+
+    /// How many proofs may be kept through this store: 4,096.
+    pub fn capacity(&self) -> usize
+        ensures { result ≡ MOST_KEPT_PROOFS }
+    {
+        self.view.capacity()
+    }
+
+    /// How many proofs were kept through this store: at most 4,096.
+    pub fn kept(&self) -> usize
+        ensures kept { result ≡ self.now.kept }
+        ensures most { result ≤ MOST_KEPT_PROOFS }
+    {
+        self.view.kept()
+    }
 }
 
 impl<'a, R: Wait> Store for LogStore<'a, R> {
@@ -66,11 +82,11 @@ impl<'a, R: Wait> Store for LogStore<'a, R> {
     ghost may_answer = { Unit {0} };
 
     fn capacity(&self) -> usize {
-        self.view.capacity()
+        LogStore::capacity(self)
     }
 
     fn kept(&self) -> usize {
-        self.view.kept()
+        LogStore::kept(self)
     }
 
     fn find(&mut self, line: &Line, s: Side) -> Result<Option<Arc<Proof>>, NoMemory>

@@ -57,6 +57,21 @@ impl<'a, R> LockedStore<'a, R> {
     {
         LockedStore { rt, table, kept: 0 }
     }
+
+    /// How many proofs may be kept through this handle: 4,096.
+    pub fn capacity(&self) -> usize
+        ensures { result ≡ MOST_KEPT_PROOFS }
+    {
+        MOST_KEPT_PROOFS
+    }
+
+    /// How many proofs were kept through this handle: at most 4,096.
+    pub fn kept(&self) -> usize
+        ensures kept { result ≡ self.now }
+        ensures most { result ≤ MOST_KEPT_PROOFS }
+    {
+        self.kept
+    }
 }
 
 impl<'a, R: Wait> Store for LockedStore<'a, R> {
@@ -69,11 +84,11 @@ impl<'a, R: Wait> Store for LockedStore<'a, R> {
     ghost may_answer = { Unit {0} };
 
     fn capacity(&self) -> usize {
-        MOST_KEPT_PROOFS
+        LockedStore::capacity(self)
     }
 
     fn kept(&self) -> usize {
-        self.kept
+        LockedStore::kept(self)
     }
 
     fn find(&mut self, line: &Line, s: Side) -> Result<Option<Arc<Proof>>, NoMemory> {
