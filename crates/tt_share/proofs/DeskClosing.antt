@@ -1,6 +1,6 @@
 -- What a desk shows once one seat stands for all.
 use Rattle.std.proofs.Common.{◌≡◌, ℕ, zero, suc, ◌+◌, ◌-◌, ◌<◌, ◌≤◌, Bool, true, false, ◌||◌, List, [], ◌∷◌, length, set, sum_by, All, Contains, cond, leb, ltb, min, nat_eq, refl, sym, ap}
-use Rattle.std.proofs.Common.{◌∙◌, zero-add, subst, arith, Option, Some, None, MatchOption, IfSome, IsTrue}
+use Rattle.std.proofs.Common.{◌∙◌, zero-add, subst, arith, Option, Some, None, MatchOption, IsTrue}
 use Rattle.std.specs.List.{list_any}
 use Rattle.std.proofs.lemmas.Bool.Decides.{nat_tests}
 use Rattle.std.proofs.lemmas.List.Sums.{sum_by-cons, sum_by-append, get_or-le-sum_by}
@@ -156,12 +156,14 @@ module _ (list : SeatModel → List ℕ) (count : ℕ) (seats : List SeatModel) 
       omega arith
 
 -- what the seats show of the grants of a total
-spends : (total word : ℕ) (seats : List SeatModel) → 0 < total → ((weight : ℕ → ℕ) → sum_by (λ (s : SeatModel). sum_by weight s.grants) seats ≡ sum_below weight word)
+spends : (total word : ℕ) (seats : List SeatModel) → ((weight : ℕ → ℕ) → sum_by (λ (s : SeatModel). sum_by weight s.grants) seats ≡ sum_below weight word)
     → AreGrantsOfTotal total (min word total) seats
-spends total word seats positive weights = record {
+spends total word seats weights = record {
   asked = (word, each_once (λ s. s.grants) word seats weights, refl);
   granted_is = sym (weights (λ k. cond (ltb k total) 1 0) ∙ least_below total word);
-  refused = λ s has ends. let b = beyond (λ t. t.grants) word seats weights total positive s has ends in omega arith;
+  refused = λ s has ends. dite (dec_lt 0 total)
+      (λ positive. let b = beyond (λ t. t.grants) word seats weights total positive s has ends in omega arith)
+      (λ none. omega arith);
 }
 
 -- what seats of a closed desk show, where its words are known
@@ -171,7 +173,7 @@ pub record End (desk : DeskModel) (seats : List SeatModel) (drawn asked : ℕ) :
   pub draws_most : drawn ≤ desk.jobs + desk.seats
   pub draws_are : All (λ s. EndsInOverdraw desk.jobs s.numbers) seats → drawn ≡ desk.jobs + desk.seats
   pub sighted : IsTrue (list_any (λ s. s.saw_flag) seats) → IsTrue (list_any (λ s. s.flag) seats)
-  pub grants : (total : ℕ) → 0 < total → AreGrantsOfTotal total (min asked total) seats
+  pub grants : (total : ℕ) → AreGrantsOfTotal total (min asked total) seats
 
 -- where one gathers all seats and stands for all, they show what seats of a closed desk show
 pub closes : (desk : DeskModel) (plan : DeskSize) (drawn flag asked : ℕ) (knowledge : List SeatKnowledge) (id : ℕ) (v : SeatKnowledge) (seats : List SeatModel) → plan.jobs ≡ desk.jobs → plan.seats ≡ desk.seats
@@ -197,11 +199,11 @@ closes desk plan drawn flag asked knowledge id v seats same_jobs same_seats len 
           let one = sum_at bit knowledge has.0 has.1 has.2 in
           let its_bit : bit has.1 ≡ 1 = ap (λ (b : Bool). cond b 1 0) has.3 in
           g.marks ∙ is_set v.flag (let e = alone bit knowledge id v at all_parts refl h.spent in omega arith);
-      grants = λ total positive. spends total asked seats positive grants;
+      grants = λ total. spends total asked seats grants;
     }
 
 -- what is known of the grants, where there is a total and where there is none
-pub grants_by : (total : Option ℕ) (key granted asked : ℕ) (seats : List SeatModel) → MatchOption total (granted ≡ 0) (λ n. granted ≡ min asked n) → IfSome total (λ n. (key ≡ n) × (0 < n))
-    → ((n : ℕ) → 0 < n → AreGrantsOfTotal n (min asked n) seats) → MatchOption total (granted ≡ 0) (λ n. AreGrantsOfTotal n granted seats)
-grants_by None key granted asked seats is positive all = is
-grants_by (Some n) key granted asked seats is positive all = subst (λ (g : ℕ). AreGrantsOfTotal n g seats) (sym is) (all n positive.1)
+pub grants_by : (total : Option ℕ) (granted asked : ℕ) (seats : List SeatModel) → MatchOption total (granted ≡ 0) (λ n. granted ≡ min asked n)
+    → ((n : ℕ) → AreGrantsOfTotal n (min asked n) seats) → MatchOption total (granted ≡ 0) (λ n. AreGrantsOfTotal n granted seats)
+grants_by None granted asked seats is all = is
+grants_by (Some n) granted asked seats is all = subst (λ (g : ℕ). AreGrantsOfTotal n g seats) (sym is) (all n)

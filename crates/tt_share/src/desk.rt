@@ -54,7 +54,7 @@ impl Model for Desk {
       no_slots : d.table.shared.table_id.slots ≡ 0;
       jobs_are : d.table.shared.key.jobs ≡ d.jobs;
       seats_are : d.table.shared.key.seats ≡ d.seats;
-      total_is : IfSome d.total (λ n. (d.table.shared.key.total ≡ n) × (0 < n));
+      total_is : IfSome d.total (λ n. d.table.shared.key.total ≡ n);
       jobs : (0 < d.jobs) × (d.jobs ≤ MOST_LEGAL);
       seats : (0 < d.seats) × (d.seats ≤ MOST_WORKERS + 1);
       grants : d.table.shared.key.total < 2 ^ 32;
@@ -160,7 +160,7 @@ fn granted_of_total(asked: u64, total: Option<u32>) -> u64
 
 impl Desk {
     /// A desk of 1 to `MOST_LEGAL` jobs with all its seats, 1 to `MOST_WORKERS` and one more, none of which has made a step. It gives as
-    /// many grants as `total`, which is at least 1, or any number where there is none. `NoMemory` where memory was refused.
+    /// many grants as `total`, or any number where there is none. `NoMemory` where memory was refused.
     pub fn new(
         alloc: Global,
         jobs: usize,
@@ -169,7 +169,6 @@ impl Desk {
     ) -> Result<(Desk, Vec<Seat>), NoMemory>
         requires jobs { (0 < jobs) × (jobs ≤ MOST_LEGAL) }
         requires seats { (0 < seats) × (seats ≤ MOST_WORKERS + 1) }
-        requires total { IfSome total (λ n. 0 < n) }
         ensures desk { IfOk result (λ r. (r.0.jobs ≡ jobs) × (r.0.seats ≡ seats) × (r.0.total ≡ total)) }
         ensures seats { IfOk result (λ r. r.1.items ≡ replicate seats (fresh_seat r.0.id)) }
     {
@@ -236,8 +235,8 @@ impl Desk {
     }
 
     /// Whether one more of the desk's total was left, by one step. Once a seat was refused, each later call on that seat is
-    /// refused and makes no step. Without a total the answer is always true, and no step is made. The seat is one of this
-    /// desk's.
+    /// refused and makes no step; so is each call where the total is 0. Without a total the answer is always true, and no step is
+    /// made. The seat is one of this desk's.
     pub fn grant(&self, s: &mut Seat) -> bool
         requires { s.old.desk ≡ self.now.id }
         ensures unbounded { self.now.total ≡ None → (result ≡ true) × (s.new ≡ s.old) }

@@ -1,6 +1,6 @@
 //! Solving by workers in threads.
 
-ghost use Rattle.std.specs.Prelude.{◌≡◌, ◌≤◌, ◌<◌, None, IfSome, OnOk};
+ghost use Rattle.std.specs.Prelude.{◌≡◌, ◌≤◌, None, OnOk};
 ghost use Rattle.tt_game.specs.Game.{winner_of};
 ghost use Rattle.tt_share.specs.declared.capacity.TheConstants.{MOST_WORKERS};
 ghost use Rattle.tt_share.specs.Answers.{IsAnswer};
@@ -35,7 +35,6 @@ pub(crate) fn search_together<R: Threads + Wait + Sync, G: Gate, S: Store>(
     gate: &G,
     store: &mut S,
 ) -> Result<(), NoMemory>
-    requires total { IfSome total (λ n. 0 < n) }
     requires workers { (1 ≤ workers) × (workers ≤ MOST_WORKERS) }
     requires blank { KnowsNothing results.old }
     ensures line { (results.new.line ≡ results.old.line) × (results.new.limits ≡ results.old.limits) }
@@ -63,8 +62,7 @@ pub(crate) fn search_together<R: Threads + Wait + Sync, G: Gate, S: Store>(
 /// share the log: each of them, and the caller, has a view of it. The log is asked first for a proof that wins at the line itself.
 /// Else each legal turn, in rising order, is a job: workers draw them and search each with the same budget and a depth one less,
 /// until one is settled for the side to move. Where none is, the caller searches what they left, up to a turn that wins. The proof
-/// that the results make is offered to the log. Where there is a total, which is at least 1, all searches together expand at most so
-/// many nodes. The depth is at least 1, and nobody has won at the line.
+/// that the results make is offered to the log. Where there is a total, all searches together expand at most so many nodes. The depth is at least 1, and nobody has won at the line.
 pub fn solve<R: Threads + Wait + Sync, G: Gate>(
     rt: &R,
     alloc: Global,
@@ -77,7 +75,6 @@ pub fn solve<R: Threads + Wait + Sync, G: Gate>(
 ) -> Answer
     requires workers { (1 ≤ workers) × (workers ≤ MOST_WORKERS) }
     requires limits { 1 ≤ limits.now.depth }
-    requires total { IfSome total (λ n. 0 < n) }
     requires open { winner_of line.now.frame line.now.state ≡ None }
     ensures { IsAnswer line.now limits.now total result }
 {

@@ -2,7 +2,8 @@
 use atomic_table::{Join, Play, Split, TableRule};
 use std::collections::LinkedList;
 
-/// How many jobs, seats and grants a desk has. Where it has no total it grants without a step, and `total` is 0.
+/// How many jobs, seats and grants a desk has. Where it has no total it grants without a step, and where
+/// that is 0 it refuses without one: `total` is 0 in both cases.
 #[derive(Drop)]
 pub struct DeskSize {
     pub jobs: usize,

@@ -1,7 +1,5 @@
 //! What the tests share: the lines of problems, and their answers as texts.
 
-ghost use Rattle.std.specs.Prelude.{◌<◌, IfSome};
-
 use std::alloc::Global;
 use std::sync::{Arc, Wait};
 use std::test::Fail;
@@ -77,20 +75,13 @@ pub(crate) fn searched(alloc: Global, text: &[u8]) -> Result<Arc<Proof>, Fail> {
     }
 }
 
-/// What a problem is solved with: a total of 0 is none.
+/// What a problem is solved with.
 #[derive(Clone, Copy)]
 pub(crate) struct Setting {
     pub budget: u32,
     pub depth: u16,
-    pub total: u32,
+    pub total: Option<u32>,
     pub workers: usize,
-}
-
-/// The total, where it isn't 0.
-fn some_total(total: u32) -> Option<u32>
-    ensures { IfSome result (λ n. 0 < n) }
-{
-    if total > 0 { Some(total) } else { None }
 }
 
 /// The answer to a line by workers over the log.
@@ -103,14 +94,13 @@ pub(crate) fn answered<R: Threads + Wait + Sync, G: Gate>(
     gate: &G,
 ) -> Result<Answer, Fail> {
     let workers = with.workers;
-    let total = some_total(with.total);
     let Some(limits) = Limits::new(with.budget, with.depth) else {
         return Err(Fail::new("no limits"));
     };
     if limits.depth() == 0 || line.winner().is_some() || workers == 0 || workers > 64 {
         return Err(Fail::new("nothing to solve"));
     }
-    Ok(solve(rt, alloc, line, &limits, total, workers, log, gate))
+    Ok(solve(rt, alloc, line, &limits, with.total, workers, log, gate))
 }
 
 /// The same as a text.

@@ -63,7 +63,6 @@ fn spent<R: Threads + Sync>(
     trues: &AtomicU64,
 ) -> Result<u64, NoMemory>
     requires seats { (0 < seats) × (seats ≤ 65) }
-    requires total { 0 < total }
 {
     let (desk, seats) = Desk::new(alloc, 1, seats, Some(total))?;
     let shared = &desk;
@@ -136,6 +135,23 @@ fn two_seats_share_a_total(rt: HostRuntime) -> Result<(), Fail> {
     let wanted = Closed {
         draws: 0,
         granted: 3,
+    };
+    assert!(rt; desk.close(seats).ok() == Some(wanted));
+    Ok(())
+}
+
+#[test]
+fn a_total_of_0_grants_nothing(rt: HostRuntime) -> Result<(), Fail> {
+    let Ok((desk, mut seats)) = Desk::new(rt.alloc(), 1, 2, Some(0)) else {
+        panic!(rt; "memory")
+    };
+    let first = desk.grant(&mut seats[0]);
+    let second = desk.grant(&mut seats[1]);
+    let third = desk.grant(&mut seats[0]);
+    assert!(rt; !first && !second && !third);
+    let wanted = Closed {
+        draws: 0,
+        granted: 0,
     };
     assert!(rt; desk.close(seats).ok() == Some(wanted));
     Ok(())

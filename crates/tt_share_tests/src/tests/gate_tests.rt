@@ -35,7 +35,7 @@ fn ample(workers: usize) -> Setting {
     Setting {
         budget: 100_000,
         depth: 512,
-        total: 0,
+        total: None,
         workers,
     }
 }
@@ -324,7 +324,7 @@ fn keeps_nothing<R: Threads + Wait + Sync>(rt: &R, alloc: Global) -> Result<bool
     let with = Setting {
         budget: 100,
         depth: 512,
-        total: 1,
+        total: Some(1),
         workers: 1,
     };
     solved(rt, alloc, SPLIT, with, &log, &NoGate)?;

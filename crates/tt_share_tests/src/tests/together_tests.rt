@@ -25,6 +25,14 @@ struct Row<'a> {
     kept: &'a [u8],
 }
 
+/// The total that the digits write, or none where there are none.
+fn total_of(digits: &[u8]) -> Option<u32> {
+    if digits.is_empty() {
+        return None;
+    }
+    Some(number(digits))
+}
+
 /// The line of a table, in which a bar ends each part but the last. What isn't asked for is empty.
 fn row_of(line: &[u8]) -> Row<'_> {
     let (problem, rest) = cut(line, b'|');
@@ -38,7 +46,7 @@ fn row_of(line: &[u8]) -> Row<'_> {
     let with = Setting {
         budget: number(budget),
         depth: short_number(depth),
-        total: number(total),
+        total: total_of(total),
         workers: usize::from(short_number(workers)),
     };
     Row {
@@ -315,6 +323,18 @@ const TOLD_WITHIN_ONE: &str = "\
 #[test]
 fn each_job_is_told_though_the_total_is_spent(rt: HostRuntime) -> Result<(), Fail> {
     hold(&rt, rt.alloc(), TOLD_WITHIN_ONE, 3)
+}
+
+/// The same where no search may expand a node. Each job is told, and each is stuck.
+const TOLD_WITHIN_NONE: &str = "\
+(;SZ[4:1]AW[ba]PL[B]TR[ba])|100000|512|0|1|total ca 0, ca 0, da 0, pass 0|3
+(;SZ[4:1]AW[ba]PL[B]TR[ba])|100000|512|0|2|total ca 0, ca 0, da 0, pass 0|3
+(;SZ[4:1]AW[ba]PL[B]TR[ba])|100000|512|0|64|total ca 0, ca 0, da 0, pass 0|3
+";
+
+#[test]
+fn a_total_of_0_is_spent_at_once(rt: HostRuntime) -> Result<(), Fail> {
+    hold(&rt, rt.alloc(), TOLD_WITHIN_NONE, 3)
 }
 
 /// A worker that has won a job begins no other: of two legal turns the first wins, twice; of three the second, and of

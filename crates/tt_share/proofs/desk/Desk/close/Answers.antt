@@ -27,6 +27,5 @@ returns c =
       draws_are = λ each. let e = shown.draws_are each in omega arith;
       sighted = shown.sighted;
       granted = subst (λ (o : Option ℕ). MatchOption o (c.granted_of_total-granted.result ≡ 0) (λ n. AreGrantsOfTotal n c.granted_of_total-granted.result seats)) total
-          (grants_by c.self.inside.total _ _ c.word.result seats c.granted_of_total-granted.ensures c.self.invariant.total_is (λ n p. subst (λ (w : ℕ). AreGrantsOfTotal n
-          (min w n) seats) asked (shown.grants n p)));
+          (grants_by c.self.inside.total _ c.word.result seats c.granted_of_total-granted.ensures (λ n. subst (λ (w : ℕ). AreGrantsOfTotal n (min w n) seats) asked (shown.grants n)));
     }
