@@ -61,7 +61,7 @@ pub fn find_proof_at(alloc: Global, line: &Line) -> Option<Arc<Proof>>
         unreachable!();
     };
     let mut store = PrivateStore::new(alloc);
-    match solve_one(alloc, line, &limits, None, &mut store) {
+    match solve_one(alloc, line, &limits, &mut store) {
         Answer::Settled { proof, first: _ } => Some(proof),
         Answer::Unsettled(_) => None,
     }

@@ -11,7 +11,7 @@ use tt_game::{GameFault, Line, problem};
 use tt_proof::Proof;
 use tt_search::{PrivateStore, Store};
 use tt_sgf::{ItemList, MainLine, NoMemory};
-use tt_share::{Answer, MOST_KEPT_PROOFS, solve_one};
+use tt_share::{Answer, solve_one_within_total};
 use tt_text::{Options, TreeOutcome, checkable_dfpn_proof, verdict_text};
 
 /// Keeps a proof in the store.
@@ -27,11 +27,11 @@ fn solve_problem(alloc: Global, line: &Line, options: Options, bytes: usize) -> 
     requires { winner_of line.now.frame line.now.state ≡ None }
     ensures { IsAnswer line.now options.limits options.total result }
 {
-    let mut store = PrivateStore::with_capacity(alloc, MOST_KEPT_PROOFS);
+    let mut store = PrivateStore::new(alloc);
     if let Ok(Some(proof)) = checkable_dfpn_proof(alloc, line, options, bytes) {
         let _ = keep_proof(alloc, &mut store, proof);
     }
-    solve_one(alloc, line, &options.limits, options.total, &mut store)
+    solve_one_within_total(alloc, line, &options.limits, options.total, &mut store)
 }
 
 /// The verdict on the problem at a line.

@@ -12,7 +12,7 @@ use crate::answer::root_proof::{answer_from_store, offer_answer};
 use crate::results::Results;
 use std::alloc::Global;
 use tt_game::Line;
-use tt_search::{Grants, Limits, Store};
+use tt_search::{Free, Grants, Limits, Store};
 
 /// Grants of a total, where there is one, for one caller.
 #[derive(Drop)]
@@ -121,9 +121,23 @@ pub(crate) fn conclude_and_offer<S: Store>(
 
 /// Solves the line. The store is asked first for a proof that wins at the line itself. Else each legal turn, in rising
 /// order, is searched with the same budget and a depth one less, until one is settled for the side to move; and the
-/// proof that they make is offered to the store. Where there is a total, all searches together expand at most so many nodes. The
-/// depth is at least 1, and nobody has won at the line.
-pub fn solve_one<S: Store>(
+/// proof that they make is offered to the store. The depth is at least 1, and nobody has won at the line.
+pub fn solve_one<S: Store>(alloc: Global, line: &Line, limits: &Limits, store: &mut S) -> Answer
+    requires limits { 1 ≤ limits.now.depth }
+    requires open { winner_of line.now.frame line.now.state ≡ None }
+    ensures { IsAnswer line.now limits.now None result }
+{
+    match new_results_or_answer(alloc, line, limits, store) {
+        Ok(mut results) => {
+            results.search_missing_until_win(store, &mut Free::new());
+            conclude_and_offer(alloc, results, store)
+        }
+        Err(answer) => answer,
+    }
+}
+
+/// The same, but where there is a total, all searches together expand at most so many nodes.
+pub fn solve_one_within_total<S: Store>(
     alloc: Global,
     line: &Line,
     limits: &Limits,

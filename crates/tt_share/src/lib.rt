@@ -18,7 +18,7 @@ mod table;
 mod together;
 mod workers;
 
-pub use alone::solve_one;
+pub use alone::{solve_one, solve_one_within_total};
 pub use answer::{Answer, Stuck};
 pub use capacity::{MOST_KEPT_PROOFS, MOST_WORKERS};
 pub use desk::{Closed, Desk, Seat};

@@ -13,7 +13,7 @@ use tt_game::{Line, Side};
 use tt_proof::Proof;
 use tt_search::{Kept, Limits, NoStore, PrivateStore, Store};
 use tt_sgf::NoMemory;
-use tt_share::{Answer, solve_one};
+use tt_share::{Answer, solve_one, solve_one_within_total};
 
 /// A store with room for a hundred proofs, which answers none: it refuses to keep any, or forgets them at once.
 #[derive(Drop)]
@@ -101,7 +101,7 @@ fn answered<S: Store>(
     if limits.depth() == 0 || line.winner().is_some() {
         return Err(Fail::new("nothing to solve"));
     }
-    Ok(solve_one(alloc, line, &limits, None, store))
+    Ok(solve_one(alloc, line, &limits, store))
 }
 
 /// Whether an answer is that of the row.
@@ -413,4 +413,33 @@ fn the_attacker_is_asked_for_first(rt: HostRuntime) -> Result<(), Fail> {
     let got = solved_by_one(rt.alloc(), LONE, 512, &mut store)?;
     want(got.as_slice() == b"budget ca".as_slice(), "another answer")?;
     want(store.right == 12 && store.astray == 0, "other questions")
+}
+
+/// The answer to a line within a total, as a text.
+fn told_within(alloc: Global, line: &Line, total: Option<u32>) -> Result<Vec<u8>, Fail> {
+    let Some(limits) = Limits::new(100, 512) else {
+        return Err(Fail::new("no limits"));
+    };
+    if limits.depth() == 0 || line.winner().is_some() {
+        return Err(Fail::new("nothing to solve"));
+    }
+    let answer = solve_one_within_total(alloc, line, &limits, total, &mut NoStore);
+    verdict(alloc, line, &answer)
+}
+
+/// Fails unless the lone stone's problem has this answer within a total.
+fn is_told_within(alloc: Global, total: Option<u32>, wanted: &str) -> Result<(), Fail> {
+    let line = posed(alloc, LONE)?;
+    let got = told_within(alloc, &line, total)?;
+    want(got.as_slice() == wanted.as_bytes(), wanted)
+}
+
+/// Behind each of the three turns at least one node has to be expanded, behind the first more than one.
+#[test]
+fn totals_alone(rt: HostRuntime) -> Result<(), Fail> {
+    let alloc = rt.alloc();
+    is_told_within(alloc, Some(0), "total ca 0, ca 0, da 0, pass 0")?;
+    is_told_within(alloc, Some(1), "total ca 1, ca 1, da 0, pass 0")?;
+    is_told_within(alloc, Some(100), "lives")?;
+    is_told_within(alloc, None, "lives")
 }
