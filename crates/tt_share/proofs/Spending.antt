@@ -180,8 +180,9 @@ module _ (line : LineWithUndo) (limits : Limits) (desk : DeskModel) (closed : Cl
         omega (arith, none, granted, caller, seats_and_own, spent_granted total is, gathered (all_apart first.ends blank), unspent, asked.spent)
 
     -- no more than the total is spent, and all of it where some job is stuck for it
-    pub total_spent : SpendsTotal desk.total last
+    pub total_spent : SpendsTotal desk.total closed.granted last
     total_spent = record {
+      granted_is = spent_is;
       within = λ total is. let granted = (spends total is).asked.2 in grind (arith, spent_is total is, granted);
       all = λ h.
           let s = some_refused h in

@@ -28,4 +28,4 @@ pub use log::view::View;
 pub use log::{CertLog, Token};
 pub use table::TableState;
 pub use table::locked::{LockedStore, Table};
-pub use together::solve;
+pub use together::{solve, solve_counting_grants};

@@ -1,6 +1,6 @@
 //! Solving by workers in threads.
 
-ghost use Rattle.std.specs.Prelude.{◌≡◌, ◌≤◌, None, OnOk};
+ghost use Rattle.std.specs.Prelude.{◌≡◌, ◌≤◌, None, Some, IfOk, IfSome};
 ghost use Rattle.tt_game.specs.Game.{winner_of};
 ghost use Rattle.tt_share.specs.declared.capacity.TheConstants.{MOST_WORKERS};
 ghost use Rattle.tt_share.specs.Answers.{IsAnswer};
@@ -25,7 +25,8 @@ use tt_search::{Limits, Store};
 use tt_sgf::NoMemory;
 
 /// Searches the jobs by workers, no more of them than there are jobs, gathers their results, and searches what they left. All
-/// searches ask one desk for their expansions, each worker through its seat and the caller through one of its own.
+/// searches ask one desk for their expansions, each worker through its seat and the caller through one of its own. The answer is how
+/// many were granted of the total, where there is one.
 pub(crate) fn search_together<R: Threads + Wait + Sync, G: Gate, S: Store>(
     rt: &R,
     results: &mut Results<'_>,
@@ -34,12 +35,12 @@ pub(crate) fn search_together<R: Threads + Wait + Sync, G: Gate, S: Store>(
     log: &CertLog,
     gate: &G,
     store: &mut S,
-) -> Result<(), NoMemory>
+) -> Result<u64, NoMemory>
     requires workers { (1 ≤ workers) × (workers ≤ MOST_WORKERS) }
     requires blank { KnowsNothing results.old }
     ensures line { (results.new.line ≡ results.old.line) × (results.new.limits ≡ results.old.limits) }
-    ensures ready { OnOk result (IsReady results.new.line.state.to_move results.new.ends) }
-    ensures spent { OnOk result (SpendsTotal total results.new) }
+    ensures ready { IfOk result (λ _. IsReady results.new.line.state.to_move results.new.ends) }
+    ensures spent { IfOk result (λ granted. SpendsTotal total granted results.new) }
 {
     let alloc = results.jobs.alloc;
     let count = results.jobs.turns.len();
@@ -53,8 +54,18 @@ pub(crate) fn search_together<R: Threads + Wait + Sync, G: Gate, S: Store>(
     results.search_missing_until_win(store, &mut grants);
     seats.push_reserved(grants.into_seat());
     match desk.close(seats) {
-        Ok(_) => Ok(()),
+        Ok(closed) => Ok(closed.granted),
         Err(_) => unreachable!(),
+    }
+}
+
+/// All of a total, where there is one.
+fn whole_total(total: Option<u32>) -> u64
+    ensures { IfSome total (λ n. result ≡ n) }
+{
+    match total {
+        Some(n) => u64::from(n),
+        None => 0,
     }
 }
 
@@ -78,17 +89,39 @@ pub fn solve<R: Threads + Wait + Sync, G: Gate>(
     requires open { winner_of line.now.frame line.now.state ≡ None }
     ensures { IsAnswer line.now limits.now total result }
 {
+    let (answer, _) = solve_counting_grants(rt, alloc, line, limits, total, workers, log, gate);
+    answer
+}
+
+/// What `solve` answers, and how many expansions were granted of the total, or 0 where there is none: no more than the total; and the
+/// answer is one within so many, too. Where memory was refused outside a job all of the total may count as granted.
+pub fn solve_counting_grants<R: Threads + Wait + Sync, G: Gate>(
+    rt: &R,
+    alloc: Global,
+    line: &Line,
+    limits: &Limits,
+    total: Option<u32>,
+    workers: usize,
+    log: &CertLog,
+    gate: &G,
+) -> (Answer, u64)
+    requires workers { (1 ≤ workers) × (workers ≤ MOST_WORKERS) }
+    requires limits { 1 ≤ limits.now.depth }
+    requires open { winner_of line.now.frame line.now.state ≡ None }
+    ensures answer { IsAnswer line.now limits.now total result.0 }
+    ensures granted { IfSome total (λ n. (result.1 ≤ n) × IsAnswer line.now limits.now (Some result.1) result.0) }
+{
     let Ok(view) = View::new(alloc, log) else {
-        return no_memory_answer(alloc);
+        return (no_memory_answer(alloc), 0);
     };
     let mut store = LogStore::new(rt, view);
     match new_results_or_answer(alloc, line, limits, &mut store) {
         Ok(mut results) => {
             match search_together(rt, &mut results, total, workers, log, gate, &mut store) {
-                Ok(()) => conclude_and_offer(alloc, results, &mut store),
-                Err(_) => no_memory_answer(alloc),
+                Ok(granted) => (conclude_and_offer(alloc, results, &mut store), granted),
+                Err(_) => (no_memory_answer(alloc), whole_total(total)),
             }
         }
-        Err(answer) => answer,
+        Err(answer) => (answer, 0),
     }
 }

@@ -49,8 +49,10 @@ HasTotal ends = (job : ℕ) × (end : JobResult) × HasEnd ends job end × IsFor
 abbrev pub IsAllSpent : Option ℕ → ResultsSoFar → Type 0
 IsAllSpent total p = HasTotal p.ends → (n : ℕ) × (total ≡ Some n) × (spent_in_all p.spent ≡ n)
 
--- How the searches spend a total, where there is one
-pub record SpendsTotal (total : Option ℕ) (p : ResultsSoFar) : Type 0 where
+-- How the searches spend a total, where there is one, of which so much was granted
+pub record SpendsTotal (total : Option ℕ) (granted : ℕ) (p : ResultsSoFar) : Type 0 where
+  -- what was granted, and nothing else
+  pub granted_is : (n : ℕ) → total ≡ Some n → spent_in_all p.spent ≡ granted
   -- no more than it, whatever the results are
   pub within : (n : ℕ) → total ≡ Some n → spent_in_all p.spent ≤ n
   -- all of it where some job is stuck for it

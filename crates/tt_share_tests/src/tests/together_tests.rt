@@ -1,6 +1,6 @@
 //! Problems solved by workers in threads. The verdicts are by a program written from the definitions alone.
 
-use super::common::{Setting, posed, searched, verdict_by};
+use super::common::{Setting, posed, searched, verdict, verdict_by, want};
 use super::rows::{cut, number, short_number};
 use std::alloc::Global;
 use std::str::from_utf8;
@@ -10,8 +10,8 @@ use std::test::Fail;
 use std::thread::Threads;
 use tt_game::Line;
 use tt_proof::Proof;
-use tt_search::{Kept, ProofPerSide};
-use tt_share::{CertLog, Gate, View};
+use tt_search::{Kept, Limits, ProofPerSide};
+use tt_share::{CertLog, Gate, NoGate, View, solve_counting_grants};
 
 /// A line of a table: a problem, what it is solved with, a problem whose proof is put into the log before, the answers of
 /// which one has to come, how many jobs are announced, and a problem of which the log's newest proof stands at its line behind.
@@ -335,6 +335,58 @@ const TOLD_WITHIN_NONE: &str = "\
 #[test]
 fn a_total_of_0_is_spent_at_once(rt: HostRuntime) -> Result<(), Fail> {
     hold(&rt, rt.alloc(), TOLD_WITHIN_NONE, 3)
+}
+
+/// The answer of one worker to a lone stone's problem, as a text, and how many expansions were granted of the total.
+fn counted<R: Threads + Wait + Sync>(
+    rt: &R,
+    alloc: Global,
+    total: Option<u32>,
+) -> Result<(Vec<u8>, u64), Fail> {
+    let line = posed(alloc, b"(;SZ[4:1]AW[ba]PL[B]TR[ba])")?;
+    let Some(limits) = Limits::new(100, 512) else {
+        return Err(Fail::new("no limits"));
+    };
+    if limits.depth() == 0 || line.winner().is_some() {
+        return Err(Fail::new("nothing to solve"));
+    }
+    let log = CertLog::new(alloc)?;
+    let (answer, granted) = solve_counting_grants(
+        rt, alloc, &line, &limits, total, 1, &log, &NoGate,
+    );
+    Ok((verdict(alloc, &line, &answer)?, granted))
+}
+
+/// Whether the problem is answered within the total, and whether the count is that.
+fn is_counted<R: Threads + Wait + Sync>(
+    rt: &R,
+    alloc: Global,
+    total: Option<u32>,
+    lives: bool,
+    count: u64,
+) -> Result<bool, Fail> {
+    let (text, granted) = counted(rt, alloc, total)?;
+    Ok((text.as_slice() == b"lives".as_slice()) == lives && granted == count)
+}
+
+/// A problem takes as many grants as are counted: within so many it is answered alike, and within one less it isn't.
+#[test]
+fn grants_are_counted(rt: HostRuntime) -> Result<(), Fail> {
+    let alloc = rt.alloc();
+    let (_, granted) = counted(&rt, alloc, Some(100))?;
+    let count = granted as u32;
+    let less = count.saturating_sub(1);
+    want(count > 0, "no grants")?;
+    want(
+        is_counted(&rt, alloc, Some(count), true, granted)?,
+        "so many",
+    )?;
+    want(
+        is_counted(&rt, alloc, Some(less), false, u64::from(less))?,
+        "one less",
+    )?;
+    want(is_counted(&rt, alloc, Some(0), false, 0)?, "none")?;
+    want(is_counted(&rt, alloc, None, true, 0)?, "no total")
 }
 
 /// A worker that has won a job begins no other: of two legal turns the first wins, twice; of three the second, and of

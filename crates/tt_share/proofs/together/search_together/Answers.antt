@@ -29,12 +29,12 @@ returns-clause-spent g c =
     let turns = ap (λ (ts : List Turn). length ts) (jobs.listed ∙ ap (λ (p : ResultsSoFar). legal_turns p.line.frame p.line.state) c.results.view_is) in
     let jobs_are : length (legal_turns first.line.frame first.line.state) ≡ desk.jobs = omega (arith, turns, c.len-count.ensures.value, c.in_ok-desk.ensures.desk.0) in
     let blank : first.ends ≡ replicate desk.jobs None = c.requires.blank.none ∙ ap (λ (n : ℕ). replicate n None) jobs_are in
-    let closes : AreDeskCounts desk (c.gather_results-seats.result.items ++ own ∷ []) c.in-Ok.field-0 =
-    subst (λ (l : List SeatModel). AreDeskCounts desk l c.in-Ok.field-0) c.push_reserved.ensures.items c.in-Ok.ensures in
+    let closes : AreDeskCounts desk (c.gather_results-seats.result.items ++ own ∷ []) c.in-Ok.closed =
+    subst (λ (l : List SeatModel). AreDeskCounts desk l c.in-Ok.closed) c.push_reserved.ensures.items c.in-Ok.ensures in
     let tally : Tallies desk.total own.grants grants.granted grants.refused =
     subst (λ (s : SeatModel). Tallies desk.total s.grants grants.granted grants.refused) (sym c.into_seat.ensures)
     (subst (λ (d : DeskModel). Tallies d.total grants.seat.grants grants.granted grants.refused) same grants.tally) in
-    subst (λ (o : Option ℕ). SpendsTotal o last) c.in_ok-desk.ensures.desk.2
-    (total_spent jobs.line.now jobs.limits desk c.in-Ok.field-0 c.in_ok-work.work.items c.gather_results-seats.result.items own c.in_ok-work.ensures.work c.gather_results-seats.ensures.backs closes
+    subst (λ (o : Option ℕ). SpendsTotal o c.in-Ok.closed.granted last) c.in_ok-desk.ensures.desk.2
+    (total_spent jobs.line.now jobs.limits desk c.in-Ok.closed c.in_ok-work.work.items c.gather_results-seats.result.items own c.in_ok-work.ensures.work c.gather_results-seats.ensures.backs closes
     first mid last _ grants.granted grants.refused c.new-grants.ensures.granted blank c.requires.blank.unspent c.gather_results-seats.ensures.spent c.gather_results-seats.ensures.given
     c.search_missing_until_win.ensures.asks tally)
