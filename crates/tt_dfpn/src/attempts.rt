@@ -8,10 +8,10 @@ ghost use Rattle.tt_proof.specs.ProofClaim.{StandsAt};
 use crate::advice::VisitsLeft;
 use crate::certifier::certify;
 use crate::finder::Advisor;
+use crate::memo::Memo;
 use std::alloc::Global;
 use tt_game::Line;
 use tt_proof::Proof;
-use tt_search::PrivateStore;
 use tt_sgf::NoMemory;
 
 /// The greatest number of positions that may be asked for.
@@ -34,7 +34,7 @@ pub fn find_proof(
     ensures fewer { visits.new.left ≤ visits.old.left }
     ensures same { line.new ≡ line.old }
 {
-    let mut memo = PrivateStore::with_capacity(alloc, visits.left as usize);
+    let mut memo = Memo::new(alloc);
     let mut advisor = Advisor::new(alloc, line, visits.left)?;
     for attempt in 0..MOST_ATTEMPTS {
         let Some(side) = advisor.search_winner(line, visits)? else {

@@ -7,11 +7,10 @@ ghost use Rattle.tt_proof.specs.Strategy.{depth};
 ghost use Rattle.tt_proof.specs.ProofClaim.{StandsAt, IsChild};
 
 use crate::advice::{Advice, VisitsLeft};
-use crate::memo::{keep, known_proof};
+use crate::memo::Memo;
 use std::alloc::Global;
 use tt_game::{Line, Side, Turn};
 use tt_proof::Proof;
-use tt_search::Store;
 use tt_sgf::NoMemory;
 
 /// How many turns the certifier asks for at one line.
@@ -27,13 +26,13 @@ fn is_same_side(a: Side, b: Side) -> bool
 
 /// A proof for the side at the line, of a depth within the room, or none. The line stands as before, also after want of memory.
 #[cycle(certifying)]
-pub fn certify<A: Advice, S: Store>(
+pub fn certify<A: Advice>(
     alloc: Global,
     line: &mut Line,
     side: Side,
     room: u16,
     advice: &mut A,
-    memo: &mut S,
+    memo: &mut Memo,
     visits: &mut VisitsLeft,
 ) -> Result<Option<Proof>, NoMemory>
     requires room { room ≤ MOST_DEPTH }
@@ -47,9 +46,9 @@ pub fn certify<A: Advice, S: Store>(
         Some(winner) => proof_if_won(alloc, line, side, winner),
         None => {
             if is_same_side(line.to_move(), side) {
-                let known_proof = known_proof(alloc, line, side, room, memo)?;
-                if known_proof.is_some() {
-                    return Ok(known_proof);
+                let known = memo.known_proof(line, side, room)?;
+                if known.is_some() {
+                    return Ok(known);
                 }
             }
             if room == 0 || visits.left == 0 {
@@ -63,13 +62,13 @@ pub fn certify<A: Advice, S: Store>(
 /// The same where nobody has won and nothing is known: a visit. A proof is kept where the side is to move: fewer lines lead to the
 /// others.
 #[cycle(certifying)]
-fn proof_by_visit<A: Advice, S: Store>(
+fn proof_by_visit<A: Advice>(
     alloc: Global,
     line: &mut Line,
     side: Side,
     room: u16,
     advice: &mut A,
-    memo: &mut S,
+    memo: &mut Memo,
     visits: &mut VisitsLeft,
 ) -> Result<Option<Proof>, NoMemory>
     requires room { room ≤ MOST_DEPTH }
@@ -87,7 +86,7 @@ fn proof_by_visit<A: Advice, S: Store>(
         return proof_by_reply(alloc, line, side, room, advice, memo, visits);
     }
     let found = proof_by_advice(alloc, line, side, room, advice, memo, visits)?;
-    keep(alloc, line, &found, memo);
+    memo.keep(line, &found);
     Ok(found)
 }
 
@@ -112,14 +111,14 @@ fn proof_if_won(
 
 /// The proof behind a legal turn, for the side, or none. The line stands as before.
 #[cycle(certifying)]
-fn proof_after<A: Advice, S: Store>(
+fn proof_after<A: Advice>(
     alloc: Global,
     line: &mut Line,
     side: Side,
     room: u16,
     turn: &Turn,
     advice: &mut A,
-    memo: &mut S,
+    memo: &mut Memo,
     visits: &mut VisitsLeft,
 ) -> Result<Option<Proof>, NoMemory>
     requires room { room < MOST_DEPTH }
@@ -149,13 +148,13 @@ fn is_legal(line: &Line, turn: &Turn) -> bool
 
 /// The proof that plays an advised turn, where the side is to move. Each turn that is refused is asked for again.
 #[cycle(certifying)]
-fn proof_by_advice<A: Advice, S: Store>(
+fn proof_by_advice<A: Advice>(
     alloc: Global,
     line: &mut Line,
     side: Side,
     room: u16,
     advice: &mut A,
-    memo: &mut S,
+    memo: &mut Memo,
     visits: &mut VisitsLeft,
 ) -> Result<Option<Proof>, NoMemory>
     requires room { room ≤ MOST_DEPTH }
@@ -182,14 +181,14 @@ fn proof_by_advice<A: Advice, S: Store>(
 
 /// The proof that plays this turn, where it is legal and the side wins behind it.
 #[cycle(certifying)]
-fn proof_by_turn<A: Advice, S: Store>(
+fn proof_by_turn<A: Advice>(
     alloc: Global,
     line: &mut Line,
     side: Side,
     room: u16,
     turn: &Turn,
     advice: &mut A,
-    memo: &mut S,
+    memo: &mut Memo,
     visits: &mut VisitsLeft,
 ) -> Result<Option<Proof>, NoMemory>
     requires room { room ≤ MOST_DEPTH }
@@ -232,13 +231,13 @@ fn proof_from_child(
 
 /// The proof that answers each legal turn, where the other side is to move.
 #[cycle(certifying)]
-fn proof_by_reply<A: Advice, S: Store>(
+fn proof_by_reply<A: Advice>(
     alloc: Global,
     line: &mut Line,
     side: Side,
     room: u16,
     advice: &mut A,
-    memo: &mut S,
+    memo: &mut Memo,
     visits: &mut VisitsLeft,
 ) -> Result<Option<Proof>, NoMemory>
     requires room { room ≤ MOST_DEPTH }

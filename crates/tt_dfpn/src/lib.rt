@@ -17,3 +17,4 @@ pub use advice::{Advice, VisitsLeft};
 pub use attempts::{MOST_POSITIONS, find_proof};
 pub use certifier::certify;
 pub use finder::Advisor;
+pub use memo::Memo;

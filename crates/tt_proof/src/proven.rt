@@ -332,6 +332,33 @@ impl Proof {
         })
     }
 
+    /// A proof of the same tree at the line, where it wins: its footprint is taken over where that is seen to be that there without a
+    /// walk, else it is found by one. The line stands as before, also after want of memory.
+    pub fn moved_to(&self, alloc: Global, line: &mut Line) -> Result<Proof, NoMemory>
+        requires wins { IsWinningTree self.now.side line.old.frame line.old.state self.now.tree }
+        ensures made { IfOk result (λ p. StandsAt p line.old.frame line.old.state × (p.side ≡ self.now.side) × (p.tree ≡ self.now.tree)) }
+        ensures same { line.new ≡ line.old }
+    {
+        let measured_tree = self.measured_tree.try_clone()?;
+        let footprint = self.footprint_at(alloc, line)?;
+        Proof::from_known_win(line, self.side, measured_tree, footprint)
+    }
+
+    /// A proof of the same tree at the line, where the proof's own footprint is seen to be that there without a walk through the tree,
+    /// as always where the proof stands at the line; else none.
+    pub fn moved_if_known(&self, alloc: Global, line: &Line) -> Result<Option<Proof>, NoMemory>
+        ensures made { IfOk result (λ o. IfSome o (λ p. StandsAt p line.now.frame line.now.state × (p.side ≡ self.now.side) × (p.tree ≡ self.now.tree))) }
+        ensures stands { StandsAt self.now line.now.frame line.now.state → result ≢ Ok None }
+    {
+        let Some(own) = self.footprint_if_known(line) else {
+            return Ok(None);
+        };
+        let footprint = own.try_clone(alloc)?;
+        let measured_tree = self.measured_tree.try_clone()?;
+        let here = Proof::from_known_win(line, self.side, measured_tree, footprint)?;
+        Ok(Some(here))
+    }
+
     /// The proof of a measured tree that is known to win at the line, and of its footprint there. No turn is played for it, and its
     /// tree is not looked at.
     pub fn from_known_win(

@@ -6,10 +6,9 @@ use crate::problem_tests::posed;
 use crate::proof_tests::replays;
 use crate::rows::{Table, holding};
 use std::alloc::Global;
-use tt_dfpn::{Advice, VisitsLeft, certify, find_proof};
+use tt_dfpn::{Advice, Memo, VisitsLeft, certify, find_proof};
 use tt_game::{Line, Side, Turn};
 use tt_proof::{MOST_DEPTH, Proof, write_cert};
-use tt_search::PrivateStore;
 use tt_sgf::{NoMemory, Point};
 
 /// Who wins, the attacker or the defender, and the problem: straight three with either side to move, two stones with liberties on
@@ -86,7 +85,7 @@ fn is_right(alloc: Global, line: &mut Line, proof: &Proof, winner: Side, room: u
 fn is_lied_in_vain(alloc: Global, line: &mut Line, winner: Side, side: Side) -> Option<bool> {
     for seed in 0..100u64 {
         let mut liar = Liar { state: seed };
-        let mut memo = PrivateStore::with_capacity(alloc, 100);
+        let mut memo = Memo::new(alloc);
         let mut visits = VisitsLeft { left: 500 };
         let found = certify(alloc, line, side, ROOM, &mut liar, &mut memo, &mut visits);
         if let Some(proof) = found.ok()? {

@@ -55,7 +55,7 @@ impl ProofList for Vec<Arc<Proof>> {
 }
 
 impl PrivateStore {
-    /// How many proofs a new store may keep.
+    /// How many proofs a store may keep at most, and a new one does.
     pub const DEFAULT_CAPACITY: usize = 4096;
 
     /// An empty store. It takes no memory.
@@ -65,8 +65,8 @@ impl PrivateStore {
         PrivateStore::with_capacity(alloc, Self::DEFAULT_CAPACITY)
     }
 
-    /// An empty store that may keep so many proofs. It takes no memory.
-    pub fn with_capacity(alloc: Global, capacity: usize) -> PrivateStore
+    /// An empty store that may keep so many proofs.
+    fn with_capacity(alloc: Global, capacity: usize) -> PrivateStore
         ensures { result ≡ record { proofs = []; capacity = capacity } }
     {
         PrivateStore {

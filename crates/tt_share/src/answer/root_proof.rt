@@ -2,7 +2,6 @@
 
 ghost use Rattle.std.specs.Prelude.{◌≡◌, ℕ, Option, None, IfOk, IfSome};
 ghost use Rattle.tt_game.specs.Game.{winner_of};
-ghost use Rattle.tt_proof.specs.ProofClaim.{IsWinningTree, StandsAt};
 ghost use Rattle.tt_share.specs.Answers.{IsAnswer};
 
 use crate::answer::Answer;
@@ -10,21 +9,8 @@ use crate::answer::conclude::answer_of_proof;
 use std::alloc::Global;
 use std::sync::Arc;
 use tt_game::Line;
-use tt_proof::Proof;
 use tt_search::{Kept, Limits, Store, find_usable_proof};
 use tt_sgf::NoMemory;
-
-/// A proof of the found tree at the line, where it wins, though it may have been found under another history. The tree is
-/// shared.
-fn proof_moved_to(alloc: Global, line: &mut Line, found: &Proof) -> Result<Proof, NoMemory>
-    requires { IsWinningTree found.now.side line.old.frame line.old.state found.now.tree }
-    ensures stands { IfOk result (λ p. StandsAt p line.old.frame line.old.state) }
-    ensures tree { IfOk result (λ p. p.tree ≡ found.now.tree) }
-{
-    let measured_tree = found.measured_tree().try_clone()?;
-    let footprint = found.footprint_at(alloc, line)?;
-    Proof::from_known_win(line, found.side(), measured_tree, footprint)
-}
 
 /// The answer that the store has for the line: a proof of the attacker, or else of the defender.
 pub(crate) fn answer_from_store<S: Store>(
@@ -40,7 +26,7 @@ pub(crate) fn answer_from_store<S: Store>(
     let Some(found) = find_usable_proof(&mut own, limits.depth(), store)? else {
         return Ok(None);
     };
-    let proof = proof_moved_to(alloc, &mut own, &found)?;
+    let proof = found.moved_to(alloc, &mut own)?;
     Ok(Some(answer_of_proof(alloc, line, limits, proof)?))
 }
 
