@@ -1,0 +1,108 @@
+"""The command tsumego-ask, as it is called."""
+import json
+import os
+import subprocess
+import sys
+from pathlib import Path
+from typing import List
+
+import data
+import pytest
+
+from tsumego.sgf import trees_of
+
+ASK = Path(__file__).resolve().parents[2] / "tsumego-ask"
+
+
+def ask(*words: str, text: str = "") -> "subprocess.CompletedProcess[str]":
+    # (a busy machine needs its time)
+    return subprocess.run([sys.executable, "-B", str(ASK), "--seconds", "100", *words], input=text, capture_output=True, text=True, check=False)
+
+
+@pytest.fixture
+def book(tmp_path: Path) -> Path:
+    path = tmp_path / "book.sgf"
+    path.write_text(data.CORNER + data.TRIPOD + "(;SZ[7]GN[broken]AB[aa];B[aa]TR[aa])" + data.FIVE)
+    return path
+
+
+def test_a_problem_in_words(tmp_path: Path) -> None:
+    path = tmp_path / "p3.sgf"
+    path.write_text(data.CORNER)
+    out = tmp_path / "out.sgf"
+    ended = ask(str(path), "D18", "-o", str(out))
+    assert (ended.returncode, ended.stderr) == (0, "")
+    lines = ended.stdout.splitlines()
+    assert lines[0] == f"{path}: Corner with a stone on the edge"
+    assert "  Black begins and can kill White's group at D18, by A18, B18 or A17." in lines
+    assert "  These fail: A19, B19, D19, E19 and A16 (White B18); C18 (White A18)." in lines
+    assert "  If White begins, White lives, by B18." in lines
+    assert "  If Black begins, all 9 closings agree." in lines
+    assert len(trees_of(out.read_text())[0].variations) == 9
+
+
+def test_a_book_as_json(book: Path, tmp_path: Path) -> None:
+    out = tmp_path / "out.sgf"
+    ended = ask(str(book), "--json", "-o", str(out))
+    found = [json.loads(line) for line in ended.stdout.splitlines()]
+    assert ended.returncode == 1
+    assert [(each["problem"], each["verdict"]) for each in found] == [(1, "killed"), (2, "killed"), (3, "refused"), (4, "killed")]
+    assert found[0]["winning"] == ["A18", "B18", "A17"] and found[0]["file"] == str(book)
+    assert {"turn": "C18", "refutation": "A18"} in found[0]["failing"]
+    assert {"stones": ["F19", "A15"], "verdict": "killed", "if_other_begins": "lives"} in found[0]["closings"]
+    assert "refused" == found[2]["verdict"] and found[2]["name"] == "broken"
+    assert len(trees_of(out.read_text())) == 4
+
+
+def test_standard_input() -> None:
+    for words in (["-"], []):
+        ended = ask(*words, text=data.TRIPOD)
+        assert ended.returncode == 0 and ended.stdout.startswith("standard input: The tripod group\n")
+
+
+def test_refusals_name_file_problem_and_fault(book: Path) -> None:
+    ended = ask(str(book))
+    at = ended.stdout.splitlines().index(f"{book}, problem 3: broken")
+    assert ended.stdout.splitlines()[at + 1] == "  Refused: node 2: the move is on a point where a stone stands; look at A7."
+
+
+def test_a_file_that_breaks_off(tmp_path: Path) -> None:
+    path = tmp_path / "cut.sgf"
+    path.write_text(data.TRIPOD + "(;SZ[9]AB[aa]")
+    ended = ask(str(path))
+    assert ended.returncode == 1
+    assert f"{path}, problem 1: The tripod group" in ended.stdout
+    assert "Refused: line 4: the tree that begins in line 4 isn't closed." in ended.stdout
+
+
+@pytest.mark.parametrize("word", ["--help", "--version"])
+def test_help_and_version(word: str) -> None:
+    ended = ask(word)
+    assert ended.returncode == 0 and ended.stdout.split()[0] in ("usage:", "tsumego-ask") and ended.stderr == ""
+
+
+@pytest.mark.parametrize(
+    "words, said",
+    [
+        (["--jsno", "-"], "is --json meant?"),
+        (["nothing.sgf"], "there is no file nothing.sgf"),
+        (["-", "C18", "D18"], "several stones are named"),
+        (["-", "--seconds", "0"], "--seconds"),
+        (["C18"], "no FILE is named"),
+        ([os.path.dirname(__file__)], "Is a directory"),
+    ],
+)
+def test_words_that_are_refused(words: List[str], said: str) -> None:
+    ended = ask(*words)
+    assert ended.returncode == 2 and said in ended.stderr and ended.stdout == ""
+
+
+def test_an_input_is_never_overwritten(book: Path) -> None:
+    before = book.read_text()
+    ended = ask(str(book), "-o", str(book))
+    assert ended.returncode == 2 and "name another one" in ended.stderr and book.read_text() == before
+
+
+def test_a_program_that_is_missing() -> None:
+    ended = subprocess.run([sys.executable, str(ASK), "-"], input=data.TRIPOD, capture_output=True, text=True, check=False, env={**os.environ, "TSUMEGO": "/nowhere"})
+    assert ended.returncode == 2 and "there is no program /nowhere" in ended.stderr

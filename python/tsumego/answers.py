@@ -1,0 +1,101 @@
+"""What the programs say of problems, as data."""
+from dataclasses import dataclass
+from typing import Optional, Tuple
+
+from .board import OTHER
+from .problems import Problem
+from .strategy import Strategy
+
+__all__ = ["Answer", "Closing", "KILLED", "LIVES", "REFUSED", "Turn", "UNSETTLED", "Verdict", "verdict_of"]
+
+KILLED, LIVES, UNSETTLED, REFUSED = "killed", "lives", "unsettled", "refused"
+
+
+@dataclass(frozen=True)
+class Verdict:
+    """A line of `solve`. `turn` is a first turn that wins, if there is one; `detail` says why a problem is unsettled (`budget`, `time`,
+    ..) or refused (a number)."""
+
+    word: str
+    turn: Optional[str] = None
+    detail: str = ""
+
+    @property
+    def is_settled(self) -> bool:
+        return self.word in (KILLED, LIVES)
+
+
+def verdict_of(line: str) -> Verdict:
+    """The verdict of a line without its number: `killed ca`, `lives`, `unsettled budget`, `refused 20`."""
+    word, _, rest = line.partition(" ")
+    return Verdict(word, rest or None) if word in (KILLED, LIVES) else Verdict(word, None, rest)
+
+
+@dataclass(frozen=True)
+class Turn:
+    """A first turn of the side to move: whether it wins (None: unknown), the other side's answer to it where it fails, and the winner's
+    strategy after it, if it was asked for and found."""
+
+    turn: str
+    wins: Optional[bool]
+    answer: Optional[str] = None
+    strategy: Optional[Strategy] = None
+
+
+@dataclass(frozen=True)
+class Closing:
+    """Stones that close an open wall, and who then wins with each side to begin: the side to move, and the other."""
+
+    stones: Tuple[str, ...]
+    problem: Problem
+    verdict: Verdict
+    other: Verdict
+
+
+@dataclass(frozen=True)
+class Answer:
+    """All that was asked about one problem.
+
+    `verdict.word` is killed, lives, unsettled or refused; `why` says more of the latter two. `turns` has the first turns row by row.
+    `other` is the verdict where the other side begins. `closings` has the ways in which an open wall was closed: the first is the
+    one that `problem`, `verdict` and `turns` are about. `is_complete` says that the seconds sufficed for all of it.
+    """
+
+    name: str
+    verdict: Verdict
+    problem: Optional[Problem] = None
+    turns: Tuple[Turn, ...] = ()
+    other: Optional[Verdict] = None
+    closings: Tuple[Closing, ...] = ()
+    why: str = ""
+    notes: Tuple[str, ...] = ()
+    seconds: float = 0.0
+
+    @property
+    def winning(self) -> Tuple[str, ...]:
+        """The first turns that win."""
+        return tuple(each.turn for each in self.turns if each.wins)
+
+    @property
+    def failing(self) -> Tuple[Turn, ...]:
+        return tuple(each for each in self.turns if each.wins is False)
+
+    @property
+    def unknown(self) -> Tuple[str, ...]:
+        return tuple(each.turn for each in self.turns if each.wins is None)
+
+    @property
+    def closings_agree(self) -> bool:
+        """Whether all closings give the same verdict, whoever begins."""
+        return len({(each.verdict.word, each.other.word) for each in self.closings}) <= 1
+
+    @property
+    def winner(self) -> Optional[str]:
+        """The colour that wins, `B` or `W`, where it is known."""
+        if self.problem is None or not self.verdict.is_settled:
+            return None
+        return self.problem.defender if self.verdict.word == LIVES else OTHER[self.problem.defender]
+
+    @property
+    def is_mover_winner(self) -> bool:
+        return self.problem is not None and self.winner == self.problem.to_move

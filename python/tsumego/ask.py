@@ -1,0 +1,120 @@
+"""tsumego-ask: answers life-and-death problems as a book prints them.
+
+For each problem it says who wins, which first moves win, what refutes the others, and who wins if the other side begins. Points are
+named as editors do. A problem needs no marks: name a stone of the group, or let the program take a group. If the wall is open, it is
+closed in every way that tsumego-show names.
+
+FILE is a file in SGF, also of many problems, or - for standard input. STONE is C18 or, as in SGF, cb.
+
+The status is 0 if each problem was settled, 1 if one is open or was refused, and 2 if nothing could be done.
+"""
+import argparse
+import difflib
+import json
+import os
+import re
+import sys
+from typing import IO, List, NoReturn, Optional
+
+from . import __version__
+from .answers import REFUSED, Answer, Verdict
+from .asking import SECONDS, answer, with_strategies
+from .inputs import Input, UsageError, files_and_stone, read_file
+from .programs import ProgramError
+from .sgf import to_text, write_bytes
+from .solution import solution
+from .words import as_data, heading, said
+
+__all__ = ["main"]
+STOPPED = 130
+
+
+class Parser(argparse.ArgumentParser):
+    """Says which option a typo stands for."""
+
+    def error(self, message: str) -> NoReturn:
+        wrong = re.search(r"unrecognized arguments: (-[^\s=]*)", message)
+        options = [word for action in self._actions for word in action.option_strings]
+        near = difflib.get_close_matches(wrong[1], options, 1) if wrong else []
+        self.exit(2, f"{self.prog}: {message}{f'; is {near[0]} meant?' if near else ''} ({self.prog} --help explains the words)\n")
+
+
+def parser() -> Parser:
+    usage = "tsumego-ask FILE.. [STONE] [-o OUT.sgf] [--json] [--seconds N]"
+    made = Parser(prog="tsumego-ask", usage=usage, description=__doc__, formatter_class=argparse.RawDescriptionHelpFormatter, allow_abbrev=False)
+    made.add_argument("words", nargs="*", help=argparse.SUPPRESS)
+    made.add_argument("-o", dest="out", metavar="OUT.sgf", help="write the answers as SGF too, each first move as a variation")
+    made.add_argument("--json", action="store_true", help="write a JSON object in a line for each problem")
+    made.add_argument("--seconds", type=seconds, default=SECONDS, metavar="N", help=f"how long a problem may take ({SECONDS:.0f})")
+    made.add_argument("--version", action="version", version=f"tsumego-ask {__version__}")
+    return made
+
+
+def seconds(word: str) -> float:
+    number = float(word)
+    if not 0 < number < 1e9:
+        raise argparse.ArgumentTypeError(f"{word} is no number of seconds")
+    return number
+
+
+class Asking:
+    """A run: what was asked, and where the answers go."""
+
+    def __init__(self, stone: Optional[str], limit: float, is_json: bool, out: Optional[IO[bytes]]) -> None:
+        self.stone, self.limit, self.is_json, self.out = stone, limit, is_json, out
+        self.is_settled = True
+
+    def ask(self, given: Input) -> None:
+        """Answers one problem, and writes the answer wherever it is wanted before the next one begins."""
+        name = heading(given.file, given.number if given.count > 1 else 0, "")
+        self.progress(f"{name} of {given.count} ..." if given.count > 1 else f"{name} ...")
+        try:
+            found = answer(given.tree, self.stone, self.limit) if given.tree else Answer("", Verdict(REFUSED, None, "1"), why=given.fault)
+        finally:
+            self.progress("")
+        self.is_settled = self.is_settled and found.verdict.is_settled
+        if self.is_json:
+            print(json.dumps(as_data(given.file, given.number, found)), flush=True)
+        else:
+            name = heading(given.file, given.number if given.count > 1 else 0, found.name)
+            print("\n  ".join([name] + said(found)), flush=True)
+        if self.out and given.tree:
+            tree = solution(with_strategies(found, self.limit)) if found.problem else given.tree
+            self.out.write(write_bytes(to_text(tree)) + b"\n")
+            self.out.flush()
+
+    def progress(self, words: str) -> None:
+        """On a terminal one line of standard error says what is being done."""
+        if sys.stderr.isatty():
+            sys.stderr.write(f"\r\033[K{words}")
+            sys.stderr.flush()
+
+
+def main(words: Optional[List[str]] = None) -> int:
+    """Runs the command; returns its status."""
+    args = parser().parse_args(words)
+    try:
+        if not args.words and not sys.stdin.isatty():
+            args.words = ["-"]
+        files, stone = files_and_stone(args.words)
+        if args.out and any(os.path.exists(args.out) and file != "-" and os.path.samefile(file, args.out) for file in files):
+            raise UsageError(f"{args.out} is one of the files to read: name another one behind -o")
+        given = [each for file in files for each in read_file(file)]
+        with open(args.out, "wb") if args.out else open(os.devnull, "wb") as out:
+            asking = Asking(stone, args.seconds, args.json, out if args.out else None)
+            for each in given:
+                asking.ask(each)
+        return 0 if asking.is_settled else 1
+    except KeyboardInterrupt:
+        print("tsumego-ask: stopped; what was written until now stays", file=sys.stderr)
+        return STOPPED
+    except BrokenPipeError:
+        os.dup2(os.open(os.devnull, os.O_WRONLY), sys.stdout.fileno())
+        return 2
+    except (UsageError, ProgramError, OSError) as fault:
+        print(f"tsumego-ask: {fault}", file=sys.stderr)
+        return 2
+
+
+if __name__ == "__main__":
+    sys.exit(main())

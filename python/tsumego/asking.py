@@ -1,0 +1,98 @@
+"""One problem asked in full: who wins, which first turns win, why the others fail, and who wins if the other side begins."""
+from dataclasses import replace
+from typing import List, Optional, Tuple, Union
+
+from .answers import LIVES, REFUSED, Answer, Closing, Turn, Verdict
+from .marking import Marked, Refused, marked
+from .points import PASS
+from .problems import Problem, name_of
+from .sgf import GameTree, SgfError, main_line, read_bytes, trees_of
+from .solving import Clock, in_parallel, strategy, verdict
+
+__all__ = ["SECONDS", "answer", "solve", "with_strategies"]
+
+SECONDS = 10.0
+# A turn that takes a target wins for the attacker at once: then the triangle stands on no stone.
+TARGET_TAKEN, REPEATS = "22", "17"
+
+
+def solve(sgf: Union[str, bytes, GameTree], stone: Optional[str] = None, seconds: float = SECONDS) -> Answer:
+    """Answers the first problem of a text in SGF.
+
+    `stone` names a stone of the group (`C18` or `cb`) where the problem has no marks, or others are wanted. The answer comes within
+    some `seconds`. A text that is no problem gets an answer too: its verdict is `refused`, and `why` says why.
+
+    Raises ProgramError where the programs aren't there or fail.
+    """
+    if isinstance(sgf, GameTree):
+        return answer(sgf, stone, seconds)
+    try:
+        return answer(trees_of(read_bytes(sgf) if isinstance(sgf, bytes) else sgf)[0], stone, seconds)
+    except SgfError as fault:
+        return Answer("", Verdict(REFUSED, None, "1"), why=str(fault))
+
+
+def answer(tree: GameTree, stone: Optional[str] = None, seconds: float = SECONDS) -> Answer:
+    """The answer to one tree; see `solve`."""
+    name, _ = name_of(main_line(tree))
+    try:
+        found = marked(tree, stone)
+    except Refused as fault:
+        return Answer(name, Verdict(REFUSED, None, str(fault.number or 20)), why=str(fault))
+    clock = Clock(seconds)
+    return replace(_asked(found, clock), name=name, notes=found.hints, seconds=clock.spent())
+
+
+def _asked(found: Marked, clock: Clock) -> Answer:
+    """The verdicts of each closing with either side to begin, and the first turns of the widest."""
+    problems = [problem for _, problem in found.ways]
+    verdicts = in_parallel(verdict, problems, clock)
+    others = _others(problems, verdicts, clock)
+    closings = tuple(Closing(stones, *each) for (stones, _), each in zip(found.ways, zip(problems, verdicts, others)))
+    result = Answer("", verdicts[0], problems[0], (), others[0], closings)
+    return replace(result, turns=_turns(result, clock))
+
+
+def _others(problems: List[Problem], verdicts: List[Verdict], clock: Clock) -> List[Verdict]:
+    """The verdicts where the other side begins. If the side to move loses, it loses too if the other begins: so says its pass."""
+    asked = [not each.is_settled or (each.word == LIVES) == (problem.to_move == problem.defender) for problem, each in zip(problems, verdicts)]
+    found = iter(in_parallel(verdict, [problem.with_other_side() for problem, is_asked in zip(problems, asked) if is_asked], clock))
+    return [next(found) if is_asked else Verdict(each.word) for each, is_asked in zip(verdicts, asked)]
+
+
+def _turns(result: Answer, clock: Clock) -> Tuple[Turn, ...]:
+    """The first turns of the side to move, row by row, each with what is known of it. A pass counts where it wins for the defender."""
+    problem, first = result.problem, result.verdict.turn
+    assert problem
+    if not result.verdict.is_settled:
+        return ()
+    asked = [turn for turn in problem.open_points() if turn != first]
+    found = dict(zip(asked, in_parallel(verdict, [problem.after(turn) for turn in asked], clock)))
+    turns = {turn: _turn(problem, turn, each) for turn, each in found.items() if (each.word, each.detail) != (REFUSED, REPEATS)}
+    if first and first != PASS:
+        turns[first] = Turn(first, True)
+    if first == PASS or (problem.to_move == problem.defender and result.other and result.other.word == LIVES):
+        turns[PASS] = Turn(PASS, True)
+    return tuple(turns[turn] for turn in problem.open_points() + [PASS] if turn in turns)
+
+
+def _turn(problem: Problem, turn: str, after: Verdict) -> Turn:
+    """A turn, of the verdict after it."""
+    is_defender = problem.to_move == problem.defender
+    if after.word == REFUSED and after.detail == TARGET_TAKEN:
+        return Turn(turn, not is_defender)
+    if not after.is_settled:
+        return Turn(turn, None)
+    wins = (after.word == LIVES) == is_defender
+    return Turn(turn, wins, None if wins else after.turn)
+
+
+def with_strategies(result: Answer, seconds: float = SECONDS) -> Answer:
+    """The answer with the winner's strategy after each first turn, as far as they are found within the seconds."""
+    problem = result.problem
+    if problem is None:
+        return result
+    known = [each for each in result.turns if each.wins is not None]
+    found = in_parallel(strategy, [problem.after(each.turn) for each in known], Clock(seconds))
+    strategies = {each.turn: then for each, then in zip(known, found)}
+    return replace(result, turns=tuple(replace(each, strategy=strategies.get(each.turn)) for each in result.turns))

@@ -1,0 +1,68 @@
+"""A board: stones by their points, plays that take stones. The rules are Tromp-Taylor, so suicide of several stones is legal."""
+from typing import Dict, Iterable, List, Set
+
+from .points import PASS, place, sgf_name
+
+BLACK, WHITE = "B", "W"
+OTHER = {BLACK: WHITE, WHITE: BLACK}
+NAMES = {BLACK: "Black", WHITE: "White"}
+
+
+class Board:
+    """Stones on a board of so many columns and rows: `stones` maps points in SGF's letters to `B` or `W`."""
+
+    def __init__(self, columns: int, rows: int, stones: Dict[str, str]) -> None:
+        self.columns, self.rows, self.stones = columns, rows, dict(stones)
+
+    def beside(self, point: str) -> List[str]:
+        """The points beside a point."""
+        column, row = place(point)
+        near = [(column - 1, row), (column, row - 1), (column + 1, row), (column, row + 1)]
+        return [sgf_name(x, y) for x, y in near if 0 <= x < self.columns and 0 <= y < self.rows]
+
+    def chain(self, point: str) -> Set[str]:
+        """The stones of the chain at a point."""
+        colour, found, waiting = self.stones[point], {point}, [point]
+        while waiting:
+            for near in self.beside(waiting.pop()):
+                if near not in found and self.stones.get(near) == colour:
+                    found.add(near)
+                    waiting.append(near)
+        return found
+
+    def liberties(self, point: str) -> Set[str]:
+        """The liberties of the chain at a point."""
+        return {near for stone in self.chain(point) for near in self.beside(stone) if near not in self.stones}
+
+    def chains(self) -> List[Set[str]]:
+        """All chains, in the order of their first stones, row by row."""
+        found: List[Set[str]] = []
+        for stone in sorted(self.stones, key=lambda each: place(each)[::-1]):
+            if not any(stone in chain for chain in found):
+                found.append(self.chain(stone))
+        return found
+
+    def play(self, colour: str, turn: str) -> Set[str]:
+        """Makes a turn, and returns the stones that it takes: the other side's or, in a suicide, one's own."""
+        if turn == PASS:
+            return set()
+        self.stones[turn] = colour
+        taken: Set[str] = set()
+        for near in self.beside(turn):
+            if self.stones.get(near) == OTHER[colour] and not self.liberties(near):
+                taken |= self.chain(near)
+        if not taken and not self.liberties(turn):
+            taken = self.chain(turn)
+        self.remove(taken)
+        return taken
+
+    def remove(self, points: Iterable[str]) -> None:
+        for point in points:
+            self.stones.pop(point, None)
+
+    def copy(self) -> "Board":
+        return Board(self.columns, self.rows, self.stones)
+
+    def of(self, colour: str) -> List[str]:
+        """The stones of a colour, row by row."""
+        return sorted((each for each in self.stones if self.stones[each] == colour), key=lambda each: place(each)[::-1])

@@ -1,0 +1,153 @@
+"""Marks for a problem without them: the group and its region by `tsumego-show --mark`, and an open wall closed in every way that the
+program names."""
+import itertools
+import re
+from concurrent.futures import ThreadPoolExecutor
+from dataclasses import dataclass, replace
+from typing import List, Optional, Tuple, Union
+
+from .board import OTHER
+from .points import read_point
+from .problems import Problem, problem_of
+from .programs import run
+from .sgf import GameTree, to_text, trees_of, write_bytes
+from .solving import JOBS
+
+__all__ = ["Marked", "Refused", "marked"]
+
+# `W` in front of the points where stones of the wall close it, with `a` or `two`.
+_CLOSES = re.compile(r"(a|two) (Black|White) stones? on (?:one|some) of these encloses? it: (.*)")
+NO_TRIANGLE = 20
+
+
+class Refused(ValueError):
+    """A tree that is no problem, or that can't be marked. The text says why, and where to look; `number` is the refusal's."""
+
+    def __init__(self, words: str, number: int = 0) -> None:
+        super().__init__(words)
+        self.number = number
+
+
+@dataclass(frozen=True)
+class Marked:
+    """A problem in each way in which its wall can be closed: the stones that were added, and the problem with them. A closed wall has
+    one way, without stones. The widest region comes first. `hints` are the program's."""
+
+    ways: Tuple[Tuple[Tuple[str, ...], Problem], ...]
+    hints: Tuple[str, ...] = ()
+
+
+def marked(tree: GameTree, stone: Optional[str] = None) -> Marked:
+    """The problem of a tree: around the stone that is named (a point in either spelling), or with its own marks, or around the group
+    that the program takes. Raises Refused where the tree is no problem.
+    """
+    lines, _ = _show(to_text(tree), [])
+    fault = _refusal(lines)
+    if fault and fault.number != NO_TRIANGLE:
+        raise fault
+    try:
+        problem = problem_of(tree)
+        named = read_point(stone, problem.columns, problem.rows) if stone else None
+    except ValueError as wrong:
+        raise Refused(str(wrong)) from wrong
+    if problem.targets and problem.region and not named:
+        return Marked((((), problem),), _hints(lines))
+    bare = replace(problem, targets=(), region=())
+    if problem.targets and not named:
+        found = _closed(bare, problem.targets[0])
+        ways = tuple((stones, replace(each, targets=problem.targets)) for stones, each in found.ways)
+        return Marked(ways, found.hints)
+    return _closed(bare, named) if named else _proposed(bare)
+
+
+def _show(text: str, words: List[str]) -> Tuple[List[str], str]:
+    """What `tsumego-show` writes in front of a tree, and the tree; without `--mark` it writes none."""
+    written = run("tsumego-show", words, write_bytes(text) + b"\n").text
+    begin = re.search(r"^\(", written, re.M)
+    return written[: begin.start() if begin else None].splitlines(), written[begin.start() :] if begin else ""
+
+
+def _refusal(lines: List[str]) -> Optional[Refused]:
+    """Why a tree was refused, of the program's lines; None where it wasn't."""
+    found = next(filter(None, (re.match("[0-9]+ refused ([0-9]+)", line) for line in lines)), None)
+    if not found:
+        return None
+    said = {word: re.sub("=[a-s]{2}", "", rest) for word, _, rest in (line.partition(": ") for line in lines[1:])}
+    looks = f"; look at {said['look at']}" if "look at" in said else ""
+    return Refused(said.get("why", "it is no problem") + looks, int(found[1]))
+
+
+def _hints(lines: List[str]) -> Tuple[str, ...]:
+    return tuple(re.sub("=[a-s]{2}", "", line[6:]) for line in lines if line.startswith("hint: "))
+
+
+def _mark(problem: Problem, stone: Optional[str]) -> Tuple[Problem, Tuple[str, ...]]:
+    """The problem with the marks that the program proposes, and its hints. Raises Refused where it proposes none."""
+    lines, text = _show(problem.text(), ["--mark"] + ([stone] if stone else []))
+    fault = _refusal(lines)
+    if fault or not text:
+        raise fault or Refused("the program proposes no marks")
+    found = problem_of(trees_of(text)[0])
+    return replace(problem, targets=found.targets, region=found.region), _hints(lines)
+
+
+def _closed(problem: Problem, stone: str) -> Marked:
+    """The problem around a stone. If its wall is open, it is closed by each stone, or each pair of stones, that the program names."""
+    try:
+        found, hints = _mark(problem, stone)
+        return Marked((((), found),), hints)
+    except Refused as fault:
+        ways = _ways(problem, stone, str(fault))
+        if not ways:
+            raise
+        return Marked(ways)
+
+
+def _ways(problem: Problem, stone: str, why: str) -> Tuple[Tuple[Tuple[str, ...], Problem], ...]:
+    """The ways to close the wall by the points that the program names; none where it names none."""
+    closes = _CLOSES.search(why)
+    if not closes:
+        return ()
+    points = [read_point(word, problem.columns, problem.rows) for word in closes[3].split()]
+    tried = [stones for stones in itertools.combinations(points, 2 if closes[1] == "two" else 1) if _is_near(problem.with_stones(closes[2][0], stones), stone)]
+    with ThreadPoolExecutor(JOBS) as pool:
+        made = list(pool.map(lambda stones: _marked_or_why(problem.with_stones(closes[2][0], stones), stone), tried))
+    ways = [(stones, found) for stones, found in zip(tried, made) if isinstance(found, Problem)]
+    return tuple(sorted(ways, key=lambda way: -len(way[1].region)))
+
+
+def _is_near(problem: Problem, stone: str) -> bool:
+    """Whether at most half the empty points can be reached from a stone past the stones of the other colour. A wall leaves no more."""
+    board, _ = problem.position()
+    other, found, waiting = OTHER[board.stones[stone]], {stone}, [stone]
+    while waiting:
+        for near in board.beside(waiting.pop()):
+            if near not in found and board.stones.get(near) != other:
+                found.add(near)
+                waiting.append(near)
+    empty = problem.columns * problem.rows - len(board.stones)
+    return 2 * len(found - board.stones.keys()) <= empty
+
+
+def _marked_or_why(problem: Problem, stone: str) -> Union[Problem, str]:
+    """The problem with marks, or why there are none."""
+    try:
+        return _mark(problem, stone)[0]
+    except Refused as fault:
+        return str(fault)
+
+
+def _proposed(problem: Problem) -> Marked:
+    """The problem around the group that the program takes. If no group is enclosed, it is the largest chain whose wall can be closed."""
+    try:
+        found, hints = _mark(problem, None)
+        return Marked((((), found),), hints)
+    except Refused as fault:
+        stones = [min(chain) for chain in sorted(problem.position()[0].chains(), key=len, reverse=True)]
+        with ThreadPoolExecutor(JOBS) as pool:
+            said = list(pool.map(lambda stone: _marked_or_why(problem, stone), stones))
+        for stone, found_or_why in zip(stones, said):
+            ways = ((((), found_or_why),) if isinstance(found_or_why, Problem) else _ways(problem, stone, found_or_why))
+            if ways:
+                return Marked(ways)
+        raise fault

@@ -1,0 +1,85 @@
+"""The proved programs, `tsumego` and `tsumego-show`: where they are, and a process of each with a limit in seconds.
+
+A program is looked for in this order: the environment's TSUMEGO or TSUMEGO_SHOW (a path), the repository or the archive that this
+package lies in, the PATH. In a repository its first use may build the programs; the wrapper then says so on standard error.
+"""
+import functools
+import os
+import shutil
+import subprocess
+from dataclasses import dataclass
+from pathlib import Path
+from typing import List, Optional
+
+__all__ = ["Ended", "MAX_BYTES", "ProgramError", "program", "run"]
+
+HOME = Path(__file__).resolve().parents[2]
+# An input may have so many bytes.
+MAX_BYTES = 1_048_576
+
+
+class ProgramError(RuntimeError):
+    """A program isn't there, or it failed. The text says which, and what it wrote."""
+
+
+@dataclass(frozen=True)
+class Ended:
+    """What a run wrote. `status` is None where it ran out of time: then `text` has the whole lines until then."""
+
+    text: str
+    errors: str
+    status: Optional[int]
+
+
+@functools.lru_cache(None)
+def program(name: str) -> str:
+    """The path of `tsumego` or `tsumego-show`. Raises ProgramError where there is none."""
+    variable = name.upper().replace("-", "_")
+    named = os.environ.get(variable)
+    if named:
+        found = shutil.which(named)
+        if not found:
+            raise ProgramError(f"there is no program {named}, which the environment's {variable} names")
+        return found
+    built = HOME / "crates" / name.replace("-", "_") / "out" / name.replace("-", "_")
+    if built.parent.parent.exists():
+        _see_to_it(HOME / name)
+        return str(built)
+    found = shutil.which(str(HOME / "bin" / name)) or shutil.which(name)
+    if not found:
+        raise ProgramError(f"there is no program {name} on the PATH; the environment's {variable} may name it")
+    return found
+
+
+def _see_to_it(wrapper: Path) -> None:
+    """The wrapper builds the program where it isn't as new as its sources, and says so."""
+    ended = subprocess.run([str(wrapper)], stdin=subprocess.DEVNULL, stdout=subprocess.DEVNULL, check=False)
+    if ended.returncode == 2 and not (wrapper.name == "tsumego"):
+        raise ProgramError(f"{wrapper} can't be built or run, for the reason above")
+
+
+def run(name: str, words: List[str], text: bytes, seconds: Optional[float] = None) -> Ended:
+    """Runs a program to its end, or ends it when the seconds are over.
+
+    Raises ProgramError where the program isn't there, refuses its words, or is ended by a signal.
+    """
+    command = [program(name), *words]
+    try:
+        process = subprocess.Popen(command, stdin=subprocess.PIPE, stdout=subprocess.PIPE, stderr=subprocess.PIPE)
+    except OSError as fault:
+        raise ProgramError(f"{command[0]}: {fault.strerror}") from fault
+    try:
+        out, errors = process.communicate(text, timeout=seconds)
+        status: Optional[int] = process.returncode
+    except subprocess.TimeoutExpired:
+        process.kill()
+        out, errors = process.communicate()
+        status, out = None, out[: out.rfind(b"\n") + 1]
+    except BaseException:
+        process.kill()
+        process.wait()
+        raise
+    if status not in (None, 0, 1):
+        said = errors.decode("utf-8", "replace").strip().partition("\n")[0]
+        raise ProgramError(f"{name} {' '.join(words)}: {said or f'ended by signal {-status}' if status and status < 0 else said}")
+    return Ended(out.decode("ascii", "surrogateescape"), errors.decode("utf-8", "replace"), status)

@@ -1,0 +1,62 @@
+"""Asks `tsumego solve`: of one problem, or of many at a time."""
+import os
+import time
+from concurrent.futures import ThreadPoolExecutor
+from typing import Callable, List, Optional, Sequence, TypeVar
+
+from .answers import UNSETTLED, Verdict, verdict_of
+from .problems import Problem
+from .programs import run
+from .sgf import write_bytes
+from .strategy import Strategy, read_certificate
+
+__all__ = ["Clock", "JOBS", "in_parallel", "strategy", "verdict"]
+
+Found = TypeVar("Found")
+OUT_OF_TIME = Verdict(UNSETTLED, None, "time")
+
+# How many positions df-pn may visit at first, and where time is left.
+POSITIONS, MOST_POSITIONS = 2_000_000, 100_000_000
+JOBS = len(os.sched_getaffinity(0)) if hasattr(os, "sched_getaffinity") else os.cpu_count() or 1
+
+
+class Clock:
+    """Seconds that run from now on."""
+
+    def __init__(self, seconds: float) -> None:
+        self.begun, self.seconds = time.monotonic(), seconds
+
+    def spent(self) -> float:
+        return time.monotonic() - self.begun
+
+    def left(self) -> float:
+        return max(0.0, self.seconds - self.spent())
+
+
+def verdict(problem: Problem, clock: Clock) -> Verdict:
+    """Who wins a problem. df-pn may visit some positions, and then as many as the clock allows."""
+    found = OUT_OF_TIME
+    for limit in (POSITIONS, MOST_POSITIONS):
+        if clock.left() > 0:
+            lines = _solve(problem, clock, ["--dfpn", str(limit)])
+            found = verdict_of(lines[0].partition(" ")[2]) if lines else found
+        if found.word != UNSETTLED:
+            break
+    return found
+
+
+def strategy(problem: Problem, clock: Clock) -> Optional[Strategy]:
+    """The winner's strategy; None where it isn't found in time or is too long to be checked."""
+    lines = _solve(problem, clock, ["--dfpn", str(MOST_POSITIONS), "--cert", "--parts"]) if clock.left() > 0 else []
+    return read_certificate(lines[1]) if len(lines) > 1 else None
+
+
+def _solve(problem: Problem, clock: Clock, options: List[str]) -> List[str]:
+    """The whole lines that `solve` writes for a problem while the clock runs."""
+    return run("tsumego", ["solve", "--budget", "1", *options], write_bytes(problem.text()), clock.left()).text.splitlines()
+
+
+def in_parallel(ask: Callable[[Problem, Clock], Found], problems: Sequence[Problem], clock: Clock, jobs: int = JOBS) -> List[Found]:
+    """What is asked of each of many problems, in their order; so many are asked at a time."""
+    with ThreadPoolExecutor(max(1, jobs)) as pool:
+        return list(pool.map(lambda problem: ask(problem, clock), problems))
