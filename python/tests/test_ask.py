@@ -1,8 +1,10 @@
 """The command tsumego-ask, as it is called."""
 import json
 import os
+import re
 import subprocess
 import sys
+import xml.dom.minidom
 from pathlib import Path
 from typing import List
 
@@ -16,7 +18,7 @@ ASK = Path(__file__).resolve().parents[2] / "tsumego-ask"
 
 def ask(*words: str, text: str = "") -> "subprocess.CompletedProcess[str]":
     # (a busy machine needs its time)
-    return subprocess.run([sys.executable, "-B", str(ASK), "--seconds", "100", *words], input=text, capture_output=True, text=True, check=False)
+    return subprocess.run([sys.executable, "-B", str(ASK), "--seconds", "40", *words], input=text, capture_output=True, text=True, check=False)
 
 
 @pytest.fixture
@@ -106,3 +108,13 @@ def test_an_input_is_never_overwritten(book: Path) -> None:
 def test_a_program_that_is_missing() -> None:
     ended = subprocess.run([sys.executable, str(ASK), "-"], input=data.TRIPOD, capture_output=True, text=True, check=False, env={**os.environ, "TSUMEGO": "/nowhere"})
     assert ended.returncode == 2 and "there is no program /nowhere" in ended.stderr
+
+
+def test_a_page(book: Path, tmp_path: Path) -> None:
+    out = tmp_path / "page.html"
+    ask(str(book), "--html", str(out))
+    page = out.read_text()
+    assert page.count("<section") == 4 and page.count("<svg") == 6 and page.count("class=fault") == 1
+    for picture in re.findall("<svg.*?</svg>", page):
+        xml.dom.minidom.parseString(picture)
+    assert "http" not in page.replace("http://www.w3.org/2000/svg", "")

@@ -7,11 +7,11 @@
 
 `solve` answers one problem in full, `Answer` says what there is to read. `tsumego.sgf` reads and writes game trees.
 """
-from .answers import Answer, Closing, Turn, Verdict
+from .answers import Answer, Closing, Ko, Turn, Verdict
 from .asking import answer, solve, with_strategies
 from .problems import Problem
 from .programs import ProgramError
 from .sgf import GameTree, Node, SgfError
 
-__all__ = ["Answer", "Closing", "GameTree", "Node", "Problem", "ProgramError", "SgfError", "Turn", "Verdict", "answer", "solve", "with_strategies"]
+__all__ = ["Answer", "Closing", "GameTree", "Ko", "Node", "Problem", "ProgramError", "SgfError", "Turn", "Verdict", "answer", "solve", "with_strategies"]
 __version__ = "0.1.0"

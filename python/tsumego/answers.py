@@ -6,7 +6,7 @@ from .board import OTHER
 from .problems import Problem
 from .strategy import Strategy
 
-__all__ = ["Answer", "Closing", "KILLED", "LIVES", "REFUSED", "Turn", "UNSETTLED", "Verdict", "verdict_of"]
+__all__ = ["Answer", "Closing", "KILLED", "Ko", "LIVES", "REFUSED", "Turn", "UNSETTLED", "Verdict", "verdict_of"]
 
 KILLED, LIVES, UNSETTLED, REFUSED = "killed", "lives", "unsettled", "refused"
 
@@ -53,12 +53,22 @@ class Closing:
 
 
 @dataclass(frozen=True)
+class Ko:
+    """Whether a ko decides: `decides` is None where that couldn't be tried or wasn't settled. With so many `threats` the loser wins, or
+    loses still. `tried` are the problems that say so."""
+
+    decides: Optional[bool]
+    threats: int
+    tried: Tuple[Problem, ...]
+
+
+@dataclass(frozen=True)
 class Answer:
     """All that was asked about one problem.
 
     `verdict.word` is killed, lives, unsettled or refused; `why` says more of the latter two. `turns` has the first turns row by row.
     `other` is the verdict where the other side begins. `closings` has the ways in which an open wall was closed: the first is the
-    one that `problem`, `verdict` and `turns` are about. `is_complete` says that the seconds sufficed for all of it.
+    one that `problem`, `verdict` and `turns` are about. `ko` says whether a ko decides the verdict.
     """
 
     name: str
@@ -67,6 +77,7 @@ class Answer:
     turns: Tuple[Turn, ...] = ()
     other: Optional[Verdict] = None
     closings: Tuple[Closing, ...] = ()
+    ko: Optional[Ko] = None
     why: str = ""
     notes: Tuple[str, ...] = ()
     seconds: float = 0.0

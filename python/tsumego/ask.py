@@ -21,12 +21,13 @@ from .answers import REFUSED, Answer, Verdict
 from .asking import SECONDS, answer, with_strategies
 from .inputs import Input, UsageError, files_and_stone, read_file
 from .programs import ProgramError
+from .report import answer_card, page
 from .sgf import to_text, write_bytes
 from .solution import solution
 from .words import as_data, heading, said
 
 __all__ = ["main"]
-STOPPED = 130
+FAILED, STOPPED = 2, 130
 
 
 class Parser(argparse.ArgumentParser):
@@ -40,10 +41,11 @@ class Parser(argparse.ArgumentParser):
 
 
 def parser() -> Parser:
-    usage = "tsumego-ask FILE.. [STONE] [-o OUT.sgf] [--json] [--seconds N]"
+    usage = "tsumego-ask FILE.. [STONE] [-o OUT.sgf] [--html OUT] [--json] [--seconds N]"
     made = Parser(prog="tsumego-ask", usage=usage, description=__doc__, formatter_class=argparse.RawDescriptionHelpFormatter, allow_abbrev=False)
     made.add_argument("words", nargs="*", help=argparse.SUPPRESS)
     made.add_argument("-o", dest="out", metavar="OUT.sgf", help="write the answers as SGF too, each first move as a variation")
+    made.add_argument("--html", metavar="OUT", help="write the answers as a page with pictures too")
     made.add_argument("--json", action="store_true", help="write a JSON object in a line for each problem")
     made.add_argument("--seconds", type=seconds, default=SECONDS, metavar="N", help=f"how long a problem may take ({SECONDS:.0f})")
     made.add_argument("--version", action="version", version=f"tsumego-ask {__version__}")
@@ -63,6 +65,7 @@ class Asking:
     def __init__(self, stone: Optional[str], limit: float, is_json: bool, out: Optional[IO[bytes]]) -> None:
         self.stone, self.limit, self.is_json, self.out = stone, limit, is_json, out
         self.is_settled = True
+        self.cards: List[str] = []
 
     def ask(self, given: Input) -> None:
         """Answers one problem, and writes the answer wherever it is wanted before the next one begins."""
@@ -73,10 +76,11 @@ class Asking:
         finally:
             self.progress("")
         self.is_settled = self.is_settled and found.verdict.is_settled
+        name = heading(given.file, given.number if given.count > 1 else 0, found.name)
+        self.cards.append(answer_card(name, found))
         if self.is_json:
             print(json.dumps(as_data(given.file, given.number, found)), flush=True)
         else:
-            name = heading(given.file, given.number if given.count > 1 else 0, found.name)
             print("\n  ".join([name] + said(found)), flush=True)
         if self.out and given.tree:
             tree = solution(with_strategies(found, self.limit)) if found.problem else given.tree
@@ -90,30 +94,41 @@ class Asking:
             sys.stderr.flush()
 
 
+def run(args: argparse.Namespace) -> int:
+    """Asks all problems of the files; returns the status."""
+    files, stone = files_and_stone(args.words)
+    for written in (each for each in (args.out, args.html) if each):
+        if any(os.path.exists(written) and file != "-" and os.path.samefile(file, written) for file in files):
+            raise UsageError(f"{written} is one of the files to read: name another one to write")
+    given = [each for file in files for each in read_file(file)]
+    with open(args.out or os.devnull, "wb") as out:
+        asking = Asking(stone, args.seconds, args.json, out if args.out else None)
+        try:
+            for each in given:
+                asking.ask(each)
+        finally:
+            if args.html:
+                with open(args.html, "w", encoding="utf-8") as html:
+                    html.write(page(" ".join(files), asking.cards))
+    return 0 if asking.is_settled else 1
+
+
 def main(words: Optional[List[str]] = None) -> int:
     """Runs the command; returns its status."""
     args = parser().parse_args(words)
+    if not args.words and not sys.stdin.isatty():
+        args.words = ["-"]
     try:
-        if not args.words and not sys.stdin.isatty():
-            args.words = ["-"]
-        files, stone = files_and_stone(args.words)
-        if args.out and any(os.path.exists(args.out) and file != "-" and os.path.samefile(file, args.out) for file in files):
-            raise UsageError(f"{args.out} is one of the files to read: name another one behind -o")
-        given = [each for file in files for each in read_file(file)]
-        with open(args.out, "wb") if args.out else open(os.devnull, "wb") as out:
-            asking = Asking(stone, args.seconds, args.json, out if args.out else None)
-            for each in given:
-                asking.ask(each)
-        return 0 if asking.is_settled else 1
+        return run(args)
     except KeyboardInterrupt:
         print("tsumego-ask: stopped; what was written until now stays", file=sys.stderr)
         return STOPPED
     except BrokenPipeError:
         os.dup2(os.open(os.devnull, os.O_WRONLY), sys.stdout.fileno())
-        return 2
+        return FAILED
     except (UsageError, ProgramError, OSError) as fault:
         print(f"tsumego-ask: {fault}", file=sys.stderr)
-        return 2
+        return FAILED
 
 
 if __name__ == "__main__":

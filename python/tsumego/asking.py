@@ -3,6 +3,7 @@ from dataclasses import replace
 from typing import List, Optional, Tuple, Union
 
 from .answers import LIVES, REFUSED, Answer, Closing, Turn, Verdict
+from .ko import ko_of
 from .marking import Marked, Refused, marked
 from .points import PASS
 from .problems import Problem, name_of
@@ -50,7 +51,8 @@ def _asked(found: Marked, clock: Clock) -> Answer:
     others = _others(problems, verdicts, clock)
     closings = tuple(Closing(stones, *each) for (stones, _), each in zip(found.ways, zip(problems, verdicts, others)))
     result = Answer("", verdicts[0], problems[0], (), others[0], closings)
-    return replace(result, turns=_turns(result, clock))
+    result = replace(result, turns=_turns(result, clock))
+    return replace(result, ko=ko_of(result, clock) if result.verdict.is_settled else None)
 
 
 def _others(problems: List[Problem], verdicts: List[Verdict], clock: Clock) -> List[Verdict]:

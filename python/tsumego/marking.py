@@ -108,11 +108,13 @@ def _ways(problem: Problem, stone: str, why: str) -> Tuple[Tuple[Tuple[str, ...]
     closes = _CLOSES.search(why)
     if not closes:
         return ()
-    points = [read_point(word, problem.columns, problem.rows) for word in closes[3].split()]
-    tried = [stones for stones in itertools.combinations(points, 2 if closes[1] == "two" else 1) if _is_near(problem.with_stones(closes[2][0], stones), stone)]
+    how_many, colour, words = closes.groups()
+    points = [read_point(word, problem.columns, problem.rows) for word in words.split()]
+    with_wall = {stones: problem.with_stones(colour[0], stones) for stones in itertools.combinations(points, 2 if how_many == "two" else 1)}
+    tried = [stones for stones, made in with_wall.items() if _is_near(made, stone)]
     with ThreadPoolExecutor(JOBS) as pool:
-        made = list(pool.map(lambda stones: _marked_or_why(problem.with_stones(closes[2][0], stones), stone), tried))
-    ways = [(stones, found) for stones, found in zip(tried, made) if isinstance(found, Problem)]
+        found = list(pool.map(lambda stones: _marked_or_why(with_wall[stones], stone), tried))
+    ways = [(stones, each) for stones, each in zip(tried, found) if isinstance(each, Problem)]
     return tuple(sorted(ways, key=lambda way: -len(way[1].region)))
 
 

@@ -2,7 +2,7 @@
 import os
 import time
 from concurrent.futures import ThreadPoolExecutor
-from typing import Callable, List, Optional, Sequence, TypeVar
+from typing import Callable, Dict, List, Optional, Sequence, TypeVar
 
 from .answers import UNSETTLED, Verdict, verdict_of
 from .problems import Problem
@@ -10,7 +10,7 @@ from .programs import run
 from .sgf import write_bytes
 from .strategy import Strategy, read_certificate
 
-__all__ = ["Clock", "JOBS", "in_parallel", "strategy", "verdict"]
+__all__ = ["Clock", "JOBS", "first_turns", "in_parallel", "strategy", "verdict"]
 
 Found = TypeVar("Found")
 OUT_OF_TIME = Verdict(UNSETTLED, None, "time")
@@ -43,6 +43,12 @@ def verdict(problem: Problem, clock: Clock) -> Verdict:
         if found.word != UNSETTLED:
             break
     return found
+
+
+def first_turns(problem: Problem, clock: Clock) -> Dict[str, str]:
+    """Of each legal first turn who wins after it: killed, lives or unsettled. Empty where time runs out."""
+    lines = _solve(problem, clock, ["--dfpn", str(POSITIONS), "--turns"]) if clock.left() > 0 else []
+    return {turn: word for turn, word in (line.split()[:2] for line in lines[1:])}
 
 
 def strategy(problem: Problem, clock: Clock) -> Optional[Strategy]:

@@ -1,7 +1,7 @@
 """An answer in words, with points as editors name them."""
 from typing import Any, Dict, Iterable, List
 
-from .answers import UNSETTLED, Answer, Turn
+from .answers import LIVES, UNSETTLED, Answer, Turn
 from .board import NAMES, OTHER
 from .points import PASS
 from .problems import Problem
@@ -80,15 +80,25 @@ def _settled(answer: Answer) -> List[str]:
     does = f"save the group at {problem.point(problem.targets[0])}" if is_defender else f"kill {group(problem)}"
     if not answer.is_mover_winner:
         stands = "It is dead as it stands." if is_defender else "It lives as it stands: it needs no move."
-        return [f"{mover} begins and can't {does}. {stands}"] + _failing(answer, other)
+        return [f"{mover} begins and can't {does}. {stands}"] + _ko(answer) + _failing(answer, other)
     plays = [problem.point(turn) for turn in answer.winning if turn != PASS]
     lines = [f"{mover} begins and can {does}{', by ' + listed(plays, 'or') if plays else ''}."]
     if PASS in answer.winning or answer.other.word == answer.verdict.word:
         lines.append("It lives as it stands: it needs no move." if is_defender else "It is dead as it stands.")
-    lines += _failing(answer, other)
+    lines += _ko(answer) + _failing(answer, other)
     if answer.unknown:
         lines.append(f"Open, for want of seconds: {listed(map(problem.point, answer.unknown))}.")
     return lines + _other_side(answer)
+
+
+def _ko(answer: Answer) -> List[str]:
+    """That a ko decides, where it does."""
+    problem, ko = answer.problem, answer.ko
+    assert problem
+    if ko is None or not ko.decides:
+        return []
+    loser, does = (problem.attacker, "kills") if answer.verdict.word == LIVES else (problem.defender, "lives")
+    return [f"But a ko decides: with {('one', 'two', 'three')[ko.threats - 1]} ko threat{'s' if ko.threats > 1 else ''} {NAMES[loser]} {does}."]
 
 
 def _failing(answer: Answer, other: str) -> List[str]:
@@ -139,6 +149,7 @@ def as_data(file: str, number: int, answer: Answer) -> Dict[str, Any]:
         closings=[
             {"stones": list(map(problem.point, each.stones)), "verdict": each.verdict.word, "if_other_begins": each.other.word} for each in answer.closings if each.stones
         ],
+        ko=answer.ko and {"decides": answer.ko.decides, "threats": answer.ko.threats, "problems": [each.text() for each in answer.ko.tried]},
         hints=list(answer.notes),
         seconds=round(answer.seconds, 3),
     )

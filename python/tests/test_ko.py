@@ -1,0 +1,54 @@
+"""Kos that books know, and shapes that are none."""
+from pathlib import Path
+from typing import Tuple
+
+import data
+import pytest
+
+import tsumego
+from tsumego import words
+from tsumego.ko import with_attackers_threat, with_defenders_threat
+from tsumego.problems import problem_of
+from tsumego.sgf import trees_of
+
+EXAMPLES = Path(__file__).resolve().parents[2] / "examples"
+SECONDS = 50
+
+
+def six_in_the_corner(liberties: int) -> str:
+    """The rectangular six in the corner with so many outside liberties, Black to begin: books say dead, ko, alive."""
+    region = ["aa", "ba", "ca", "ab", "bb", "cb"] + ["ea", "ad"][:liberties]
+    black = ["eb", "ec", "dd", "cd", "bd", "ed", "ee"] + [["ea", "ad"], ["ad", "fa", "fb"], ["fa", "fb", "ae", "be"]][liberties]
+    lists = ("AB", black), ("AW", ["da", "db", "dc", "cc", "bc", "ac"]), ("TR", ["da"]), ("SQ", region)
+    return "(;SZ[13]PL[B]" + "".join(name + "".join(f"[{point}]" for point in points) for name, points in lists) + ")"
+
+
+@pytest.mark.parametrize("liberties, verdict, is_ko", [(0, "killed", False), (1, "killed", True), (2, "lives", False)])
+def test_the_rectangular_six_in_the_corner(liberties: int, verdict: str, is_ko: bool) -> None:
+    answer = tsumego.solve(six_in_the_corner(liberties), None, SECONDS)
+    # (with three threats the search is long, and time may run out)
+    assert answer.ko and (answer.verdict.word, bool(answer.ko.decides)) == (verdict, is_ko)
+
+
+@pytest.mark.parametrize("name, verdict", [("ko_black_takes", "killed"), ("ko_white_took", "lives")])
+def test_a_ko_that_is_taken(name: str, verdict: str) -> None:
+    answer = tsumego.solve((EXAMPLES / f"{name}.sgf").read_text(), None, SECONDS)
+    assert answer.ko and (answer.verdict.word, answer.ko.decides, answer.ko.threats) == (verdict, True, 1)
+    assert "But a ko decides: with one ko threat" in " ".join(words.said(answer))
+    # Each made problem can be asked again, and says the opposite.
+    assert {tsumego.solve(each.text()).verdict.word for each in answer.ko.tried} == {"killed", "lives"} - {verdict}
+
+
+@pytest.mark.parametrize("row", [row for row in data.SHAPES if "three" in row[0] or "two" in row[0] or "square" in row[0]], ids=lambda row: row[0])
+def test_shapes_without_a_ko(row: Tuple[str, ...]) -> None:
+    answer = tsumego.solve(row[3], None, SECONDS)
+    assert answer.verdict.word == row[1] and answer.ko and not answer.ko.decides
+
+
+def test_threats_have_room() -> None:
+    problem = problem_of(trees_of("(;SZ[13]AW[ca][cb][ba]AB[da][db][cc][bb][ac]TR[ca]SQ[aa][ab])")[0])
+    one = with_attackers_threat(problem)
+    assert one and set(one.targets) == {"ca", "ma"} and set(one.region) == {"aa", "ab", "la", "mb"}
+    assert with_attackers_threat(with_attackers_threat(one)) and not with_attackers_threat(with_attackers_threat(with_attackers_threat(one)))
+    wall = with_defenders_threat(problem)
+    assert wall is None or len(wall.region) == 4

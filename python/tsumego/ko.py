@@ -1,0 +1,159 @@
+"""Does a ko decide? The programs know no ko threats outside the region. So problems are made in which the loser has some.
+
+A threat of the attacker: in an empty corner a stone of the defender that counts as a target, with its two liberties in the region. A
+play on one of them threatens to take it.
+
+A threat of the defender: a chain of the wall beside the targets gets just two liberties, both in the region. A play on one of them
+threatens to take the chain, and then the targets can't be taken any more. A play of the attacker on the other one saves it.
+
+If no such chain is there, the defender is asked as if it had a threat at a ko that the attacker takes: the position is set up anew, so
+that it may take back at once. Each turn of the attacker that kills has to be such a ko, or to let the defender reach one by a turn.
+
+What this can't see: a ko that needs more threats; without room for a threat, a ko that comes later.
+"""
+import itertools
+from dataclasses import replace
+from typing import Dict, List, Optional, Set, Tuple
+
+from .answers import KILLED, LIVES, Answer, Ko
+from .board import OTHER, Board
+from .points import sgf_name
+from .problems import Problem
+from .sgf import Node
+from .solving import Clock, first_turns, verdict
+
+__all__ = ["ko_of", "with_attackers_threat", "with_defenders_threat"]
+
+MOST_THREATS = 3
+# So many turns of the defender lead to a ko at most, and so many turns of the attacker are followed at each.
+DEEPEST, MOST_TURNS = 2, 3
+
+
+def ko_of(answer: Answer, clock: Clock) -> Ko:
+    """What made problems say of a settled answer: with how many threats of the loser it becomes another one, up to three. It takes a
+    fifth of the clock's seconds at most."""
+    problem = answer.problem
+    assert problem
+    clock = Clock(min(clock.left(), clock.seconds / 5))
+    add = with_attackers_threat if answer.verdict.word == LIVES else with_defenders_threat
+    tried: List[Problem] = []
+    made = add(problem) if problem.region else None
+    while made and len(tried) < MOST_THREATS:
+        tried.append(made)
+        found = verdict(made, clock)
+        if not found.is_settled:
+            return Ko(None, len(tried), tuple(tried))
+        if found.word != answer.verdict.word:
+            return Ko(True, len(tried), tuple(tried))
+        made = add(made)
+    if not tried and answer.verdict.word == KILLED:
+        taking = _TakingBack(clock)
+        for depth in range(1, DEEPEST + 1):
+            tried = tried or taking.living(problem, depth)
+        return Ko(True if tried else None, 1, tuple(tried))
+    return Ko(False if tried else None, len(tried), tuple(tried))
+
+
+def with_attackers_threat(problem: Problem) -> Optional[Problem]:
+    """The problem with one more ko threat of the attacker, in a corner; None where none is empty."""
+    board, _ = problem.position()
+    used = set(board.stones) | {near for point in problem.region for near in [point, *board.beside(point)]}
+    for right, below in ((False, False), (True, False), (False, True), (True, True)):
+        columns = [problem.columns - 1 - at if right else at for at in range(3)]
+        rows = [problem.rows - 1 - at if below else at for at in range(3)]
+        if min(problem.columns, problem.rows) > 6 and not used & {sgf_name(x, y) for x in columns for y in rows}:
+            corner, near = sgf_name(columns[0], rows[0]), (sgf_name(columns[1], rows[0]), sgf_name(columns[0], rows[1]))
+            made = problem.with_stones(problem.defender, [corner])
+            return replace(made, targets=problem.targets + (corner,), region=problem.region + near)
+    return None
+
+
+def with_defenders_threat(problem: Problem) -> Optional[Problem]:
+    """The problem with one more ko threat of the defender, against a chain of the wall; None where none can be made."""
+    board, _ = problem.position()
+    region = set(problem.region)
+    targets = [board.chain(target) for target in problem.targets]
+    for wall in board.chains():
+        if board.stones[min(wall)] == problem.attacker and all(_touch(board, wall, chain) for chain in targets):
+            found = _threat_against(board, wall, region, problem.defender)
+            if found:
+                stones, near = found
+                return replace(problem.with_stones(problem.defender, sorted(stones)), region=problem.region + near)
+    return None
+
+
+def _touch(board: Board, one: Set[str], other: Set[str]) -> bool:
+    return any(near in other for stone in one for near in board.beside(stone))
+
+
+def _threat_against(board: Board, wall: Set[str], region: Set[str], defender: str) -> Optional[Tuple[Set[str], Tuple[str, str]]]:
+    """Stones that leave a chain of the wall two liberties, and these. All else stays as safe as it was, also after a play on each."""
+    free = board.liberties(min(wall))
+    if any(near in region for stone in wall for near in board.beside(stone)) or any(board.stones.get(near) == defender for point in free for near in board.beside(point)):
+        return None
+    for pair in itertools.combinations(sorted(free), 2):
+        outside = region.union(pair)
+        if _are_safe(board, _with(board, free.difference(pair), defender), wall, outside):
+            # Whichever of the two the defender plays, the attacker's play on the other one saves the chain.
+            answered = [_with(_with(board, free - {saves}, defender), {saves}, OTHER[defender]) for saves in pair]
+            if all(_are_safe(board, each, set(), outside) for each in answered):
+                return free.difference(pair), pair
+    return None
+
+
+def _with(board: Board, points: Set[str], colour: str) -> Board:
+    made = board.copy()
+    made.stones.update((point, colour) for point in points)
+    return made
+
+
+def _are_safe(board: Board, made: Board, but: Set[str], region: Set[str]) -> bool:
+    """Whether each chain of the board made has a liberty outside the region, which nobody can fill, but for one chain and those that
+    had none before."""
+    for chain in made.chains():
+        had = not chain & board.stones.keys() or board.liberties(min(chain & board.stones.keys())) - region
+        if had and not chain & but and not made.liberties(min(chain)) - region:
+            return False
+    return True
+
+
+# ---- without room for a threat: the defender takes back
+
+
+class _TakingBack:
+    """What was asked about kos that the defender takes back."""
+
+    def __init__(self, clock: Clock) -> None:
+        self.clock = clock
+        self.known: Dict[str, Dict[str, str]] = {}
+
+    def first_turns(self, problem: Problem) -> Dict[str, str]:
+        text = problem.text()
+        if text not in self.known:
+            self.known[text] = first_turns(problem, self.clock)
+        return self.known[text]
+
+    def living(self, problem: Problem, depth: int) -> List[Problem]:
+        """The problems after kos in which the defender lives, if there is one for each turn of the attacker that kills; else none."""
+        if problem.to_move == problem.defender:
+            for turn in problem.open_points() if depth and self.clock.left() > 0 else []:
+                found = self.living(problem.after(turn), depth - 1)
+                if found:
+                    return found
+            return []
+        kills = [turn for turn, word in self.first_turns(problem).items() if word == KILLED]
+        after = [self.after(problem, turn, depth) for turn in kills] if len(kills) <= MOST_TURNS else [[]]
+        return [made for each in after for made in each] if all(after) else []
+
+    def after(self, problem: Problem, turn: str, depth: int) -> List[Problem]:
+        """If the turn takes a ko and the defender lives by taking back, the problem that says so; else what follows the turn."""
+        board, colour = problem.position()
+        taken = board.play(colour, turn)
+        if taken & set(problem.targets):
+            return []
+        if len(taken) == 1 and board.liberties(turn) == taken and len(board.chain(turn)) == 1:
+            node = Node().add("AB", *board.of("B")).add("AW", *board.of("W")).add("PL", problem.defender)
+            made = replace(problem, nodes=(node,))
+            if verdict(made, self.clock).word == LIVES:
+                return [made]
+        return self.living(problem.after(turn), depth)
