@@ -8,9 +8,9 @@ from typing import List, Optional, Tuple, Union
 
 from .board import OTHER
 from .points import read_point
-from .problems import Problem, problem_of
+from .problems import Problem, asked_at, problem_of
 from .programs import run
-from .sgf import GameTree, to_text, trees_of, write_bytes
+from .sgf import GameTree, main_line, to_text, trees_of, write_bytes
 from .solving import JOBS
 
 __all__ = ["Marked", "Refused", "marked"]
@@ -41,7 +41,9 @@ def marked(tree: GameTree, stone: Optional[str] = None) -> Marked:
     """The problem of a tree: around the stone that is named (a point in either spelling), or with its own marks, or around the group
     that the program takes. Raises Refused where the tree is no problem.
     """
-    lines, _ = _show(to_text(tree), [])
+    line = main_line(tree)
+    # What is behind the problem's node, a solution, is no matter here.
+    lines, _ = _show(to_text(GameTree(line[: asked_at(line) + 1])), [])
     fault = _refusal(lines)
     if fault and fault.number != NO_TRIANGLE:
         raise fault

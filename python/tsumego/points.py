@@ -18,9 +18,9 @@ def place(point: str) -> Tuple[int, int]:
 
 
 def editor_name(turn: str, rows: int) -> str:
-    """`ca` on a board of 7 rows is `C7`; a pass stays `pass`."""
-    if turn == PASS:
-        return PASS
+    """`ca` on a board of 7 rows is `C7`; what is no point, as `pass`, stays as it is."""
+    if not re.fullmatch("[a-s]{2}", turn):
+        return turn
     column, row = place(turn)
     return f"{COLUMNS[column]}{rows - row}"
 

@@ -8,7 +8,7 @@ from .board import BLACK, NAMES, OTHER, Board
 from .points import PASS, editor_name, read_point, sgf_name
 from .sgf import GameTree, Node, main_line, plain, short, to_text
 
-__all__ = ["Problem", "chapter", "name_of", "problem_of", "size_of"]
+__all__ = ["MOVES", "Problem", "SETUP", "asked_at", "chapter", "name_of", "problem_of", "size_of", "turn_of"]
 
 SETUP, MOVES = ("AB", "AW", "AE"), ("B", "W")
 

@@ -1,0 +1,90 @@
+"""The command tsumego-book: a book with planted errors."""
+import json
+import subprocess
+import sys
+from pathlib import Path
+from typing import Dict
+
+import data
+import pytest
+
+from tsumego.sgf import trees_of
+
+BOOK = Path(__file__).resolve().parents[2] / "tsumego-book"
+TEXTS: Dict[str, str] = {name: text for name, _, _, text in data.SHAPES}
+# Vital points that books name: the middle of three in a row, the corner of a bent three, White to live and Black to kill.
+THREE, BENT = "fe", "ee"
+
+
+def problem(shape: str, name: str, solution: str) -> str:
+    text = TEXTS[shape]
+    return text.replace("PL[", f"GN[{name}]PL[", 1)[:-1] + solution + ")\n"
+
+
+def without(text: str, stone: str) -> str:
+    assert f"[{stone}]" in text
+    return text.replace(f"[{stone}]", "", 1)
+
+
+@pytest.fixture
+def book(tmp_path: Path) -> Path:
+    path = tmp_path / "book.sgf"
+    path.write_text(
+        problem("centre_straight_three_B", "one", f";B[{THREE}]C[Correct.]")
+        + problem("centre_straight_three_W", "two", f"(;W[ee]C[Wrong.];B[{THREE}])(;W[{THREE}])")
+        + problem("centre_bent_three_B", "the wrong move", ";B[fe]C[Correct.]")
+        + problem("centre_bent_three_W", "the wrong side", f";B[{BENT}]")
+        + problem("centre_straight_three_B", "a line called wrong", f"(;B[{THREE}]C[Wrong.])(;B[ee]C[Correct.])")
+        + problem("centre_straight_three_W", "Is it alive?", "")
+        + problem("centre_straight_three_B", "no solution given", "")
+        + problem("centre_bent_four_W", "needs no move", "")
+    )
+    return path
+
+
+def run(*words: str) -> "subprocess.CompletedProcess[str]":
+    return subprocess.run([sys.executable, "-B", str(BOOK), "--seconds", "40", *words], capture_output=True, text=True, check=False)
+
+
+def test_planted_errors_are_told_and_nothing_else(book: Path, tmp_path: Path) -> None:
+    out = tmp_path / "out"
+    ended = run(str(out), str(book))
+    assert (ended.returncode, ended.stderr) == (1, "")
+    rows = [json.loads(line) for line in (out / "report.json").read_text().splitlines()]
+    assert [row["name"] for row in rows if row["faults"]] == ["the wrong move", "the wrong side", "a line called wrong", "needs no move"]
+    told = {row["name"]: row["faults"] for row in rows}
+    assert told["the wrong move"][0] == "F9: move 1, F9, loses to E9"
+    assert told["the wrong side"] == ["the solution begins with Black, but White is to move"]
+    assert told["a line called wrong"] == ["F9 is called wrong, but Black still wins", "E9: move 1, E9, loses to F9"]
+    assert told["needs no move"] == ["no move is needed: the group lives as it stands"]
+    page = (out / "report.html").read_text()
+    assert page.count("class=fault") == 4 and page.rindex("class=fault") < page.index(f"{book}, problem 1: one")
+    table = [line.split("\t") for line in (out / "report.tsv").read_text().splitlines()]
+    assert len(table) == 9 and {len(row) for row in table} == {9} and table[1][2:5] == ["one", "killed", "F9"]
+    marked = trees_of((out / "marked.sgf").read_text())
+    assert len(marked) == 8 and all(tree.nodes[0].has("TR") and tree.nodes[0].has("SQ") for tree in marked)
+    assert marked[1].variations[0].nodes[0].first("C") == "Wrong."
+
+
+def test_a_further_run_asks_only_what_is_new(book: Path, tmp_path: Path) -> None:
+    out = tmp_path / "out"
+    run(str(out), str(book))
+    before = (out / "answers.json").read_text()
+    assert run(str(out), str(book)).returncode == 1 and (out / "answers.json").read_text() == before
+    book.write_text(book.read_text() + problem("centre_two_B", "new", ";B[ee]"))
+    run(str(out), str(book))
+    assert (out / "answers.json").read_text().count("\n") == before.count("\n") + 1
+    assert len((out / "report.json").read_text().splitlines()) == 9
+
+
+def test_a_folder_of_others_is_left_alone(book: Path, tmp_path: Path) -> None:
+    ended = run(str(tmp_path), str(book))
+    assert ended.returncode == 2 and "names a new folder" in ended.stderr and ended.stdout == ""
+
+
+def test_an_open_wall_is_told(tmp_path: Path) -> None:
+    path = tmp_path / "open.sgf"
+    path.write_text(data.CORNER)
+    ended = run(str(tmp_path / "out"), str(path))
+    assert "the wall is open: is a stone missing at F19 A15," in ended.stdout
+    assert trees_of((tmp_path / "out" / "marked.sgf").read_text())[0].nodes[0].values("AB")[-2:] == ["fa", "ae"]
