@@ -52,3 +52,9 @@ def test_threats_have_room() -> None:
     assert with_attackers_threat(with_attackers_threat(one)) and not with_attackers_threat(with_attackers_threat(with_attackers_threat(one)))
     wall = with_defenders_threat(problem)
     assert wall is None or len(wall.region) == 4
+
+
+def test_a_defender_that_takes_its_own_target() -> None:
+    # White's suicide at A1 ends the game: no ko can follow.
+    answer = tsumego.solve("(;SZ[7]PL[W]AW[ab][ba]AB[ca][bb][ac][cb][bc]TR[ab][ba]SQ[aa])", None, SECONDS)
+    assert answer.verdict.word == "killed" and answer.ko and not answer.ko.decides

@@ -135,7 +135,10 @@ class _TakingBack:
 
     def living(self, problem: Problem, depth: int) -> List[Problem]:
         """The problems after kos in which the defender lives, if there is one for each turn of the attacker that kills; else none."""
-        if problem.to_move == problem.defender:
+        board, to_move = problem.position()
+        if not all(target in board.stones for target in problem.targets):
+            return []
+        if to_move == problem.defender:
             for turn in problem.open_points() if depth and self.clock.left() > 0 else []:
                 found = self.living(problem.after(turn), depth - 1)
                 if found:
@@ -149,8 +152,6 @@ class _TakingBack:
         """If the turn takes a ko and the defender lives by taking back, the problem that says so; else what follows the turn."""
         board, colour = problem.position()
         taken = board.play(colour, turn)
-        if taken & set(problem.targets):
-            return []
         if len(taken) == 1 and board.liberties(turn) == taken and len(board.chain(turn)) == 1:
             node = Node().add("AB", *board.of("B")).add("AW", *board.of("W")).add("PL", problem.defender)
             made = replace(problem, nodes=(node,))

@@ -1,0 +1,66 @@
+"""Many problems at a time: who wins each, as fast as one input through the program."""
+from concurrent.futures import ThreadPoolExecutor
+from typing import Iterable, Iterator, List, Sequence, Tuple, Union
+
+from .answers import REFUSED, Verdict, verdict_of
+from .programs import MAX_BYTES, ProgramError, run
+from .sgf import GameTree, SgfError, read_bytes, to_text, trees_of, write_bytes
+from .solving import JOBS, OUT_OF_TIME, POSITIONS
+
+__all__ = ["verdicts"]
+
+# So many problems share a process.
+BATCH = 50
+Indexed = Tuple[int, bytes]
+
+
+def verdicts(problems: Iterable[Union[str, bytes, GameTree]], seconds: float = 10.0, positions: int = POSITIONS, jobs: int = JOBS) -> List[Verdict]:
+    """Who wins each of many problems that have marks, in their order. Each text is one problem in SGF: a second tree of it isn't read.
+
+    A text that is no problem gets `refused` and hurts no neighbour. `seconds` bounds each problem, `positions` those that df-pn visits,
+    `jobs` the processes side by side. Raises ProgramError where the program isn't there.
+    """
+    found: List[Verdict] = []
+    waiting: List[Indexed] = []
+    for number, problem in enumerate(problems):
+        try:
+            tree = problem if isinstance(problem, GameTree) else trees_of(read_bytes(problem) if isinstance(problem, bytes) else problem)[0]
+            waiting.append((number, write_bytes(to_text(tree)) + b"\n"))
+        except SgfError as fault:
+            waiting += [(number, write_bytes(to_text(fault.trees[0])) + b"\n")] if fault.trees else []
+        found.append(Verdict(REFUSED, None, "1"))
+    with ThreadPoolExecutor(max(1, jobs)) as pool:
+        for rows in pool.map(lambda batch: _asked(batch, seconds, positions), list(_batches(waiting))):
+            for number, verdict in rows:
+                found[number] = verdict
+    return found
+
+
+def _batches(problems: Sequence[Indexed]) -> Iterator[List[Indexed]]:
+    """The problems in lists that an input can hold."""
+    batch: List[Indexed] = []
+    for each in problems:
+        if batch and (len(batch) == BATCH or sum(len(text) for _, text in batch) + len(each[1]) > MAX_BYTES):
+            yield batch
+            batch = []
+        batch.append(each)
+    if batch:
+        yield batch
+
+
+def _asked(batch: List[Indexed], seconds: float, positions: int) -> List[Tuple[int, Verdict]]:
+    """The verdicts of problems by one process. If it ends early, the one that it was at gets a process of its own, and the rest another."""
+    words = ["solve", "--budget", "1", "--dfpn", str(positions)]
+    try:
+        lines = run("tsumego", words, b"".join(text for _, text in batch), seconds if len(batch) == 1 else seconds * 2).text.splitlines()
+    except ProgramError:
+        if len(batch) == 1:
+            raise
+        lines = []
+    found = [(number, verdict_of(line.partition(" ")[2])) for (number, _), line in zip(batch, lines)]
+    rest = batch[len(found) :]
+    if not rest:
+        return found
+    if len(batch) == 1:
+        return [(batch[0][0], OUT_OF_TIME)]
+    return found + _asked(rest[:1], seconds, positions) + (_asked(rest[1:], seconds, positions) if rest[1:] else [])
