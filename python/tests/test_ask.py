@@ -2,8 +2,10 @@
 import json
 import os
 import re
+import signal
 import subprocess
 import sys
+import time
 import xml.dom.minidom
 from pathlib import Path
 from typing import List
@@ -118,3 +120,19 @@ def test_a_page(book: Path, tmp_path: Path) -> None:
     for picture in re.findall("<svg.*?</svg>", page):
         xml.dom.minidom.parseString(picture)
     assert "http" not in page.replace("http://www.w3.org/2000/svg", "")
+
+
+def test_ctrl_c_leaves_what_is_done(tmp_path: Path) -> None:
+    path, out = tmp_path / "book.sgf", tmp_path / "out.sgf"
+    path.write_text(data.CORNER.replace("AB[", "TR[cc]SQ[aa][ba][da][ea][fa][ab][bb][cb][ac][ad]AB[fb][ae][") + next(row[2] for row in data.SUITE if row[0] == "ld103_W"))
+    words = [sys.executable, "-B", str(ASK), "--seconds", "100", str(path), "-o", str(out)]
+    with subprocess.Popen(words, stdout=subprocess.PIPE, stderr=subprocess.PIPE, text=True) as process:
+        assert process.stdout and process.stdout.readline() == f"{path}, problem 1: Corner with a stone on the edge\n"
+        while not out.stat().st_size:
+            time.sleep(0.1)
+        process.send_signal(signal.SIGINT)
+        begun = time.monotonic()
+        _, errors = process.communicate(timeout=60)
+        assert (process.returncode, errors) == (130, "tsumego-ask: stopped; what was written until now stays\n")
+        assert time.monotonic() - begun < 20
+    assert len(trees_of(out.read_text())) == 1

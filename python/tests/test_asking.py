@@ -12,7 +12,7 @@ from tsumego.solution import solution
 
 
 # So that a busy machine settles them too.
-SECONDS = 100
+SECONDS = 30
 
 
 def names(answer: tsumego.Answer) -> List[str]:

@@ -7,8 +7,9 @@ from .ko import ko_of
 from .marking import Marked, Refused, marked
 from .points import PASS
 from .problems import Problem, name_of
+from .programs import in_parallel
 from .sgf import GameTree, SgfError, main_line, read_bytes, trees_of
-from .solving import Clock, in_parallel, strategy, verdict
+from .solving import Clock, strategy, verdict
 
 __all__ = ["SECONDS", "answer", "solve", "with_strategies"]
 
@@ -47,7 +48,7 @@ def answer(tree: GameTree, stone: Optional[str] = None, seconds: float = SECONDS
 def _asked(found: Marked, clock: Clock) -> Answer:
     """The verdicts of each closing with either side to begin, and the first turns of the widest."""
     problems = [problem for _, problem in found.ways]
-    verdicts = in_parallel(verdict, problems, clock)
+    verdicts = in_parallel(lambda problem: verdict(problem, clock), problems)
     others = _others(problems, verdicts, clock)
     closings = tuple(Closing(stones, *each) for (stones, _), each in zip(found.ways, zip(problems, verdicts, others)))
     result = Answer("", verdicts[0], problems[0], (), others[0], closings)
@@ -58,7 +59,8 @@ def _asked(found: Marked, clock: Clock) -> Answer:
 def _others(problems: List[Problem], verdicts: List[Verdict], clock: Clock) -> List[Verdict]:
     """The verdicts where the other side begins. If the side to move loses, it loses too if the other begins: so says its pass."""
     asked = [not each.is_settled or (each.word == LIVES) == (problem.to_move == problem.defender) for problem, each in zip(problems, verdicts)]
-    found = iter(in_parallel(verdict, [problem.with_other_side() for problem, is_asked in zip(problems, asked) if is_asked], clock))
+    others = [problem.with_other_side() for problem, is_asked in zip(problems, asked) if is_asked]
+    found = iter(in_parallel(lambda problem: verdict(problem, clock), others))
     return [next(found) if is_asked else Verdict(each.word) for each, is_asked in zip(verdicts, asked)]
 
 
@@ -69,7 +71,8 @@ def _turns(result: Answer, clock: Clock) -> Tuple[Turn, ...]:
     if not result.verdict.is_settled:
         return ()
     asked = [turn for turn in problem.open_points() if turn != first]
-    found = dict(zip(asked, in_parallel(verdict, [problem.after(turn) for turn in asked], clock)))
+    after = [problem.after(turn) for turn in asked]
+    found = dict(zip(asked, in_parallel(lambda each: verdict(each, clock), after)))
     turns = {turn: _turn(problem, turn, each) for turn, each in found.items() if (each.word, each.detail) != (REFUSED, REPEATS)}
     if first and first != PASS:
         turns[first] = Turn(first, True)
@@ -94,7 +97,8 @@ def with_strategies(result: Answer, seconds: float = SECONDS) -> Answer:
     problem = result.problem
     if problem is None:
         return result
-    known = [each for each in result.turns if each.wins is not None]
-    found = in_parallel(strategy, [problem.after(each.turn) for each in known], Clock(seconds))
+    known, clock = [each for each in result.turns if each.wins is not None], Clock(seconds)
+    after = [problem.after(each.turn) for each in known]
+    found = in_parallel(lambda each: strategy(each, clock), after)
     strategies = {each.turn: then for each, then in zip(known, found)}
     return replace(result, turns=tuple(replace(each, strategy=strategies.get(each.turn)) for each in result.turns))

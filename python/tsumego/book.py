@@ -14,8 +14,8 @@ import hashlib
 import json
 import os
 import sys
-from concurrent.futures import ThreadPoolExecutor
-from typing import Any, Dict, Iterator, List, Optional
+import threading
+from typing import Any, Dict, Iterator, List, Optional, Tuple
 
 from . import __version__
 from .answers import REFUSED, UNSETTLED, Answer, Verdict
@@ -24,10 +24,9 @@ from .asking import SECONDS, answer
 from .checking import faults
 from .inputs import Input, UsageError, read_file
 from .problems import asked_at
-from .programs import ProgramError
+from .programs import JOBS, ProgramError, in_parallel
 from .report import card, page, pictures
 from .sgf import GameTree, Node, main_line, to_text, write_bytes
-from .solving import JOBS
 from .words import as_data, heading, said
 
 __all__ = ["main"]
@@ -89,6 +88,7 @@ class Book:
         self.folder, self.given, self.limit = folder, given, limit
         self.keys = [key_of(each, limit) for each in given]
         self.known: Dict[str, Dict[str, Any]] = {}
+        self.lock = threading.Lock()
         path = os.path.join(folder, KEPT)
         if os.path.exists(path):
             with open(path, encoding="utf-8", errors="surrogateescape") as kept:
@@ -97,18 +97,18 @@ class Book:
     def ask(self, jobs: int) -> None:
         """Asks what isn't known; each answer is kept at once."""
         open_ones = [(key, each) for key, each in zip(self.keys, self.given) if key not in self.known or self.known[key]["verdict"] == UNSETTLED]
-        with open(os.path.join(self.folder, KEPT), "a", encoding="utf-8", errors="surrogateescape") as kept, ThreadPoolExecutor(max(1, jobs)) as pool:
-            rows = pool.map(lambda pair: (pair[0], asked(pair[1], self.limit)), open_ones)
-            try:
-                for count, (key, row) in enumerate(rows, 1):
+        with open(os.path.join(self.folder, KEPT), "a", encoding="utf-8", errors="surrogateescape") as kept:
+
+            def ask(pair: Tuple[str, Input]) -> None:
+                key, row = pair[0], asked(pair[1], self.limit)
+                with self.lock:
                     self.known[key] = row
                     kept.write(json.dumps([key, row]) + "\n")
                     kept.flush()
                     if sys.stderr.isatty():
-                        print(f"\r{count} of {len(open_ones)}", end="", file=sys.stderr)
-            except BaseException:
-                pool.shutdown(wait=False)
-                raise
+                        print(f"\r{sum(key in self.known for key in self.keys)} of {len(self.keys)}", end="", file=sys.stderr)
+
+            in_parallel(ask, open_ones, jobs)
 
     def rows(self) -> Iterator[Dict[str, Any]]:
         """What is known of the problems, in their order."""

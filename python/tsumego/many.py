@@ -1,11 +1,10 @@
 """Many problems at a time: who wins each, as fast as one input through the program."""
-from concurrent.futures import ThreadPoolExecutor
 from typing import Iterable, Iterator, List, Sequence, Tuple, Union
 
 from .answers import REFUSED, Verdict, verdict_of
-from .programs import MAX_BYTES, ProgramError, run
+from .programs import JOBS, MAX_BYTES, ProgramError, in_parallel, run
 from .sgf import GameTree, SgfError, read_bytes, to_text, trees_of, write_bytes
-from .solving import JOBS, OUT_OF_TIME, POSITIONS
+from .solving import OUT_OF_TIME, POSITIONS
 
 __all__ = ["verdicts"]
 
@@ -29,10 +28,9 @@ def verdicts(problems: Iterable[Union[str, bytes, GameTree]], seconds: float = 1
         except SgfError as fault:
             waiting += [(number, write_bytes(to_text(fault.trees[0])) + b"\n")] if fault.trees else []
         found.append(Verdict(REFUSED, None, "1"))
-    with ThreadPoolExecutor(max(1, jobs)) as pool:
-        for rows in pool.map(lambda batch: _asked(batch, seconds, positions), list(_batches(waiting))):
-            for number, verdict in rows:
-                found[number] = verdict
+    for rows in in_parallel(lambda batch: _asked(batch, seconds, positions), _batches(waiting), jobs):
+        for number, verdict in rows:
+            found[number] = verdict
     return found
 
 

@@ -2,16 +2,14 @@
 program names."""
 import itertools
 import re
-from concurrent.futures import ThreadPoolExecutor
 from dataclasses import dataclass, replace
 from typing import List, Optional, Tuple, Union
 
 from .board import OTHER
 from .points import read_point
 from .problems import Problem, asked_at, problem_of
-from .programs import run
+from .programs import in_parallel, run
 from .sgf import GameTree, main_line, to_text, trees_of, write_bytes
-from .solving import JOBS
 
 __all__ = ["Marked", "Refused", "marked"]
 
@@ -114,8 +112,7 @@ def _ways(problem: Problem, stone: str, why: str) -> Tuple[Tuple[Tuple[str, ...]
     points = [read_point(word, problem.columns, problem.rows) for word in words.split()]
     with_wall = {stones: problem.with_stones(colour[0], stones) for stones in itertools.combinations(points, 2 if how_many == "two" else 1)}
     tried = [stones for stones, made in with_wall.items() if _is_near(made, stone)]
-    with ThreadPoolExecutor(JOBS) as pool:
-        found = list(pool.map(lambda stones: _marked_or_why(with_wall[stones], stone), tried))
+    found = in_parallel(lambda stones: _marked_or_why(with_wall[stones], stone), tried)
     ways = [(stones, each) for stones, each in zip(tried, found) if isinstance(each, Problem)]
     return tuple(sorted(ways, key=lambda way: -len(way[1].region)))
 
@@ -148,8 +145,7 @@ def _proposed(problem: Problem) -> Marked:
         return Marked((((), found),), hints)
     except Refused as fault:
         stones = [min(chain) for chain in sorted(problem.position()[0].chains(), key=len, reverse=True)]
-        with ThreadPoolExecutor(JOBS) as pool:
-            said = list(pool.map(lambda stone: _marked_or_why(problem, stone), stones))
+        said = in_parallel(lambda stone: _marked_or_why(problem, stone), stones)
         for stone, found_or_why in zip(stones, said):
             ways = ((((), found_or_why),) if isinstance(found_or_why, Problem) else _ways(problem, stone, found_or_why))
             if ways:

@@ -7,15 +7,21 @@ import functools
 import os
 import shutil
 import subprocess
+from concurrent.futures import ThreadPoolExecutor
 from dataclasses import dataclass
 from pathlib import Path
-from typing import List, Optional
+from typing import Callable, Iterable, List, Optional, Set, TypeVar
 
-__all__ = ["Ended", "MAX_BYTES", "ProgramError", "program", "run"]
+__all__ = ["Ended", "JOBS", "MAX_BYTES", "ProgramError", "in_parallel", "program", "run"]
 
 HOME = Path(__file__).resolve().parents[2]
 # An input may have so many bytes.
 MAX_BYTES = 1_048_576
+JOBS = len(os.sched_getaffinity(0)) if hasattr(os, "sched_getaffinity") else os.cpu_count() or 1
+
+Given = TypeVar("Given")
+Found = TypeVar("Found")
+_running: Set["subprocess.Popen[bytes]"] = set()
 
 
 class ProgramError(RuntimeError):
@@ -53,8 +59,9 @@ def program(name: str) -> str:
 
 def _see_to_it(wrapper: Path) -> None:
     """The wrapper builds the program where it isn't as new as its sources, and says so."""
-    ended = subprocess.run([str(wrapper)], stdin=subprocess.DEVNULL, stdout=subprocess.DEVNULL, check=False)
-    if ended.returncode == 2 and not (wrapper.name == "tsumego"):
+    words = ["score"] if wrapper.name == "tsumego" else []
+    ended = subprocess.run([str(wrapper), *words], stdin=subprocess.DEVNULL, stdout=subprocess.DEVNULL, check=False)
+    if ended.returncode == 2:
         raise ProgramError(f"{wrapper} can't be built or run, for the reason above")
 
 
@@ -68,6 +75,7 @@ def run(name: str, words: List[str], text: bytes, seconds: Optional[float] = Non
         process = subprocess.Popen(command, stdin=subprocess.PIPE, stdout=subprocess.PIPE, stderr=subprocess.PIPE)
     except OSError as fault:
         raise ProgramError(f"{command[0]}: {fault.strerror}") from fault
+    _running.add(process)
     try:
         out, errors = process.communicate(text, timeout=seconds)
         status: Optional[int] = process.returncode
@@ -79,7 +87,24 @@ def run(name: str, words: List[str], text: bytes, seconds: Optional[float] = Non
         process.kill()
         process.wait()
         raise
+    finally:
+        _running.discard(process)
     if status not in (None, 0, 1):
         said = errors.decode("utf-8", "replace").strip().partition("\n")[0]
         raise ProgramError(f"{name} {' '.join(words)}: {said or f'ended by signal {-status}' if status and status < 0 else said}")
     return Ended(out.decode("ascii", "surrogateescape"), errors.decode("utf-8", "replace"), status)
+
+
+def in_parallel(ask: Callable[[Given], Found], given: Iterable[Given], jobs: int = JOBS) -> List[Found]:
+    """What is asked of each, in their order; so many are asked at a time. Ctrl-C ends the programs that run, and begins no other."""
+    with ThreadPoolExecutor(max(1, jobs)) as pool:
+        futures = [pool.submit(ask, each) for each in given]
+        try:
+            return [future.result() for future in futures]
+        except BaseException as fault:
+            for future in futures:
+                future.cancel()
+            if not isinstance(fault, Exception):
+                for process in list(_running):
+                    process.kill()
+            raise

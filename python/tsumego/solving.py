@@ -1,8 +1,6 @@
-"""Asks `tsumego solve`: of one problem, or of many at a time."""
-import os
+"""Asks `tsumego solve` about a problem: who wins, after each first turn too, and by which strategy."""
 import time
-from concurrent.futures import ThreadPoolExecutor
-from typing import Callable, Dict, List, Optional, Sequence, TypeVar
+from typing import Dict, List, Optional
 
 from .answers import UNSETTLED, Verdict, verdict_of
 from .problems import Problem
@@ -10,14 +8,12 @@ from .programs import run
 from .sgf import write_bytes
 from .strategy import Strategy, read_certificate
 
-__all__ = ["Clock", "JOBS", "first_turns", "in_parallel", "strategy", "verdict"]
+__all__ = ["Clock", "OUT_OF_TIME", "POSITIONS", "first_turns", "strategy", "verdict"]
 
-Found = TypeVar("Found")
 OUT_OF_TIME = Verdict(UNSETTLED, None, "time")
 
 # How many positions df-pn may visit at first, and where time is left.
 POSITIONS, MOST_POSITIONS = 2_000_000, 100_000_000
-JOBS = len(os.sched_getaffinity(0)) if hasattr(os, "sched_getaffinity") else os.cpu_count() or 1
 
 
 class Clock:
@@ -60,9 +56,3 @@ def strategy(problem: Problem, clock: Clock) -> Optional[Strategy]:
 def _solve(problem: Problem, clock: Clock, options: List[str]) -> List[str]:
     """The whole lines that `solve` writes for a problem while the clock runs."""
     return run("tsumego", ["solve", "--budget", "1", *options], write_bytes(problem.text()), clock.left()).text.splitlines()
-
-
-def in_parallel(ask: Callable[[Problem, Clock], Found], problems: Sequence[Problem], clock: Clock, jobs: int = JOBS) -> List[Found]:
-    """What is asked of each of many problems, in their order; so many are asked at a time."""
-    with ThreadPoolExecutor(max(1, jobs)) as pool:
-        return list(pool.map(lambda problem: ask(problem, clock), problems))
