@@ -23,10 +23,18 @@ def ask(*words: str, text: str = "") -> "subprocess.CompletedProcess[str]":
     return subprocess.run([sys.executable, "-B", str(ASK), "--seconds", "40", *words], input=text, capture_output=True, text=True, check=False)
 
 
+def shape(name: str) -> str:
+    """A shape, with its name."""
+    return next(row[3] for row in data.SHAPES if row[0] == name).replace("PL[", f"GN[{name}]PL[", 1)
+
+
+THREE, TWO = shape("centre_straight_three_B"), shape("centre_two_W")
+
+
 @pytest.fixture
 def book(tmp_path: Path) -> Path:
     path = tmp_path / "book.sgf"
-    path.write_text(data.CORNER + data.TRIPOD + "(;SZ[7]GN[broken]AB[aa];B[aa]TR[aa])" + data.FIVE)
+    path.write_text(THREE + TWO + "(;SZ[7]GN[broken]AB[aa];B[aa]TR[aa])" + shape("centre_bent_three_W"))
     return path
 
 
@@ -34,7 +42,7 @@ def test_a_problem_in_words(tmp_path: Path) -> None:
     path = tmp_path / "p3.sgf"
     path.write_text(data.CORNER)
     out = tmp_path / "out.sgf"
-    ended = ask(str(path), "D18", "-o", str(out))
+    ended = ask(str(path), "D18", "-o", str(out), "--html", str(tmp_path / "page.html"))
     assert (ended.returncode, ended.stderr) == (0, "")
     lines = ended.stdout.splitlines()
     assert lines[0] == f"{path}: Corner with a stone on the edge"
@@ -50,18 +58,23 @@ def test_a_book_as_json(book: Path, tmp_path: Path) -> None:
     ended = ask(str(book), "--json", "-o", str(out))
     found = [json.loads(line) for line in ended.stdout.splitlines()]
     assert ended.returncode == 1
-    assert [(each["problem"], each["verdict"]) for each in found] == [(1, "killed"), (2, "killed"), (3, "refused"), (4, "killed")]
-    assert found[0]["winning"] == ["A18", "B18", "A17"] and found[0]["file"] == str(book)
-    assert {"turn": "C18", "refutation": "A18"} in found[0]["failing"]
-    assert {"stones": ["F19", "A15"], "verdict": "killed", "if_other_begins": "lives"} in found[0]["closings"]
-    assert "refused" == found[2]["verdict"] and found[2]["name"] == "broken"
+    assert [(each["problem"], each["verdict"]) for each in found] == [(1, "killed"), (2, "killed"), (3, "refused"), (4, "lives")]
+    assert found[0]["winning"] == ["F9"] and found[0]["file"] == str(book) and found[0]["closings"] == []
+    assert found[0]["failing"] == [{"turn": "E9", "refutation": "F9"}, {"turn": "G9", "refutation": "F9"}]
+    assert found[2]["name"] == "broken" and found[2]["why"].startswith("node 2: ")
     assert len(trees_of(out.read_text())) == 4
+
+
+def test_closings_as_json() -> None:
+    found = json.loads(ask("-", "E18", "--json", text=data.FIVE).stdout)
+    assert (found["verdict"], found["winning"]) == ("killed", ["B19", "E19"])
+    assert {"stones": ["E19"], "verdict": "killed", "if_other_begins": "killed"} in found["closings"]
 
 
 def test_standard_input() -> None:
     for words in (["-"], []):
-        ended = ask(*words, text=data.TRIPOD)
-        assert ended.returncode == 0 and ended.stdout.startswith("standard input: The tripod group\n")
+        ended = ask(*words, text=TWO)
+        assert ended.returncode == 0 and ended.stdout.startswith("standard input: centre_two_W\n")
 
 
 def test_refusals_name_file_problem_and_fault(book: Path) -> None:
@@ -72,10 +85,10 @@ def test_refusals_name_file_problem_and_fault(book: Path) -> None:
 
 def test_a_file_that_breaks_off(tmp_path: Path) -> None:
     path = tmp_path / "cut.sgf"
-    path.write_text(data.TRIPOD + "(;SZ[9]AB[aa]")
+    path.write_text(TWO + "\n\n\n(;SZ[9]AB[aa]")
     ended = ask(str(path))
     assert ended.returncode == 1
-    assert f"{path}, problem 1: The tripod group" in ended.stdout
+    assert f"{path}, problem 1: centre_two_W" in ended.stdout
     assert "Refused: line 4: the tree that begins in line 4 isn't closed." in ended.stdout
 
 
@@ -124,10 +137,10 @@ def test_a_page(book: Path, tmp_path: Path) -> None:
 
 def test_ctrl_c_leaves_what_is_done(tmp_path: Path) -> None:
     path, out = tmp_path / "book.sgf", tmp_path / "out.sgf"
-    path.write_text(data.CORNER.replace("AB[", "TR[cc]SQ[aa][ba][da][ea][fa][ab][bb][cb][ac][ad]AB[fb][ae][") + next(row[2] for row in data.SUITE if row[0] == "ld103_W"))
+    path.write_text(THREE + next(row[2] for row in data.SUITE if row[0] == "ld103_W"))
     words = [sys.executable, "-B", str(ASK), "--seconds", "100", str(path), "-o", str(out)]
     with subprocess.Popen(words, stdout=subprocess.PIPE, stderr=subprocess.PIPE, text=True) as process:
-        assert process.stdout and process.stdout.readline() == f"{path}, problem 1: Corner with a stone on the edge\n"
+        assert process.stdout and process.stdout.readline() == f"{path}, problem 1: centre_straight_three_B\n"
         while not out.stat().st_size:
             time.sleep(0.1)
         process.send_signal(signal.SIGINT)

@@ -54,6 +54,23 @@ def test_shapes_without_marks(name: str, verdict: str, marks: str, text: str) ->
     assert sorted(answer.problem.region) == sorted(squares)
 
 
+def edge_stones(text: str) -> List[str]:
+    """The stones of the wall on the board's edge."""
+    last = chr(96 + int(re.search(r"SZ\[(\d+)", text)[1]))
+    black = re.findall(r"\[(..)\]", re.search(r"AB((?:\[..\])+)", text)[1])
+    return [stone for stone in black if stone[0] in "a" + last or stone[1] in "a" + last]
+
+
+WITH_EDGE = [row for row in data.SHAPES if edge_stones(row[3])][::8]
+
+
+@pytest.mark.parametrize("name, verdict, marks, text", WITH_EDGE, ids=[row[0] for row in WITH_EDGE])
+def test_shapes_with_a_hole_in_the_wall(name: str, verdict: str, marks: str, text: str) -> None:
+    answer = tsumego.solve(text.replace(f"[{edge_stones(text)[0]}]", "", 1), marks[3:5], SECONDS)
+    assert answer.verdict.word == verdict and {each.verdict.word for each in answer.closings} == {verdict}
+    assert all(each.stones for each in answer.closings)
+
+
 def test_both_sides_of_a_shape_agree_about_the_other() -> None:
     by_name = {row[0]: tsumego.solve(row[3], None, SECONDS) for row in data.SHAPES if row[0].startswith("side_")}
     for name, answer in by_name.items():
