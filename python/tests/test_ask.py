@@ -135,11 +135,16 @@ def test_a_page(book: Path, tmp_path: Path) -> None:
     assert "http" not in page.replace("http://www.w3.org/2000/svg", "")
 
 
+def _heed_ctrl_c() -> None:
+    """A shell has its jobs in the background ignore Ctrl-C; what they start ignores it too, unless it is told."""
+    signal.signal(signal.SIGINT, signal.SIG_DFL)
+
+
 def test_ctrl_c_leaves_what_is_done(tmp_path: Path) -> None:
     path, out = tmp_path / "book.sgf", tmp_path / "out.sgf"
     path.write_text(THREE + next(row[2] for row in data.SUITE if row[0] == "ld103_W"))
     words = [sys.executable, "-B", str(ASK), "--seconds", "100", str(path), "-o", str(out)]
-    with subprocess.Popen(words, stdout=subprocess.PIPE, stderr=subprocess.PIPE, text=True) as process:
+    with subprocess.Popen(words, stdout=subprocess.PIPE, stderr=subprocess.PIPE, text=True, preexec_fn=_heed_ctrl_c) as process:
         assert process.stdout and process.stdout.readline() == f"{path}, problem 1: centre_straight_three_B\n"
         while not out.stat().st_size:
             time.sleep(0.1)

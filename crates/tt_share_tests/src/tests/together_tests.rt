@@ -374,6 +374,9 @@ fn is_counted<R: Threads + Wait + Sync>(
 fn grants_are_counted(rt: HostRuntime) -> Result<(), Fail> {
     let alloc = rt.alloc();
     let (_, granted) = counted(&rt, alloc, Some(100))?;
+    if granted > 100 {
+        return Err(Fail::new("more grants than the total"));
+    }
     let count = granted as u32;
     let less = count.saturating_sub(1);
     want(count > 0, "no grants")?;
