@@ -14,9 +14,10 @@ use Rattle.tt_board.specs.Near.{IsNeighbour}
 use Rattle.tt_board.specs.Position.{Colouring}
 use Rattle.tt_board.specs.Reach.{entry_at, IsPath, path_end}
 use Rattle.tt_board.specs.Play.{other, play_of}
+use Rattle.tt_game.specs.declared.frame.Side.{Side}
 use Rattle.tt_game.specs.declared.frame.Side.TheVariants.{Attacker, Defender}
 use Rattle.tt_game.specs.declared.frame.Frame.{Frame}
-use Rattle.tt_game.specs.Game.{State, Forces, HasValue, lives, game_length_bound}
+use Rattle.tt_game.specs.Game.{State, winner_of, opponent, Forces, HasValue, lives, game_length_bound}
 use Rattle.tt_game.specs.GameLaws.{IsWellFormedState}
 
 -- a set of points, as the test of what is in it
@@ -74,6 +75,10 @@ pub record AreUnconditionallyAlive (f : Frame) (c : Colouring) (stones : Points)
 abbrev pub IsUnconditionallyAlive : Frame → Colouring → Type 0
 IsUnconditionallyAlive f c = (stones : Points) × AreUnconditionallyAlive f c stones
 
+-- the side has won; or it is the defender, the attacker is to move, and the targets are unconditionally alive
+abbrev pub HasWonOrLives : Side → Frame → State → Type 0
+HasWonOrLives side f s = (winner_of f s ≡ Some side) ⊎ ((side ≡ Defender) × (s.to_move ≡ Attacker) × IsUnconditionallyAlive f s.present)
+
 -- the attacker's play on an empty point of the region leaves them so
 abbrev pub LifeIsKept : Type 0
 LifeIsKept = (f : Frame) (c : Colouring) (stones : Points) (p : ℕ) → AreUnconditionallyAlive f c stones → entry_at c p ≡ None
@@ -86,3 +91,7 @@ LifeIsNeverTaken = (f : Frame) (s : State) (n : ℕ) → IsUnconditionallyAlive 
 -- so the defender does, and the problem lives
 abbrev pub LifeLives : Type 0
 LifeLives = (f : Frame) (s : State) → IsWellFormedState f s → IsUnconditionallyAlive f s.present → HasValue f s lives × Forces f Defender (game_length_bound f) s
+
+-- a side that has won or lives is one over which the other side doesn't force a win
+abbrev pub WonOrLivesIsHeld : Type 0
+WonOrLivesIsHeld = (side : Side) (f : Frame) (s : State) (n : ℕ) → HasWonOrLives side f s → Forces f (opponent side) n s → ⊥

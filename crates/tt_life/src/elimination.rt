@@ -7,11 +7,11 @@ ghost use Rattle.tt_sgf.specs.declared.bits.TheConstants.{BITS};
 ghost use Rattle.tt_board.specs.Position.{Colouring};
 ghost use Rattle.tt_board.specs.Stones.{IsSetOnBoard};
 ghost use Rattle.tt_board.specs.Around.{AreFirstColumn, AreOn};
-ghost use Rattle.tt_life.specs.Life.{IsAliveAmong, IsUnconditionallyAlive};
+ghost use Rattle.tt_life.specs.Life.{HasWonOrLives, IsAliveAmong, IsUnconditionallyAlive};
 ghost use Rattle.tt_life.specs.inside.Linked.{points_in, IsLinkedSet, IsWalled, IsSubset, IsEyeAt, IsGroundOf, IsSoundGround, AreDefenders, AreMostAlive};
 
 use tt_board::{Board, adjacent_points, first_column, reaching};
-use tt_game::{Frame, Line};
+use tt_game::{Frame, Line, Side};
 use tt_sgf::{BITS, Bits, PointSet, Size};
 
 /// The points of a board as the test asks for them: those without a stone of the defender, those without any stone, and of these the
@@ -176,4 +176,14 @@ pub fn has_unconditional_life(line: &Line) -> bool
     ensures { IsTrue result ↔ IsUnconditionallyAlive line.now.frame line.now.state.present }
 {
     is_unconditionally_alive(line.frame(), line.present())
+}
+
+/// Whether the side has won at a line; or it is the defender, the attacker is to move, and the targets are unconditionally alive.
+pub fn has_won_or_lives(side: Side, line: &Line) -> bool
+    ensures { IsTrue result ↔ HasWonOrLives side line.now.frame line.now.state }
+{
+    if line.winner() == Some(side) {
+        return true;
+    }
+    side == Side::Defender && line.to_move() == Side::Attacker && has_unconditional_life(line)
 }

@@ -1,6 +1,6 @@
 //! Laws of unconditional life, each the contract of a function that does nothing.
 
-ghost use Rattle.tt_life.specs.Life.{LifeIsKept, LifeIsNeverTaken, LifeLives};
+ghost use Rattle.tt_life.specs.Life.{LifeIsKept, LifeIsNeverTaken, LifeLives, WonOrLivesIsHeld};
 
 /// Where the attacker plays in the region, stones that are unconditionally alive stay so.
 pub fn life_is_kept()
@@ -19,3 +19,8 @@ pub fn life_lives()
 {
     tt_game::laws::values_are_forced();
 }
+
+/// Where a side has won, or where it is the defender's targets that are unconditionally alive, the other side can't force a win.
+pub fn won_or_lives_is_held()
+    ensures { WonOrLivesIsHeld }
+{}

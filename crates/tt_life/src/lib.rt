@@ -9,4 +9,4 @@
 mod elimination;
 pub mod laws;
 
-pub use elimination::has_unconditional_life;
+pub use elimination::{has_unconditional_life, has_won_or_lives};
