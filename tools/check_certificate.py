@@ -7,7 +7,8 @@ FILE holds a problem in SGF and behind it a certificate, as for `tsumego check`.
 or `refused NUMBER` (status 1); other words are refused with status 2. With --long the input may have more than 1,048,576
 bytes. With --parts the certificate may share parts: `=` in front of a `!` or `?` names the tree that begins there, names are
 counted from 0 in the order in which the named trees end, and `*n` stands for the tree of the name n. Where such a part
-doesn't fit, the answer is `refused 32`.
+doesn't fit, the answer is `refused 32`. Then `.` may also stand where the attacker is to move and the targets of the side, the
+defender, are unconditionally alive.
 
 This file follows docs/FORMATS.md and shares nothing with the program. Whoever has read it need not believe the program.
 """
@@ -203,6 +204,38 @@ class Game:
             return OTHER[self.defender]
         return self.defender if self.passes == 2 else None
 
+    def areas(self, points):
+        """The points as areas of adjacent ones, each with the points beside it."""
+        found, points = [], set(points)
+        while points:
+            area, beside = [points.pop()], set()
+            for point in area:
+                nearby = points.intersection(self.near[point])
+                points -= nearby
+                area.extend(nearby)
+                beside.update(self.near[point])
+            found.append((set(area), beside.difference(area)))
+        return found
+
+    def is_alive(self):
+        """Whether the targets are unconditionally alive. A chain of the defender stays that touches an empty point outside the region
+        or all points of two eyes; the others are left out, till all stay. An eye is an area without stones of the defender that
+        has an empty point, and beside it only stones of chains that stay."""
+        board, outside = self.board, set(range(self.passing)) - self.region
+        own = {point for point in range(self.passing) if board[point] == self.defender}
+        chains, eyes = self.areas(own), self.areas(set(range(self.passing)) - own)
+        eyes = [(eye, walls) for eye, walls in eyes if any(board[point] == EMPTY for point in eye)]
+        while True:
+            eyes = [(eye, walls) for eye, walls in eyes if walls <= own]
+            alive = [
+                (chain, touched)
+                for chain, touched in chains
+                if any(board[point] == EMPTY for point in touched & outside) or sum(eye <= touched for eye, _ in eyes) > 1
+            ]
+            if len(alive) == len(chains):
+                return self.targets <= own
+            chains, own = alive, set().union(*(chain for chain, _ in alive))
+
     def position(self):
         return self.board, self.to_move, self.passes
 
@@ -310,7 +343,7 @@ class Certificate:
         """Reads the tree here: its footprint, or None where it doesn't win, or no play reaches it and it is read only."""
         game = self.game
         if self.next(b"."):
-            return Footprint() if is_reached and game.winner() == self.side else None
+            return Footprint() if is_reached and (game.winner() == self.side or self.ends_at_life()) else None
         if self.has_parts and self.next(b"*"):
             return self.part(level, is_reached)
         if self.has_parts and self.next(b"="):
@@ -336,7 +369,12 @@ class Certificate:
                 found.join(answer)
         return found if wins and not unanswered else None
 
-    # -- Parts
+    # -- Life and parts
+
+    def ends_at_life(self):
+        """Whether the tree may end here though nobody has won: the attacker is to move, and the targets are alive."""
+        game = self.game
+        return self.has_parts and self.side == game.defender != game.to_move and game.is_alive()
 
     def tree_with_name(self, level, is_reached):
         if not self.text.startswith((b"!", b"?"), self.at):
