@@ -11,7 +11,8 @@ use Rattle.tt_game.specs.declared.frame.Frame.{Frame}
 use Rattle.tt_game.specs.declared.turns.Turn.{Turn}
 use Rattle.tt_game.specs.declared.turns.Turn.TheVariants.{Play, Pass}
 use Rattle.tt_proof.specs.Strategy.{Strategy, Entries, done, pick, reply, none, entry, IsInOrder, AreInOrder}
-use Rattle.tt_proof.specs.Wins.{Wins}
+use Rattle.tt_proof.specs.EndRules.{EndRule}
+use Rattle.tt_proof.specs.Wins.{WinsUnder}
 use Rattle.tt_proof.specs.inside.Replaying.{LegalWin, HasEntry}
 use Rattle.tt_proof.specs.Footprints.{IsNeeded, IsNeededBehind, IsAvoided, IsAvoidedBehind, IsMet, IsMetBehind, IsRepeatedByPlay, Fits, path_after_turn, MakesColouring}
 use Rattle.tt_game.specs.laws.Members.{IsIn, in_of_contains, contains_of_in}
@@ -34,7 +35,7 @@ is_in (x ∷ xs) c = elim (decide_same_colouring x c) [
     none_of n k (inl e) = n e
     none_of n k (inr m) = k m
 
-module _ (side : Side) (f : Frame) (h k : List Colouring) where
+module _ (rule : EndRule) (side : Side) (f : Frame) (h k : List Colouring) where
   -- both paths grow by the same colouring
   same_longer : (path : List Colouring) (a b : State) (t : Turn) → Carried h k path a b → path_after_turn f b t path ≡ path_after_turn f a t path
   same_longer path a b Pass r = refl
@@ -83,7 +84,7 @@ module _ (side : Side) (f : Frame) (h k : List Colouring) where
 
   -- the strategy wins, the new history has what it needs, and nothing that it avoids or meets
   record Stands (u : Strategy) (path : List Colouring) (a : State) : Type 0 where
-    wins : Wins side f u a
+    wins : WinsUnder rule side f u a
     order : IsInOrder f.size u
     needs : (c : Colouring) → IsNeeded f h u path a c → Contains k c
     avoids : (c : Colouring) → IsAvoided f u a c → Contains k c → ⊥
@@ -91,7 +92,7 @@ module _ (side : Side) (f : Frame) (h k : List Colouring) where
 
   -- so it is with entries
   record AllStand (es : Entries) (path : List Colouring) (a : State) : Type 0 where
-    wins : LegalWin side f a es
+    wins : LegalWin rule side f a es
     least : ℕ
     order : AreInOrder f.size least es
     needs : (c : Colouring) → IsNeededBehind f h es path a c → Contains k c
@@ -109,7 +110,7 @@ module _ (side : Side) (f : Frame) (h k : List Colouring) where
 
   entries_stand : (es : Entries) (path : List Colouring) (a : State) → Stands (reply es) path a → AllStand es path a
   entries_stand es path a g = record {
-    wins = (reply_wins side f a es g.order (reply_answers side f a es g.wins)).1 g.wins;
+    wins = (reply_wins rule side f a es g.order (reply_answers rule side f a es g.wins)).1 g.wins;
     least = 0;
     order = g.order;
     needs = λ c m. g.needs c (inr m);
@@ -157,7 +158,7 @@ module _ (side : Side) (f : Frame) (h k : List Colouring) where
         )
     same (reply es) path a b c r g =
         let meets : (t : Turn) (x : Colouring) → IsLegal f a t → MakesColouring f a t x → IsMetBehind f es a x =
-        λ t x l m. met_there es a t x ((reply_answers side f a es g.wins).1 t l) l m in
+        λ t x l m. met_there es a t x ((reply_answers rule side f a es g.wins).1 t l) l m in
         let w = same_behind es path a b c r (λ t l. legal_now side f h k path a b t r l (λ x m. g.met x (meets t x l m)))
         (λ t l. legal_before side f h k path a b t r l (λ x m. g.needs x (inl m))) (entries_stand es path a g) in (
           (
@@ -218,12 +219,12 @@ module _ (f : Frame) (c : Colouring) where
     met_new_behind (entry t u es) a (inr m) k = met_new_behind es a m k
 
 -- what a strategy meets is in no history that has only those of it that its own has
-pub footprint_carried : (side : Side) (f : Frame) (u : Strategy) (s s' : State) → Wins side f u s → IsInOrder f.size u → Fits f u s s' →
+pub footprint_carried : (rule : EndRule) (side : Side) (f : Frame) (u : Strategy) (s s' : State) → WinsUnder rule side f u s → IsInOrder f.size u → Fits f u s s' →
     ((c : Colouring) → IsMet f u s c → Contains (history s') c → Contains (history s) c) →
     (c : Colouring)
     → (IsNeeded f (history s) u [] s c ↔ IsNeeded f (history s') u [] s' c) × (IsAvoided f u s c ↔ IsAvoided f u s' c) × (IsMet f u s c ↔ IsMet f u s' c)
-footprint_carried side f u s s' w o fits old c =
-    same side f (history s) (history s') u [] s s' c
+footprint_carried rule side f u s s' w o fits old c =
+    same rule side f (history s) (history s') u [] s s' c
     (record {
       present = fits.present;
       to_move = fits.to_move;

@@ -10,7 +10,9 @@ use Rattle.tt_game.specs.declared.frame.Frame.{Frame}
 use Rattle.tt_game.specs.declared.turns.Turn.{Turn}
 use Rattle.tt_game.specs.declared.turns.Turn.TheVariants.{Play, Pass}
 use Rattle.tt_proof.specs.Strategy.{Strategy, Entries, done, pick, reply, none, entry}
-use Rattle.tt_proof.specs.Wins.{Wins, WinsBehind}
+use Rattle.tt_life.specs.Life.{IsUnconditionallyAlive}
+use Rattle.tt_proof.specs.EndRules.{EndRule, at_win, at_win_or_life, MayEnd}
+use Rattle.tt_proof.specs.Wins.{WinsUnder, WinsBehindUnder}
 use Rattle.tt_proof.specs.Footprints.{IsNeeded, IsNeededBehind, IsAvoided, IsAvoidedBehind, IsRepeatedByPlay, Fits, path_after_turn, MakesColouring}
 use Rattle.tt_game.specs.laws.Members.{in_of_contains}
 
@@ -104,42 +106,52 @@ module _ (side : Side) (f : Frame) (h k : List Colouring) where
       pass (inr m) = now_not (r.now.new _ m)
       pass (inl m) = now_not (r.now.old _ (n _ ((p, l.1, free, l.3, refl), m, λ w. now_not (r.now.new _ w))))
 
+module _ (rule : EndRule) (side : Side) (f : Frame) (h k : List Colouring) where
+  -- a strategy may end at both or at neither
+  pub same_end : (path : List Colouring) (a b : State) → Carried h k path a b → MayEnd rule side f a → MayEnd rule side f b
+  same_end path a b r w = by rule w
+    where
+      by : (x : EndRule) → MayEnd x side f a → MayEnd x side f b
+      by at_win won = same_winner side f h k path a b r ∙ won
+      by at_win_or_life (inl won) = inl (same_winner side f h k path a b r ∙ won)
+      by at_win_or_life (inr lives) = inr (lives.0, r.to_move ∙ lives.1, subst (λ c. IsUnconditionallyAlive f c) (sym r.present) lives.2)
+
   mutual
-    moved : (u : Strategy) (path : List Colouring) (a b : State) → Carried h k path a b → Wins side f u a →
+    moved : (u : Strategy) (path : List Colouring) (a b : State) → Carried h k path a b → WinsUnder rule side f u a →
         ((c : Colouring) → IsNeeded f h u path a c → Contains k c) → ((c : Colouring) → IsAvoided f u a c → Contains k c → ⊥) →
-        Wins side f u b
-    moved done path a b r w n v = same_winner path a b r ∙ w
+        WinsUnder rule side f u b
+    moved done path a b r w n v = same_end path a b r w
     moved (pick t u) path a b r w n v = (
-      same_winner path a b r ∙ w.0,
+      same_winner side f h k path a b r ∙ w.0,
       r.to_move ∙ w.1,
-      legal_now path a b t r w.2 (λ c m. v c (w.2, inl m)),
-      moved u (path_after_turn f a t path) (after f a t) (after f b t) (carried_after path a b t r) w.3 (λ c m. n c (w.2, m)) (λ c m. v c (w.2, inr m)),
+      legal_now side f h k path a b t r w.2 (λ c m. v c (w.2, inl m)),
+      moved u (path_after_turn f a t path) (after f a t) (after f b t) (carried_after side f h k path a b t r) w.3 (λ c m. n c (w.2, m)) (λ c m. v c (w.2, inr m)),
     )
     moved (reply es) path a b r w n v = (
-      same_winner path a b r ∙ w.0,
+      same_winner side f h k path a b r ∙ w.0,
       r.to_move ∙ w.1,
-      λ t l. let l' = legal_before path a b t r l (λ c m. n c (inl m)) in
+      λ t l. let l' = legal_before side f h k path a b t r l (λ c m. n c (inl m)) in
           moved_behind es t path a b r l' (w.2 t l') (λ c m. n c (inr m)) v,
     )
 
     moved_behind : (es : Entries) (t : Turn) (path : List Colouring) (a b : State) → Carried h k path a b → IsLegal f a t →
-        WinsBehind side f es t a → ((c : Colouring) → IsNeededBehind f h es path a c → Contains k c) →
-        ((c : Colouring) → IsAvoidedBehind f es a c → Contains k c → ⊥) → WinsBehind side f es t b
+        WinsBehindUnder rule side f es t a → ((c : Colouring) → IsNeededBehind f h es path a c → Contains k c) →
+        ((c : Colouring) → IsAvoidedBehind f es a c → Contains k c → ⊥) → WinsBehindUnder rule side f es t b
     moved_behind none t path a b r l w n v = w
     moved_behind (entry t' u es) t path a b r l (inl w) n v =
         let l' = subst (λ x. IsLegal f a x) (sym w.0) l in
         inl (
           w.0,
-          subst (λ x. Wins side f u (after f b x)) w.0
-              (moved u (path_after_turn f a t' path) (after f a t') (after f b t') (carried_after path a b t' r)
-              (subst (λ x. Wins side f u (after f a x)) (sym w.0) w.1) (λ c m. n c (inl (l', m))) (λ c m. v c (inl (l', m)))),
+          subst (λ x. WinsUnder rule side f u (after f b x)) w.0
+              (moved u (path_after_turn f a t' path) (after f a t') (after f b t') (carried_after side f h k path a b t' r)
+              (subst (λ x. WinsUnder rule side f u (after f a x)) (sym w.0) w.1) (λ c m. n c (inl (l', m))) (λ c m. v c (inl (l', m)))),
         )
     moved_behind (entry t' u es) t path a b r l (inr w) n v =
         inr (moved_behind es t path a b r l w (λ c m. n c (inr m)) (λ c m. v c (inr m)))
 
-pub fitting_wins : (side : Side) (f : Frame) (u : Strategy) (s s' : State) → Wins side f u s → Fits f u s s' → Wins side f u s'
-fitting_wins side f u s s' w fits =
-    moved side f (history s) (history s') u [] s s'
+pub fitting_wins : (rule : EndRule) (side : Side) (f : Frame) (u : Strategy) (s s' : State) → WinsUnder rule side f u s → Fits f u s s' → WinsUnder rule side f u s'
+fitting_wins rule side f u s s' w fits =
+    moved rule side f (history s) (history s') u [] s s'
     (record {
       present = fits.present;
       to_move = fits.to_move;

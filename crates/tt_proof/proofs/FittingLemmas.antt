@@ -8,7 +8,8 @@ use Rattle.tt_game.specs.laws.Members.{IsIn}
 use Rattle.tt_game.specs.declared.frame.Frame.{Frame}
 use Rattle.tt_proof.specs.declared.footprints.Footprint.{Footprint}
 use Rattle.tt_proof.specs.Strategy.{Strategy}
-use Rattle.tt_proof.specs.ProofClaim.{ProofClaim, IsWinningTree, StandsAt}
+use Rattle.tt_proof.specs.EndRules.{EndRule}
+use Rattle.tt_proof.specs.ProofClaim.{ProofClaim, IsWinningTreeUnder, StandsAt}
 use Rattle.tt_proof.specs.Footprints.{FitsAt}
 use Rattle.tt_proof.specs.KeptFootprints.{IsFootprint, HaveFrameSize, board_of_colouring}
 use Rattle.tt_proof.proofs.FootprintLemmas.{board_is}
@@ -57,7 +58,7 @@ module _ (p : ProofClaim) (f : Frame) (s : State) (x : Footprint) (foot : IsFoot
   fits_avoids h b m k = h.1.avoids b.points ((foot.avoided b.points).0 (held x.avoids b foot.avoids_sized m)) k.1
 
 -- a proof wins where it fits
-pub won_where_fits : (p : ProofClaim) (f : Frame) (s : State) → IsWinningTree p.side p.frame p.state p.tree → FitsAt p f s → IsWinningTree p.side f s p.tree
-won_where_fits p f s w h =
-    subst (λ y. IsWinningTree p.side y s p.tree) h.0
-    (record { wins = fitting_wins p.side p.frame p.tree p.state s w.wins h.1; shallow = w.shallow; in_order = w.in_order })
+pub won_where_fits : (rule : EndRule) (p : ProofClaim) (f : Frame) (s : State) → IsWinningTreeUnder rule p.side p.frame p.state p.tree → FitsAt p f s → IsWinningTreeUnder rule p.side f s p.tree
+won_where_fits rule p f s w h =
+    subst (λ y. IsWinningTreeUnder rule p.side y s p.tree) h.0
+    (record { wins = fitting_wins rule p.side p.frame p.tree p.state s w.wins h.1; shallow = w.shallow; in_order = w.in_order })

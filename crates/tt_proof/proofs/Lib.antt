@@ -1,6 +1,7 @@
 pub mod TextLemmas
 pub mod EntryLemmas
 pub mod ForcesLemmas
+pub mod HoldsLemmas
 pub mod FitsLemmas
 pub mod FittingLemmas
 pub mod BoundLemmas

@@ -15,13 +15,14 @@ use Rattle.tt_proof.specs.Strategy.{Strategy, Entries, done, pick, reply, none, 
 use Rattle.tt_proof.specs.Outlines.{Outline, Branches, ended, picked, replied, part, no_branch, branch, unfolded, unfolded_entries, with_named_tree, named_trees_after, named_trees_after_branches, IsOutlineInOrder, AreBranchesInOrder}
 use Rattle.tt_proof.specs.Footprints.{IsRepeatedByPlay}
 use Rattle.tt_proof.specs.KeptFootprints.{board_of_colouring}
-use Rattle.tt_proof.specs.Wins.{Wins, WinsBehind}
+use Rattle.tt_proof.specs.EndRules.{at_win_or_life}
+use Rattle.tt_proof.specs.Wins.{WinsOrLives, WinsBehindUnder}
 use Rattle.tt_proof.specs.inside.Replaying.{HasEntry}
 use Rattle.tt_proof.specs.SharedParts.{FootprintFits, RestsOnPositionAlone, RestsOnRepeats, MakesBoard, RestsBeforePick, RestsBeforeOpposingTurn, RestsOnBoth, CombinesTo, IsResultBeforeTurn, HasBranch}
 use Rattle.tt_proof.specs.SharedParts.{NamedFootprints, kept_footprint, wins_if_fit, with_named_footprint, with_unreached_names, with_unreached_branch_names, IsResultOfDone, IsResultOfPart, IsResultOfReply}
 use Rattle.tt_proof.specs.SharedParts.{IsReplayOfOutline, IsReplayOfBranches}
 use Rattle.tt_proof.specs.inside.OutlineReplaying.{FindsPick, FindsReply, FindsBranch}
-use Rattle.tt_proof.proofs.FitsLemmas.{Carried, same_made, same_winner, legal_now, legal_before}
+use Rattle.tt_proof.proofs.FitsLemmas.{Carried, same_made, same_winner, same_end, legal_now, legal_before}
 use Rattle.tt_proof.proofs.FootprintLemmas.{none_held}
 use Rattle.tt_proof.proofs.OutlineReplayLemmas.{legal_nobody, met_empty, met_carried, only, some_none}
 use Rattle.tt_proof.proofs.WinsLemmas.{has_behind}
@@ -34,25 +35,25 @@ HasTree (entry t' u' es) t u = ((t' ≡ t) × (u' ≡ u)) ⊎ HasTree es t u
 module _ (side : Side) (f : Frame) where
   -- the tree wins wherever the basis is met
   abbrev pub WinsOn : Strategy → PositionFootprint → Type 0
-  WinsOn u x = (s : State) → FootprintFits f x s → Wins side f u s
+  WinsOn u x = (s : State) → FootprintFits f x s → WinsOrLives side f u s
 
   -- the tree wins on a basis that is met here, or doesn't win; of one with a part that doesn't fit nothing is said
   abbrev pub IsSound : State → Strategy → ReplayResult → Type 0
   IsSound s u (Won x) = FootprintFits f x s × WinsOn u x
-  IsSound s u Lost = Wins side f u s → ⊥
+  IsSound s u Lost = WinsOrLives side f u s → ⊥
   IsSound s u Unfit = Unit {0}
 
   -- the same of the tree behind a turn, in front of it
   abbrev pub IsSoundBehind : State → Turn → Strategy → ReplayResult → Type 0
-  IsSoundBehind s t u (Won x) = FootprintFits f x s × ((s' : State) → FootprintFits f x s' → IsLegal f s t → Wins side f u (after f s' t))
-  IsSoundBehind s t u Lost = IsLegal f s t × (Wins side f u (after f s t) → ⊥)
+  IsSoundBehind s t u (Won x) = FootprintFits f x s × ((s' : State) → FootprintFits f x s' → IsLegal f s t → WinsOrLives side f u (after f s' t))
+  IsSoundBehind s t u Lost = IsLegal f s t × (WinsOrLives side f u (after f s t) → ⊥)
   IsSoundBehind s t u Unfit = Unit {0}
 
   -- the same of all entries together
   abbrev pub AreSound : State → Entries → ReplayResult → Type 0
   AreSound s es (Won x) =
-      FootprintFits f x s × ((s' : State) → FootprintFits f x s' → (t : Turn) (u : Strategy) → HasTree es t u → IsLegal f s t → Wins side f u (after f s' t))
-  AreSound s es Lost = (t : Turn) × ((u : Strategy) × (HasTree es t u × IsLegal f s t × (Wins side f u (after f s t) → ⊥)))
+      FootprintFits f x s × ((s' : State) → FootprintFits f x s' → (t : Turn) (u : Strategy) → HasTree es t u → IsLegal f s t → WinsOrLives side f u (after f s' t))
+  AreSound s es Lost = (t : Turn) × ((u : Strategy) × (HasTree es t u × IsLegal f s t × (WinsOrLives side f u (after f s t) → ⊥)))
   AreSound s es Unfit = Unit {0}
 
   -- and of what plays would repeat
@@ -148,7 +149,7 @@ sound_pick side f s t u x y mine l h more = (here, there)
         avoid b (inl a) = avoids_before f s x t h.0 b a
         avoid b (inr e) = not_made f s t b l e
 
-    there : (s' : State) → FootprintFits f y s' → Wins side f (pick t u) s'
+    there : (s' : State) → FootprintFits f y s' → WinsOrLives side f (pick t u) s'
     there s' m =
         let r = met_carried f y s s' here m in
         let w = same_winner side f (history s) (history s') [] s s' r in (
@@ -176,7 +177,7 @@ sound_branch side f s t u x y l h more = (here, there)
       avoids = λ b a. avoids_before f s x t h.0 b (back b a);
     }
 
-    there : (s' : State) → FootprintFits f y s' → IsLegal f s t → Wins side f u (after f s' t)
+    there : (s' : State) → FootprintFits f y s' → IsLegal f s t → WinsOrLives side f u (after f s' t)
     there s' m k =
         h.1 (after f s' t)
         (met_behind f s x t l h.0 s' (met_carried f y s s' here m) (λ b n. m.needs b ((more.needs b).1 n))
@@ -242,11 +243,11 @@ module _ (side : Side) (f : Frame) (s : State) (t : Turn) (u : Strategy) (es : E
     λ s' m v w k. pass s' m v w k,
   )
     where
-      pass : (s' : State) → FootprintFits f e.0 s' → (v : Turn) (w : Strategy) → HasTree (entry t u es) v w → IsLegal f s v → Wins side f w (after f s' v)
+      pass : (s' : State) → FootprintFits f e.0 s' → (v : Turn) (w : Strategy) → HasTree (entry t u es) v w → IsLegal f s v → WinsOrLives side f w (after f s' v)
       pass s' m v w (inr k) l = h.1 s' (joined_second f s s' x y e.0 e.1.1 g.0 h.0 m) v w k l
       pass s' m v w (inl k) l =
-          subst (λ z. Wins side f z (after f s' v)) k.1
-          (subst (λ z. Wins side f u (after f s' z)) k.0
+          subst (λ z. WinsOrLives side f z (after f s' v)) k.1
+          (subst (λ z. WinsOrLives side f u (after f s' z)) k.0
           (g.1 s' (joined_first f s s' x y e.0 e.1.1 g.0 h.0 m) (subst (λ z. IsLegal f s z) (sym k.0) l)))
 
 -- what a reply rests on by itself
@@ -270,7 +271,7 @@ sound_together side f s es x (Won y) r a h e = rw e.1.0 (
 
 module _ (side : Side) (f : Frame) where
   -- where each tree of the turn wins, a turn that has an entry has one that wins
-  some_wins : (es : Entries) (t : Turn) (s : State) → ((u : Strategy) → HasTree es t u → Wins side f u (after f s t)) → HasEntry es t → WinsBehind side f es t s
+  some_wins : (es : Entries) (t : Turn) (s : State) → ((u : Strategy) → HasTree es t u → WinsOrLives side f u (after f s t)) → HasEntry es t → WinsBehindUnder at_win_or_life side f es t s
   some_wins none t s w h = h
   some_wins (entry t' u es) t s w (inl e) = inl (e, w u (inl (e, refl)))
   some_wins (entry t' u es) t s w (inr h) = inr (some_wins es t s (λ v k. w v (inr k)) h)
@@ -294,7 +295,7 @@ module _ (side : Side) (f : Frame) where
   least_tree us least (branch t' c bs) t u o (inr h) =
       let past = least_tree (named_trees_after us c) (turn_number_on_size f.size t' + 1) bs t u o.3 h in omega (arith, o.0, past)
 
-  least_entry : (us : List Strategy) (least : ℕ) (bs : Branches) (t : Turn) (s : State) → AreBranchesInOrder f.size least bs → WinsBehind side f (unfolded_entries us bs) t s
+  least_entry : (us : List Strategy) (least : ℕ) (bs : Branches) (t : Turn) (s : State) → AreBranchesInOrder f.size least bs → WinsBehindUnder at_win_or_life side f (unfolded_entries us bs) t s
       → least ≤ turn_number_on_size f.size t
   least_entry us least no_branch t s o h = absurd h
   least_entry us least (branch t' c bs) t s o (inl e) = let same = ap (turn_number_on_size f.size) e.0 in omega (arith, o.0, same)
@@ -302,9 +303,9 @@ module _ (side : Side) (f : Frame) where
       let past = least_entry (named_trees_after us c) (turn_number_on_size f.size t' + 1) bs t s o.3 h in omega (arith, o.0, past)
 
   only_one : (us : List Strategy) (least : ℕ) (bs : Branches) (t : Turn) (u : Strategy) (s : State) → AreBranchesInOrder f.size least bs
-      → HasTree (unfolded_entries us bs) t u → WinsBehind side f (unfolded_entries us bs) t s → Wins side f u (after f s t)
+      → HasTree (unfolded_entries us bs) t u → WinsBehindUnder at_win_or_life side f (unfolded_entries us bs) t s → WinsOrLives side f u (after f s t)
   only_one us least no_branch t u s o h w = absurd h
-  only_one us least (branch t' c bs) t u s o (inl e) (inl w) = subst (λ z. Wins side f z (after f s t)) e.1 w.1
+  only_one us least (branch t' c bs) t u s o (inl e) (inl w) = subst (λ z. WinsOrLives side f z (after f s t)) e.1 w.1
   only_one us least (branch t' c bs) t u s o (inl e) (inr w) =
       let past = least_entry (named_trees_after us c) (turn_number_on_size f.size t' + 1) bs t s o.3 w in
       let same = ap (turn_number_on_size f.size) e.0 in absurd (omega (arith, past, same))
@@ -320,10 +321,10 @@ module _ (side : Side) (f : Frame) where
       subst (IsSound side f s (reply (unfolded_entries us bs))) (sym e)
       (λ w. h.0.1.1.2 (only_one us 0 bs h.0.0 h.0.1.0 s o h.0.1.1.0 (w.2 h.0.0 h.0.1.1.1)))
   sound_reply s us bs (Won x) Unfit nobody turn o h e = tt
-  sound_reply s us bs (Won x) Lost nobody turn o h not = λ w. not (λ t l. branch_of_entry us bs t (has_behind side f s (unfolded_entries us bs) t (w.2 t l)))
+  sound_reply s us bs (Won x) Lost nobody turn o h not = λ w. not (λ t l. branch_of_entry us bs t (has_behind at_win_or_life side f s (unfolded_entries us bs) t (w.2 t l)))
   sound_reply s us bs (Won x) (Won y) nobody turn o h e = rw (← e.0) (h.0.0, there)
     where
-      there : (s' : State) → FootprintFits f x s' → Wins side f (reply (unfolded_entries us bs)) s'
+      there : (s' : State) → FootprintFits f x s' → WinsOrLives side f (reply (unfolded_entries us bs)) s'
       there s' m =
           let r = met_carried f x s s' h.0.0 m in (
             same_winner side f (history s) (history s') [] s s' r ∙ nobody,
@@ -390,7 +391,7 @@ module _ (side : Side) (f : Frame) where
 
   at_end : (s : State) (r : ReplayResult) → IsResultOfDone side f s r → IsSound side f s done r
   at_end s (Won x) h =
-      let here = met_empty f s x h.1 in (here, λ s' m. same_winner side f (history s) (history s') [] s s' (met_carried f x s s' here m) ∙ h.0)
+      let here = met_empty f s x h.1 in (here, λ s' m. same_end at_win_or_life side f (history s) (history s') [] s s' (met_carried f x s s' here m) h.0)
   at_end s Lost h = h
   at_end s Unfit h = tt
 
@@ -466,11 +467,11 @@ module _ (side : Side) (f : Frame) where
 
 -- the answer says whether the tree wins
 pub answer_sound : (side : Side) (f : Frame) (o : Outline) (s : State) (r : ReplayResult) (ms : NamedFootprints) → IsOutlineInOrder f.size o → IsReplayOfOutline side f [] o s r ms
-    → IfSome (wins_if_fit r) (λ wins. IsTrue wins ↔ Wins side f (unfolded [] o) s)
+    → IfSome (wins_if_fit r) (λ wins. IsTrue wins ↔ WinsOrLives side f (unfolded [] o) s)
 answer_sound side f o s r ms ordered h = pass r (sound side f [] [] o s r ms ordered tt h).0
   where
     pass : (q : ReplayResult) → IsSound side f s (unfolded [] o) q
-        → IfSome (wins_if_fit q) (λ wins. IsTrue wins ↔ Wins side f (unfolded [] o) s)
+        → IfSome (wins_if_fit q) (λ wins. IsTrue wins ↔ WinsOrLives side f (unfolded [] o) s)
     pass (Won x) k = (λ e. k.1 s k.0, λ w. refl)
     pass Lost k = (λ e. absurd (true≢false (sym e)), λ w. absurd (k w))
     pass Unfit k = tt

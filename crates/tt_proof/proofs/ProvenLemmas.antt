@@ -1,5 +1,5 @@
 -- The trees that the constructors make win.
-use Rattle.std.proofs.Common.{◌≡◌, ◌≤◌, ◌↔◌, ◌+◌, ◌++◌, ℕ, inl, inr, arith, Some, None, List, [], ◌∷◌, Contains, refl, sym, ap, subst}
+use Rattle.std.proofs.Common.{◌≡◌, ◌≤◌, ◌↔◌, ◌+◌, ◌++◌, ℕ, inl, inr, arith, None, List, [], ◌∷◌, Contains, refl, sym, ap, subst}
 use Rattle.tt_game.specs.Turns.{legal_turns}
 use Rattle.tt_game.specs.laws.TurnLaws.{RisesFrom, contains-legal_turns, legal_turn_is_on_board, legal_turns_rise_from_0}
 use Rattle.tt_game.specs.Game.{State, IsLegal, after, winner_of, opponent}
@@ -9,15 +9,16 @@ use Rattle.tt_game.specs.declared.frame.Frame.{Frame}
 use Rattle.tt_game.specs.declared.turns.Turn.{Turn}
 use Rattle.tt_game.specs.declared.turns.Turn.TheVariants.{Play, Pass}
 use Rattle.tt_proof.specs.declared.tree.TheConstants.{MOST_DEPTH}
-use Rattle.tt_proof.specs.ProofClaim.{ProofClaim, IsWinningTree, IsChild, AreReplyChildren, turns_of, trees_by_turn}
+use Rattle.tt_proof.specs.EndRules.{EndRule, MayEnd}
+use Rattle.tt_proof.specs.ProofClaim.{ProofClaim, IsWinningTreeUnder, IsChild, AreReplyChildren, turns_of, trees_by_turn}
 use Rattle.tt_proof.specs.inside.Replaying.{HasEntry, LegalWin}
 use Rattle.tt_proof.specs.Strategy.{done, pick, reply, entries_of, depth_of_entries, AreInOrder, turn_number_on_size}
 use Rattle.tt_proof.proofs.WinsLemmas.{reply_wins}
 use Rattle.tt_game.specs.laws.Members.{IsIn, in_of_contains}
 
 -- where the side has won, playing nothing more wins
-pub won_done : (side : Side) (f f' : Frame) (s s' : State) → f' ≡ f → s' ≡ s → winner_of f s ≡ Some side → IsWinningTree side f' s' done
-won_done side f f' s s' same_f same_s e =
+pub won_done : (rule : EndRule) (side : Side) (f f' : Frame) (s s' : State) → f' ≡ f → s' ≡ s → MayEnd rule side f s → IsWinningTreeUnder rule side f' s' done
+won_done rule side f f' s s' same_f same_s e =
     rw (same_f, same_s) record { wins = e; shallow = omega arith; in_order = tt }
 
 -- where a turn is legal, nobody has won
@@ -26,17 +27,17 @@ legal_nobody f s (Play p) l = l.0
 legal_nobody f s Pass l = l
 
 -- a child's tree that is won wins for the side after the turn
-child_won : (f : Frame) (s : State) (side : Side) (t : Turn) (p : ProofClaim) → IsChild f s side t p →
-    IsWinningTree p.side p.frame p.state p.tree → IsWinningTree side f (after f s t) p.tree
-child_won f s side t p h w =
-    subst (λ x. IsWinningTree side f x p.tree) h.stands.1
-    (subst (λ x. IsWinningTree side x p.state p.tree) h.stands.0 (subst (λ x. IsWinningTree x p.frame p.state p.tree) h.same_side w))
+child_won : (rule : EndRule) (f : Frame) (s : State) (side : Side) (t : Turn) (p : ProofClaim) → IsChild f s side t p →
+    IsWinningTreeUnder rule p.side p.frame p.state p.tree → IsWinningTreeUnder rule side f (after f s t) p.tree
+child_won rule f s side t p h w =
+    subst (λ x. IsWinningTreeUnder rule side f x p.tree) h.stands.1
+    (subst (λ x. IsWinningTreeUnder rule side x p.state p.tree) h.stands.0 (subst (λ x. IsWinningTreeUnder rule x p.frame p.state p.tree) h.same_side w))
 
 -- a legal turn and then its child's tree win for the side to move
-pub won_pick : (f f' : Frame) (s s' : State) (t : Turn) (p : ProofClaim) → f' ≡ f → s' ≡ s →
-    IsLegal f s t → IsChild f s s.to_move t p → IsWinningTree p.side p.frame p.state p.tree → IsWinningTree p.side f' s' (pick t p.tree)
-won_pick f f' s s' t p same_f same_s l h w =
-    let c = child_won f s s.to_move t p h w in
+pub won_pick : (rule : EndRule) (f f' : Frame) (s s' : State) (t : Turn) (p : ProofClaim) → f' ≡ f → s' ≡ s →
+    IsLegal f s t → IsChild f s s.to_move t p → IsWinningTreeUnder rule p.side p.frame p.state p.tree → IsWinningTreeUnder rule p.side f' s' (pick t p.tree)
+won_pick rule f f' s s' t p same_f same_s l h w =
+    let c = child_won rule f s s.to_move t p h w in
     let low = h.shallow in
     rw (same_f, same_s, h.same_side)
     record {
@@ -51,16 +52,16 @@ opponent_twice Attacker = refl
 opponent_twice Defender = refl
 
 -- each child's tree wins for its side from its own state
-abbrev pub AllWon : List (Turn × ProofClaim) → Type 0
-AllWon [] = Unit {0}
-AllWon (e ∷ es) = IsWinningTree e.1.side e.1.frame e.1.state e.1.tree × AllWon es
+abbrev pub AllWon : EndRule → List (Turn × ProofClaim) → Type 0
+AllWon rule [] = Unit {0}
+AllWon rule (e ∷ es) = IsWinningTreeUnder rule e.1.side e.1.frame e.1.state e.1.tree × AllWon rule es
 
-module _ (f : Frame) (s : State) where
+module _ (rule : EndRule) (f : Frame) (s : State) where
   -- each child's tree that is won wins after its turn
-  children_win : (es : List (Turn × ProofClaim)) → AreReplyChildren f s es → AllWon es →
-      LegalWin (opponent s.to_move) f s (entries_of (trees_by_turn es))
+  children_win : (es : List (Turn × ProofClaim)) → AreReplyChildren f s es → AllWon rule es →
+      LegalWin rule (opponent s.to_move) f s (entries_of (trees_by_turn es))
   children_win [] h w = tt
-  children_win (e ∷ es) h w = (λ l. (child_won f s (opponent s.to_move) e.0 e.1 h.0 w.0).wins, children_win es h.1 w.1)
+  children_win (e ∷ es) h w = (λ l. (child_won rule f s (opponent s.to_move) e.0 e.1 h.0 w.0).wins, children_win es h.1 w.1)
 
   -- replies with children's trees are at most `MOST_DEPTH` deep
   children_low : (es : List (Turn × ProofClaim)) → AreReplyChildren f s es → depth_of_entries (entries_of (trees_by_turn es)) ≤ MOST_DEPTH
@@ -68,13 +69,13 @@ module _ (f : Frame) (s : State) where
   children_low (e ∷ es) h = let low = h.0.shallow in omega (arith, low, children_low es h.1)
 
   -- they are in order where the turns lie on the board and rise
-  children_in_order : (least : ℕ) (es : List (Turn × ProofClaim)) → AreReplyChildren f s es → AllWon es →
+  children_in_order : (least : ℕ) (es : List (Turn × ProofClaim)) → AreReplyChildren f s es → AllWon rule es →
       RisesFrom f.size least (turns_of es) → AreInOrder f.size least (entries_of (trees_by_turn es))
   children_in_order least [] h w r = tt
   children_in_order least (e ∷ es) h w r = (
     r.0,
     r.1,
-    (child_won f s (opponent s.to_move) e.0 e.1 h.0 w.0).in_order,
+    (child_won rule f s (opponent s.to_move) e.0 e.1 h.0 w.0).in_order,
     children_in_order (turn_number_on_size f.size e.0 + 1) es h.1 w.1 r.2,
   )
 
@@ -86,8 +87,8 @@ module _ (f : Frame) (s : State) where
 
   -- a reply with a won child for each legal turn wins for the side that is not to move
   pub won_reply : (f' : Frame) (s' : State) (side : Side) (es : List (Turn × ProofClaim)) → f' ≡ f → s' ≡ s →
-      side ≡ opponent s.to_move → winner_of f s ≡ None → turns_of es ≡ legal_turns f s → AreReplyChildren f s es → AllWon es →
-      IsWinningTree side f' s' (reply (entries_of (trees_by_turn es)))
+      side ≡ opponent s.to_move → winner_of f s ≡ None → turns_of es ≡ legal_turns f s → AreReplyChildren f s es → AllWon rule es →
+      IsWinningTreeUnder rule side f' s' (reply (entries_of (trees_by_turn es)))
   won_reply f' s' side es same_f same_s theirs nobody same h w =
       let ts = turns_of es in
       let legal : (t : Turn) → Contains ts t ↔ IsLegal f s t = subst (λ xs. (t : Turn) → Contains xs t ↔ IsLegal f s t) (sym same) (contains-legal_turns f s) in
@@ -95,7 +96,7 @@ module _ (f : Frame) (s : State) where
       rw (same_f, same_s, theirs)
       record {
         wins =
-            ((reply_wins (opponent s.to_move) f s (entries_of (trees_by_turn es)) order
+            ((reply_wins rule (opponent s.to_move) f s (entries_of (trees_by_turn es)) order
             ((nobody, opponent_twice s.to_move), λ t l. has_entry es t (in_of_contains ts t ((legal t).1 l)))).0
             (children_win es h w));
         shallow = children_low es h;
@@ -103,10 +104,10 @@ module _ (f : Frame) (s : State) where
       }
 
 -- one more won child leaves all of them won
-pub all_won_push : (es : List (Turn × ProofClaim)) (e : Turn × ProofClaim) → AllWon es →
-    IsWinningTree e.1.side e.1.frame e.1.state e.1.tree → AllWon (es ++ e ∷ [])
-all_won_push [] e h w = (w, tt)
-all_won_push (x ∷ es) e h w = (h.0, all_won_push es e h.1 w)
+pub all_won_push : (rule : EndRule) (es : List (Turn × ProofClaim)) (e : Turn × ProofClaim) → AllWon rule es →
+    IsWinningTreeUnder rule e.1.side e.1.frame e.1.state e.1.tree → AllWon rule (es ++ e ∷ [])
+all_won_push rule [] e h w = (w, tt)
+all_won_push rule (x ∷ es) e h w = (h.0, all_won_push rule es e h.1 w)
 
 -- one more child has one more tree
 pub trees_of_push : (es : List (Turn × ProofClaim)) (e : Turn × ProofClaim) → trees_by_turn (es ++ e ∷ []) ≡ trees_by_turn es ++ ((e.0, e.1.tree) ∷ [])

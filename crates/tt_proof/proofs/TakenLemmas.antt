@@ -9,7 +9,8 @@ use Rattle.tt_game.specs.laws.Members.{IsIn, in_of_contains, contains_of_in}
 use Rattle.tt_game.specs.declared.frame.Frame.{Frame}
 use Rattle.tt_proof.specs.declared.footprints.Footprint.{Footprint}
 use Rattle.tt_proof.specs.BoardSetBounds.{MayContainBoard}
-use Rattle.tt_proof.specs.ProofClaim.{ProofClaim, IsWinningTree}
+use Rattle.tt_proof.specs.EndRules.{EndRule}
+use Rattle.tt_proof.specs.ProofClaim.{ProofClaim, IsWinningTreeUnder}
 use Rattle.tt_proof.specs.Footprints.{IsMet, FitsAt}
 use Rattle.tt_proof.specs.KeptFootprints.{IsFootprint, board_of_colouring}
 use Rattle.tt_proof.proofs.CarryLemmas.{footprint_carried}
@@ -77,9 +78,9 @@ module _ (p : ProofClaim) (f : Frame) (s : State) (x : Footprint) (bs : List Pos
   ]
 
   -- where the tree fits, its footprint there is its own
-  pub footprint_taken : IsWinningTree p.side p.frame p.state p.tree → FitsAt p f s → IsFootprint p.frame p.state p.tree x → IsFootprint f s p.tree x
-  footprint_taken won fits foot =
-      let same = footprint_carried p.side p.frame p.tree p.state s won.wins won.in_order fits.1 (unmet fits.0 foot fits.1.present) in
+  pub footprint_taken : (rule : EndRule) → IsWinningTreeUnder rule p.side p.frame p.state p.tree → FitsAt p f s → IsFootprint p.frame p.state p.tree x → IsFootprint f s p.tree x
+  footprint_taken rule won fits foot =
+      let same = footprint_carried rule p.side p.frame p.tree p.state s won.wins won.in_order fits.1 (unmet fits.0 foot fits.1.present) in
       subst (λ g. IsFootprint g s p.tree x) fits.0
       (record {
         needs_sized = foot.needs_sized;

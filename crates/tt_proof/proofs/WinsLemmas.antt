@@ -5,19 +5,20 @@ use Rattle.tt_game.specs.declared.frame.Side.{Side}
 use Rattle.tt_game.specs.declared.turns.Turn.{Turn}
 use Rattle.tt_game.specs.declared.frame.Frame.{Frame}
 use Rattle.tt_proof.specs.Strategy.{Entries, reply, none, entry, AreInOrder, turn_number_on_size}
-use Rattle.tt_proof.specs.Wins.{Wins, WinsBehind}
+use Rattle.tt_proof.specs.EndRules.{EndRule}
+use Rattle.tt_proof.specs.Wins.{WinsUnder, WinsBehindUnder}
 use Rattle.tt_proof.specs.inside.Replaying.{HasEntry, LegalWin, AnswersEach}
 
-module _ (side : Side) (f : Frame) (s : State) where
+module _ (rule : EndRule) (side : Side) (f : Frame) (s : State) where
   -- where each entry of a legal turn wins, a legal turn that has an entry has one that wins
-  pub win_behind : (es : Entries) (t : Turn) → IsLegal f s t → LegalWin side f s es → HasEntry es t → WinsBehind side f es t s
+  pub win_behind : (es : Entries) (t : Turn) → IsLegal f s t → LegalWin rule side f s es → HasEntry es t → WinsBehindUnder rule side f es t s
   win_behind none t l w h = h
   win_behind (entry t' u es) t l w (inl e) =
-      inl (e, subst (λ x. Wins side f u (after f s x)) e (w.0 (subst (λ x. IsLegal f s x) (sym e) l)))
+      inl (e, subst (λ x. WinsUnder rule side f u (after f s x)) e (w.0 (subst (λ x. IsLegal f s x) (sym e) l)))
   win_behind (entry t' u es) t l w (inr h) = inr (win_behind es t l w.1 h)
 
   -- a turn of which some entry wins has an entry
-  pub has_behind : (es : Entries) (t : Turn) → WinsBehind side f es t s → HasEntry es t
+  pub has_behind : (es : Entries) (t : Turn) → WinsBehindUnder rule side f es t s → HasEntry es t
   has_behind none t h = h
   has_behind (entry t' u es) t (inl h) = inl h.0
   has_behind (entry t' u es) t (inr h) = inr (has_behind es t h)
@@ -31,25 +32,25 @@ module _ (side : Side) (f : Frame) (s : State) where
 
   -- of entries in order, each of a legal turn wins where some entry of each such turn does
   pub legal_win : (least : ℕ) (es : Entries) → AreInOrder f.size least es →
-      ((t : Turn) → HasEntry es t → IsLegal f s t → WinsBehind side f es t s) → LegalWin side f s es
+      ((t : Turn) → HasEntry es t → IsLegal f s t → WinsBehindUnder rule side f es t s) → LegalWin rule side f s es
   legal_win least none o h = tt
   legal_win least (entry t u es) o h = (here, legal_win (turn_number_on_size f.size t + 1) es o.3 there)
     where
       -- the first one does
-      here : IsLegal f s t → Wins side f u (after f s t)
+      here : IsLegal f s t → WinsUnder rule side f u (after f s t)
       here l = pass (h t (inl refl) l)
         where
           -- it is the only one of its turn
-          pass : WinsBehind side f (entry t u es) t s → Wins side f u (after f s t)
+          pass : WinsBehindUnder rule side f (entry t u es) t s → WinsUnder rule side f u (after f s t)
           pass (inl e) = e.1
           pass (inr w) = let late = entry_number (turn_number_on_size f.size t + 1) es t o.3 (has_behind es t w) in absurd (omega (arith, late))
 
       -- of the other turns, some entry behind it does
-      there : (t' : Turn) → HasEntry es t' → IsLegal f s t' → WinsBehind side f es t' s
+      there : (t' : Turn) → HasEntry es t' → IsLegal f s t' → WinsBehindUnder rule side f es t' s
       there t' e l = pass (h t' (inr e) l)
         where
           -- the first one is not of this turn
-          pass : WinsBehind side f (entry t u es) t' s → WinsBehind side f es t' s
+          pass : WinsBehindUnder rule side f (entry t u es) t' s → WinsBehindUnder rule side f es t' s
           pass (inl w) =
               let late = entry_number (turn_number_on_size f.size t + 1) es t' o.3 e in
               let same = ap (turn_number_on_size f.size) w.0 in
@@ -57,10 +58,10 @@ module _ (side : Side) (f : Frame) (s : State) where
           pass (inr w) = w
 
   -- a reply that wins has an entry for each turn of the other side
-  pub reply_answers : (es : Entries) → Wins side f (reply es) s → AnswersEach side f s es
+  pub reply_answers : (es : Entries) → WinsUnder rule side f (reply es) s → AnswersEach side f s es
   reply_answers es w = ((w.0, w.1), λ t l. has_behind es t (w.2 t l))
 
   -- where each legal turn has an entry, the reply wins exactly where each entry of a legal turn does
-  pub reply_wins : (es : Entries) → AreInOrder f.size 0 es → AnswersEach side f s es → LegalWin side f s es ↔ Wins side f (reply es) s
+  pub reply_wins : (es : Entries) → AreInOrder f.size 0 es → AnswersEach side f s es → LegalWin rule side f s es ↔ WinsUnder rule side f (reply es) s
   reply_wins es o a =
       (λ w. (a.0.0, a.0.1, λ t l. win_behind es t l w (a.1 t l)), λ w. legal_win 0 es o (λ t h l. w.2 t l))

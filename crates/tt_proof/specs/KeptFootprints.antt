@@ -12,7 +12,8 @@ use Rattle.tt_proof.specs.declared.footprints.Footprint.{Footprint}
 use Rattle.tt_proof.specs.BoardSetBounds.{MayContainBoard}
 use Rattle.tt_proof.specs.Strategy.{Strategy, reply, entries_of}
 use Rattle.tt_proof.specs.Footprints.{IsNeeded, IsAvoided, IsMet}
-use Rattle.tt_proof.specs.ProofClaim.{IsWinningTree}
+use Rattle.tt_proof.specs.EndRules.{EndRule}
+use Rattle.tt_proof.specs.ProofClaim.{IsWinningTreeUnder}
 
 -- the frame's board with this colouring
 abbrev pub board_of_colouring : Frame → Colouring → Position
@@ -46,6 +47,6 @@ IsEntryJoined f s t u old new =
     (es : List (Turn × Strategy)) → IsFootprint f s (reply (entries_of es)) old → IsFootprint f s (reply (entries_of (es ++ (t, u) ∷ []))) new
 
 -- the tree wins for the side from the state, and the footprint is its own
-pub record WinsWithFootprint (side : Side) (f : Frame) (s : State) (u : Strategy) (x : Footprint) : Type 0 where
-  pub won : IsWinningTree side f s u
+pub record WinsWithFootprint (rule : EndRule) (side : Side) (f : Frame) (s : State) (u : Strategy) (x : Footprint) : Type 0 where
+  pub won : IsWinningTreeUnder rule side f s u
   pub footprint : IsFootprint f s u x

@@ -1,6 +1,7 @@
 -- What public contracts cite.
 pub mod Strategy
 pub mod Nodes
+pub mod EndRules
 pub mod Wins
 pub mod Footprints
 pub mod BoardSetBounds

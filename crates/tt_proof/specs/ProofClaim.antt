@@ -6,7 +6,8 @@ use Rattle.tt_game.specs.declared.turns.Turn.{Turn}
 use Rattle.tt_game.specs.declared.frame.Frame.{Frame}
 use Rattle.tt_proof.specs.declared.tree.TheConstants.{MOST_DEPTH}
 use Rattle.tt_proof.specs.Strategy.{Strategy, done, pick, reply, depth, IsInOrder}
-use Rattle.tt_proof.specs.Wins.{Wins}
+use Rattle.tt_proof.specs.EndRules.{EndRule, at_win}
+use Rattle.tt_proof.specs.Wins.{WinsUnder}
 
 -- a problem, a state of it, and a strategy for a side
 pub record ProofClaim : Type 0 where
@@ -16,10 +17,14 @@ pub record ProofClaim : Type 0 where
   pub tree : Strategy
 
 -- the tree wins, has at most 512 turns on any way down, and is in order
-pub record IsWinningTree (side : Side) (f : Frame) (s : State) (u : Strategy) : Type 0 where
-  pub wins : Wins side f u s
+pub record IsWinningTreeUnder (rule : EndRule) (side : Side) (f : Frame) (s : State) (u : Strategy) : Type 0 where
+  pub wins : WinsUnder rule side f u s
   pub shallow : depth u ≤ MOST_DEPTH
   pub in_order : IsInOrder f.size u
+
+-- so it is, and it ends only where its side has won
+abbrev pub IsWinningTree : Side → Frame → State → Strategy → Type 0
+IsWinningTree = IsWinningTreeUnder at_win
 
 -- the proof has this frame, history, side to move and pass count
 abbrev pub StandsAt : ProofClaim → Frame → State → Type 0

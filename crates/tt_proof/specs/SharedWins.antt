@@ -8,14 +8,14 @@ use Rattle.tt_proof.specs.Outlines.{Outline, IsSharedCertificate, unfolded}
 use Rattle.tt_proof.specs.ProofClaim.{first_turn_of}
 use Rattle.tt_proof.specs.SharedParts.{IsOutlineAnswer}
 use Rattle.tt_proof.specs.Strategy.{depth}
-use Rattle.tt_proof.specs.Wins.{Wins}
+use Rattle.tt_proof.specs.Wins.{WinsOrLives}
 
 -- the bytes are a certificate with shared parts: with its names' trees put in it wins for the side from the state, has at most so
 -- many turns on each way down, and begins with that turn; each of its parts fits where play reaches it
 pub record IsWinningSharedCertificate (f : Frame) (s : State) (side : Side) (first : Option Turn) (most : ℕ) (bytes : List ℕ) : Type 0 where
   pub outline : Outline
   pub is : IsSharedCertificate f.size bytes side outline
-  pub wins : Wins side f (unfolded [] outline) s
+  pub wins : WinsOrLives side f (unfolded [] outline) s
   pub fits : IsOutlineAnswer side f outline s None → ⊥
   pub shallow : depth (unfolded [] outline) ≤ most
   pub begins : first ≡ first_turn_of (unfolded [] outline)

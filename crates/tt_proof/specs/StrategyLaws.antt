@@ -5,20 +5,27 @@ use Rattle.std.specs.declared.sync.Arc.{Arc}
 use Rattle.std.specs.declared.vec.Vec.{Vec}
 use Rattle.tt_sgf.specs.declared.size.Size.{Size}
 use Rattle.tt_board.specs.Position.{Colouring}
-use Rattle.tt_game.specs.Game.{State, Forces, after, history, colouring_after_play}
+use Rattle.tt_game.specs.Game.{State, Forces, after, history, opponent, colouring_after_play, game_length_bound}
+use Rattle.tt_game.specs.GameLaws.{IsWellFormedState}
 use Rattle.tt_game.specs.declared.frame.Side.{Side}
 use Rattle.tt_game.specs.declared.frame.Frame.{Frame}
 use Rattle.tt_game.specs.declared.turns.Turn.{Turn}
 use Rattle.tt_game.specs.declared.turns.Turn.TheVariants.{Play}
 use Rattle.tt_proof.specs.declared.tree.Tree.{Tree, Done, Pick, Reply}
 use Rattle.tt_proof.specs.Strategy.{Strategy, depth, IsInOrder, done, pick, reply, strategy_of, entries_of_reply}
-use Rattle.tt_proof.specs.Wins.{Wins}
+use Rattle.tt_proof.specs.Wins.{Wins, WinsOrLives}
 use Rattle.tt_proof.specs.Footprints.{IsNeeded, IsAvoided, IsMet, Fits}
 use Rattle.tt_proof.specs.CertificateText.{IsCertificate, tree_text}
 
 -- a strategy that wins makes its side force, within its depth
 abbrev pub WinningStrategyForces : Type 0
 WinningStrategyForces = (side : Side) (f : Frame) (u : Strategy) (s : State) → Wins side f u s → Forces f side (depth u) s
+
+-- where a strategy wins that may end at life, the other side doesn't force a win, in any number of turns; so at a state of the game
+-- its side does
+abbrev pub StrategyToLifeForces : Type 0
+StrategyToLifeForces = (side : Side) (f : Frame) (u : Strategy) (s : State) → WinsOrLives side f u s
+    → ((n : ℕ) → Forces f (opponent side) n s → ⊥) × (IsWellFormedState f s → Forces f side (game_length_bound f) s)
 
 -- a strategy that wins from one state wins from each state that it fits
 abbrev pub FittingTreesWin : Type 0

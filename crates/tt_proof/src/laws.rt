@@ -1,11 +1,17 @@
 //! Laws of trees and of certificates, over the definitions alone.
 
 ghost use Rattle.tt_proof.specs.OutlineLaws.{OneOutlinePerCertificate, PlainIsSharedCertificate, OneAnswerPerOutline};
-ghost use Rattle.tt_proof.specs.StrategyLaws.{WinningStrategyForces, FittingTreesWin, FootprintsCarryOverIfUnmet, NeedsLosePlayedColouring, OneStrategyPerTextPrefix, OneStrategyPerCertificate, StrategyOfEquations};
+ghost use Rattle.tt_proof.specs.StrategyLaws.{WinningStrategyForces, StrategyToLifeForces, FittingTreesWin, FootprintsCarryOverIfUnmet, NeedsLosePlayedColouring, OneStrategyPerTextPrefix, OneStrategyPerCertificate, StrategyOfEquations};
 
 /// A winning tree of depth n makes its side force a win within n turns.
 pub fn l1()
     ensures { WinningStrategyForces }
+{}
+
+/// Where a tree wins that may end at life, the other side can't force a win, in any number of turns; so its side forces one within twice
+/// as many turns as there are colourings of the board.
+pub fn strategy_to_life_forces()
+    ensures { StrategyToLifeForces }
 {}
 
 /// A tree that wins from one state wins from each state that it fits, whatever the path there.

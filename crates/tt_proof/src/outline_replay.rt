@@ -5,7 +5,7 @@ ghost use Rattle.tt_game.specs.Game.{IsLegal};
 ghost use Rattle.tt_proof.specs.KeptFootprints.{IsBoardAfter};
 ghost use Rattle.tt_proof.specs.Strategy.{IsTurnOnBoardOfSize};
 ghost use Rattle.tt_proof.specs.Outlines.{outline_of, branches_of_reply, unfolded, IsOutlineInOrder, AreBranchesInOrder};
-ghost use Rattle.tt_proof.specs.Wins.{Wins};
+ghost use Rattle.tt_proof.specs.Wins.{WinsOrLives};
 ghost use Rattle.tt_proof.specs.SharedParts.{CombinesTo, IsResultBeforeTurn, RestsBeforePick, RestsBeforeOpposingTurn, IsResultOfDone, IsResultOfPart, IsResultOfReply, HasBranch};
 ghost use Rattle.tt_proof.specs.SharedParts.{IsReplayOfOutline, kept_footprint, with_named_footprint, with_unreached_names, with_unreached_branch_names, wins_if_fit, IsOutlineAnswer};
 ghost use Rattle.tt_proof.specs.inside.OutlineReplaying.{FindsPick, FindsReply, FindsBranch, FindsTogether};
@@ -16,6 +16,7 @@ use crate::replays::awaits_other_side;
 use std::alloc::Global;
 use tt_board::Board;
 use tt_game::{Line, Refused, Side, Turn};
+use tt_life::has_won_or_lives;
 use tt_sgf::NoMemory;
 
 /// What is found on a tree where it stands: it wins, and on what that rests; or it doesn't win; or a part doesn't fit.
@@ -87,7 +88,7 @@ fn result_of_branch(line: &Line, turn: &Turn, board: &Board, found: ReplayResult
 fn result_of_done(alloc: Global, s: Side, line: &Line) -> ReplayResult
     ensures { IsResultOfDone s line.now.frame line.now.state result }
 {
-    if line.winner() == Some(s) {
+    if has_won_or_lives(s, line) {
         return ReplayResult::Won(PositionFootprint::of(alloc, line));
     }
     ReplayResult::Lost
@@ -400,7 +401,7 @@ pub fn replay_shared_cert(
 ) -> Result<Option<bool>, NoMemory>
     requires { IsOutlineInOrder line.old.frame.size (outline_of o.now) }
     ensures parts { IfOk result (IsOutlineAnswer s line.old.frame (outline_of o.now) line.old.state) }
-    ensures exact { IfOk result (λ answer. IfSome answer (λ wins. IsTrue wins ↔ Wins s line.old.frame (unfolded [] (outline_of o.now)) line.old.state)) }
+    ensures exact { IfOk result (λ answer. IfSome answer (λ wins. IsTrue wins ↔ WinsOrLives s line.old.frame (unfolded [] (outline_of o.now)) line.old.state)) }
     ensures same { line.new ≡ line.old }
 {
     let mut names = Vec::new(alloc);

@@ -40,6 +40,7 @@ impl Model for Proof {
     ghost use Rattle.std.specs.Coded.{codes};
     ghost use Rattle.tt_sgf.specs.contracts.sets.PointSet as points;
     ghost use Rattle.tt_proof.specs.ProofClaim.{ProofClaim};
+    ghost use Rattle.tt_proof.specs.EndRules.{at_win};
     ghost use Rattle.tt_proof.specs.KeptFootprints.{WinsWithFootprint};
     ghost use Rattle.tt_proof.specs.laws.StrategyCode.{strategy_code};
 
@@ -49,7 +50,7 @@ impl Model for Proof {
 
     ghost view = { λ p. record { frame = p.snapshot.frame; state = p.snapshot.state; side = p.side; tree = p.measured_tree } };
 
-    ghost invariant = { λ p. WinsWithFootprint p.side p.snapshot.frame p.snapshot.state p.measured_tree p.footprint };
+    ghost invariant = { λ p. WinsWithFootprint at_win p.side p.snapshot.frame p.snapshot.state p.measured_tree p.footprint };
 }
 
 /// Why a tree was not made a proof. The tree comes back.
@@ -359,6 +360,27 @@ impl Proof {
         Ok(Some(here))
     }
 
+    /// The proof of a measured tree that wins where the snapshot is, and of its footprint there.
+    pub(crate) fn from_parts(
+        snapshot: Snapshot,
+        side: Side,
+        measured_tree: MeasuredTree,
+        footprint: Footprint,
+    ) -> Proof
+        requires wins { IsWinningTree side snapshot.frame snapshot.state measured_tree }
+        requires footprint { IsFootprint snapshot.frame snapshot.state measured_tree footprint }
+        ensures stands { StandsAt result snapshot.frame snapshot.state }
+        ensures side { result.side ≡ side }
+        ensures tree { result.tree ≡ measured_tree }
+    {
+        Proof {
+            snapshot,
+            side,
+            measured_tree,
+            footprint,
+        }
+    }
+
     /// The proof of a measured tree that is known to win at the line, and of its footprint there. No turn is played for it, and its
     /// tree is not looked at.
     pub fn from_known_win(
@@ -396,7 +418,7 @@ fn is_outside_or_in_snapshot(
 }
 
 /// Whether each of the boards lies outside the bound, or was made where the snapshot is.
-fn are_outside_or_in_snapshot(
+pub(crate) fn are_outside_or_in_snapshot(
     bound: &Option<BoardSetBound>,
     snapshot: &Snapshot,
     boards: &[Board],

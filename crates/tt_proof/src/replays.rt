@@ -3,6 +3,7 @@
 ghost use Rattle.std.specs.Prelude.{◌≡◌, ◌↔◌, ℕ, ◌<◌, ◌≤◌, IfOk, IsTrue, None, length};
 ghost use Rattle.tt_proof.specs.declared.tree.TheConstants.{MOST_DEPTH};
 ghost use Rattle.tt_proof.specs.Strategy.{done, pick, reply, depth, depth_of_entries, strategy_of, entries_of_reply, IsInOrder, AreInOrder, IsTurnOnBoardOfSize};
+ghost use Rattle.tt_proof.specs.EndRules.{at_win};
 ghost use Rattle.tt_proof.specs.Wins.{Wins};
 ghost use Rattle.tt_proof.specs.inside.Replaying.{HasEntry, LegalWin, AnswersAfter, AnswersEach};
 ghost use Rattle.tt_game.specs.declared.turns.Turn.{Turn};
@@ -89,7 +90,7 @@ fn replay_after(
     requires depth { depth (strategy_of child.now) ≤ MOST_DEPTH }
     requires on_board { IsTurnOnBoardOfSize line.old.frame.size turn }
     requires in_order { IsInOrder line.old.frame.size (strategy_of child.now) }
-    ensures exact { IfOk result (λ answer. AnswersAfter s line.old.frame line.old.state turn (strategy_of child.now) answer) }
+    ensures exact { IfOk result (λ answer. AnswersAfter at_win s line.old.frame line.old.state turn (strategy_of child.now) answer) }
     ensures same { line.new ≡ line.old }
 {
     match line.push(turn) {
@@ -111,7 +112,7 @@ fn replay_after(
 fn replay_entries(list: &[(Turn, Tree)], s: Side, line: &mut Line) -> Result<bool, NoMemory>
     requires depth { depth_of_entries (entries_of_reply list.now) ≤ MOST_DEPTH }
     requires in_order { AreInOrder line.old.frame.size 0 (entries_of_reply list.now) }
-    ensures exact { IfOk result (λ wins. IsTrue wins ↔ LegalWin s line.old.frame line.old.state (entries_of_reply list.now)) }
+    ensures exact { IfOk result (λ wins. IsTrue wins ↔ LegalWin at_win s line.old.frame line.old.state (entries_of_reply list.now)) }
     ensures same { line.new ≡ line.old }
 {
     for (turn, child) in list {

@@ -1,7 +1,7 @@
 use Rattle.std.proofs.Common.{◌↔◌, Bool, Option, [], sym, subst, IsTrue, IfSome}
 use Rattle.tt_proof.specs.Outlines.{outline_of, unfolded}
 use Rattle.tt_proof.specs.SharedParts.{NamedFootprints, IsReplayOfOutline}
-use Rattle.tt_proof.specs.Wins.{Wins}
+use Rattle.tt_proof.specs.Wins.{WinsOrLives}
 use Rattle.tt_proof.proofs.OutlineWinsLemmas.{answer_sound}
 use Rattle.tt_proof.proofs.outline_replay.replay_shared_cert.Goals as goal
 
@@ -18,5 +18,5 @@ returns-in-Ok-clause-exact c =
     let o = outline_of c.args.o.now in
     let s = c.args.line.now.state in
     let found = subst (λ (ns : NamedFootprints). IsReplayOfOutline c.args.s f ns o s c.in-Ok.found c.replay_outline.new.names.items) c.new-names.ensures.items c.in-Ok.ensures.found in
-    subst (λ (a : Option Bool). IfSome a (λ wins. IsTrue wins ↔ Wins c.args.s f (unfolded [] o) s)) (sym c.answer_of_result.ensures)
+    subst (λ (a : Option Bool). IfSome a (λ wins. IsTrue wins ↔ WinsOrLives c.args.s f (unfolded [] o) s)) (sym c.answer_of_result.ensures)
     (answer_sound c.args.s f o s c.in-Ok.found c.replay_outline.new.names.items c.requires found)

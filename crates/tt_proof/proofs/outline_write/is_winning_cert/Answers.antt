@@ -3,7 +3,7 @@ use Rattle.tt_game.specs.declared.frame.Frame.{Frame}
 use Rattle.tt_game.specs.declared.frame.Side.{Side}
 use Rattle.tt_proof.specs.Outlines.{IsSharedCertificate, outline_of, unfolded}
 use Rattle.tt_proof.specs.SharedParts.{IsOutlineAnswer}
-use Rattle.tt_proof.specs.Wins.{Wins}
+use Rattle.tt_proof.specs.Wins.{WinsOrLives}
 use Rattle.tt_proof.proofs.OutlineSameLemmas.{winning_fits}
 use Rattle.tt_proof.proofs.outline_write.is_winning_cert.Goals as goal
 
@@ -16,12 +16,12 @@ returns-in-Ok-replay_shared_cert c = λ e.
     let won : c.in-Ok-replay_shared_cert.wins ≡ Some true = search rules in
     let says : IsOutlineAnswer c.in-Ok.side f o at (Some true) =
     subst (λ (a : Option Bool). IsOutlineAnswer c.in-Ok.side f o at a) won c.in-Ok-replay_shared_cert.ensures.parts in
-    let exact = subst (λ (a : Option Bool). IfSome a (λ w. IsTrue w ↔ Wins c.in-Ok.side f (unfolded [] o) at)) won c.in-Ok-replay_shared_cert.ensures.exact in
+    let exact = subst (λ (a : Option Bool). IfSome a (λ w. IsTrue w ↔ WinsOrLives c.in-Ok.side f (unfolded [] o) at)) won c.in-Ok-replay_shared_cert.ensures.exact in
     record {
       outline = o;
       is = subst (λ (x : Side). IsSharedCertificate f.size c.args.bytes.now x o) side
           (subst (λ (g : Frame). IsSharedCertificate g.size c.args.bytes.now c.in-Ok.side o) c.frame.ensures.value c.in-Ok.ensures.certificate);
-      wins = subst (λ (x : Side). Wins x f (unfolded [] o) at) side (exact.0 refl);
+      wins = subst (λ (x : Side). WinsOrLives x f (unfolded [] o) at) side (exact.0 refl);
       fits = winning_fits c.args.s f o at (subst (λ (x : Side). IsOutlineAnswer x f o at (Some true)) side says);
       shallow = c.in-Ok.ensures.shallow;
       begins = search rules;

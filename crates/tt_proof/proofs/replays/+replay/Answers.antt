@@ -1,6 +1,7 @@
 use Rattle.tt_proof.specs.declared.tree.Tree.TheViews.{the_lemmas}
 use Rattle.std.proofs.Common.{Bool, ◌↔◌, ◌∙◌, rules, arith, ◌≡◌, false, IsTrue, true≢false, sym, Result, Ok, Err, IfOk}
 use Rattle.tt_proof.proofs.StrategyLemmas.{strategy_of_done, strategy_of_pick, strategy_of_reply}
+use Rattle.tt_proof.specs.EndRules.{at_win}
 use Rattle.tt_proof.proofs.WinsLemmas.{reply_answers, reply_wins}
 use Rattle.tt_proof.proofs.replays.+replay.Goals as goal
 
@@ -35,7 +36,7 @@ pub replay_reply-returns-then-not-awaits_and_answers_each_turn-clause-exact :
     goal.replay_reply-returns-then-not-awaits_and_answers_each_turn-clause-exact
 replay_reply-returns-then-not-awaits_and_answers_each_turn-clause-exact t c =
     refused c.awaits_and_answers_each_turn.result _ _ c.if-not-awaits_and_answers_each_turn.true c.awaits_and_answers_each_turn.ensures
-    (reply_answers c.args.s c.args.line.now.frame c.args.line.now.state _)
+    (reply_answers at_win c.args.s c.args.line.now.frame c.args.line.now.state _)
 
 -- what follows from what a result says of its value it says of it too
 each_ok : {S : Type 0} (r : Result Bool S) (P Q : Bool → Type 0) → ((b : Bool) → P b → Q b) → IfOk r P → IfOk r Q
@@ -44,6 +45,6 @@ each_ok (Err e) P Q h p = p
 
 pub replay_reply-returns-clause-exact : goal.replay_reply-returns-clause-exact
 replay_reply-returns-clause-exact t c =
-    let same = reply_wins c.args.s c.args.line.now.frame c.args.line.now.state _ c.requires.in_order
+    let same = reply_wins at_win c.args.s c.args.line.now.frame c.args.line.now.state _ c.requires.in_order
     (c.awaits_and_answers_each_turn.ensures.0 c.if-not-awaits_and_answers_each_turn.false) in
     each_ok c.replay_entries.result _ _ (λ b iff. (λ e. same.0 (iff.0 e), λ w. iff.1 (same.1 w))) c.replay_entries.ensures.exact

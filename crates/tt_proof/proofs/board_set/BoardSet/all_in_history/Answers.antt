@@ -1,4 +1,4 @@
-use Rattle.std.proofs.Common.{rules, ◌≡◌, ◌<◌, ◌≤◌, length, get_or, IsTrue, Bool, false, sym, ◌∙◌, subst, ap, arith}
+use Rattle.std.proofs.Common.{rules, ◌≡◌, ◌<◌, ◌≤◌, length, get_or, IsTrue, false, sym, ◌∙◌, subst, ap, arith}
 use Rattle.std.proofs.lemmas.Bool.{false≢true}
 use Rattle.tt_game.specs.Line.{HasBoardInHistory}
 use Rattle.tt_proof.proofs.SharedLemmas.{shown_at, one_more_place, stands_in}

@@ -1,4 +1,5 @@
 use Rattle.std.proofs.Common.{◌≡◌, ◌↔◌, ◌∙◌, Bool, false, IsTrue, true≢false, sym, subst}
+use Rattle.tt_proof.specs.EndRules.{at_win}
 use Rattle.tt_proof.specs.ProofClaim.{ProofClaim, IsWinningTree}
 use Rattle.tt_proof.specs.Footprints.{FitsAt}
 use Rattle.tt_proof.proofs.FittingLemmas.{fits_yes, fits_needs, fits_avoids, won_where_fits}
@@ -36,4 +37,4 @@ pub returns-clause-wins : goal.returns-clause-wins
 returns-clause-wins c =
     let won = subst (λ (p : ProofClaim). IsWinningTree p.side p.frame p.state p.tree) c.self.view_is c.self.invariant.won in
     let exact = returns-clause-fits c in
-    λ e. won_where_fits _ _ _ won (exact.0 e)
+    λ e. won_where_fits at_win _ _ _ won (exact.0 e)

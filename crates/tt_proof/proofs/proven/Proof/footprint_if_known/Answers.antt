@@ -3,6 +3,7 @@ use Rattle.std.proofs.lemmas.List.{take_rest}
 use Rattle.tt_board.specs.Position.{Position}
 use Rattle.tt_game.specs.Game.{history}
 use Rattle.tt_proof.specs.BoardSetBounds.{MayContainBoard}
+use Rattle.tt_proof.specs.EndRules.{at_win}
 use Rattle.tt_proof.specs.ProofClaim.{ProofClaim, IsWinningTree}
 use Rattle.tt_proof.specs.KeptFootprints.{IsFootprint}
 use Rattle.tt_proof.proofs.TakenLemmas.{footprint_taken}
@@ -27,4 +28,4 @@ returns-then-are_outside_or_in_snapshot-clause-exact c =
     let won = subst (λ (q : ProofClaim). IsWinningTree q.side q.frame q.state q.tree) c.self.view_is c.self.invariant.won in
     let foot = subst (λ (q : ProofClaim). IsFootprint q.frame q.state q.tree own) c.self.view_is c.self.invariant.footprint in
     footprint_taken p line.frame line.state own boards.result.now boards.ensures.colourings boards.ensures.sizes n
-    alike low won (c.fits.ensures.fits.0 c.if-fits.true) foot
+    alike low at_win won (c.fits.ensures.fits.0 c.if-fits.true) foot

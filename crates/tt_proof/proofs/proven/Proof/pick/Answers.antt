@@ -2,6 +2,7 @@ use Rattle.std.proofs.Common.{◌∙◌, ap, sym}
 use Rattle.tt_game.specs.Game.{after}
 use Rattle.tt_game.specs.Line.{SnapshotState}
 use Rattle.tt_proof.specs.Strategy.{pick}
+use Rattle.tt_proof.specs.EndRules.{at_win}
 use Rattle.tt_proof.proofs.ProvenLemmas.{won_pick}
 use Rattle.tt_proof.proofs.FittingLemmas.{foot_moved, board_there}
 use Rattle.tt_proof.proofs.proven.Proof.pick.Goals as goal
@@ -18,7 +19,7 @@ invariant_of-result c =
     rw (c.in_ok-measured_tree.ensures, c.into_tree_and_footprint-below.ensures.measured_tree, c.side-side.ensures.side)
     (record {
       won =
-          won_pick f _ s _ c.args.t c.args.child (ap (λ (l : SnapshotState). l.frame) own) (ap (λ (l : SnapshotState). l.state) own) c.requires.legal
+          won_pick at_win f _ s _ c.args.t c.args.child (ap (λ (l : SnapshotState). l.frame) own) (ap (λ (l : SnapshotState). l.state) own) c.requires.legal
           c.requires.child c.into_tree_and_footprint-below.ensures.wins;
       footprint =
           foot_moved f _ s _ (pick c.args.t c.args.child.tree) _ (sym (ap (λ (l : SnapshotState). l.frame) own)) (sym (ap (λ (l : SnapshotState). l.state) own))

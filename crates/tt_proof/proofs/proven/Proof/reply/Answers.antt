@@ -10,6 +10,7 @@ use Rattle.tt_proof.specs.KeptFootprints.{IsFootprint}
 use Rattle.tt_proof.specs.Strategy.{reply, entries_of}
 use Rattle.tt_game.specs.laws.Members.{IsIn, contains_of_in}
 use Rattle.tt_proof.proofs.FittingLemmas.{foot_moved, board_there}
+use Rattle.tt_proof.specs.EndRules.{at_win}
 use Rattle.tt_proof.proofs.ProvenLemmas.{AllWon, won_reply, all_won_push, trees_of_push}
 use Rattle.tt_proof.proofs.proven.Proof.reply.Goals as goal
 
@@ -45,7 +46,7 @@ loop-turn-preserved c =
           ∙ ap (λ xs. xs ++ ((turn, c.into_tree_and_footprint-measured_tree.result.0) ∷ [])) c.loop-turn.invariant.same
           ∙ ap (λ y. trees_by_turn c.loop-turn.yielded ++ ((turn, y) ∷ [])) c.into_tree_and_footprint-measured_tree.ensures.measured_tree
           ∙ sym (trees_of_push c.loop-turn.yielded (turn, child));
-      won = all_won_push c.loop-turn.yielded (turn, child) c.loop-turn.invariant.won c.into_tree_and_footprint-measured_tree.ensures.wins;
+      won = all_won_push at_win c.loop-turn.yielded (turn, child) c.loop-turn.invariant.won c.into_tree_and_footprint-measured_tree.ensures.wins;
       left = left.1;
       legal = λ t i. legal t (inr i);
       joined =
@@ -64,9 +65,9 @@ invariant_of-result c =
     rw same
     (record {
       won =
-          won_reply f s _ _ _ c.args.children.items (ap (λ (l : SnapshotState). l.frame) own) (ap (λ (l : SnapshotState). l.state) own)
+          won_reply at_win f s _ _ _ c.args.children.items (ap (λ (l : SnapshotState). l.frame) own) (ap (λ (l : SnapshotState). l.state) own)
           (c.opponent.ensures ∙ ap opponent c.to_move.ensures) c.requires.nobody
-          c.requires.turns c.requires.children (subst AllWon all c.loop-turn.invariant.won);
+          c.requires.turns c.requires.children (subst (AllWon at_win) all c.loop-turn.invariant.won);
       footprint =
           foot_moved f _ s _ _ _ (sym (ap (λ (l : SnapshotState). l.frame) own)) (sym (ap (λ (l : SnapshotState). l.state) own))
           (subst (λ es. IsFootprint f s (reply (entries_of (trees_by_turn es))) c.loop-turn.footprint) all c.loop-turn.invariant.joined);

@@ -6,6 +6,7 @@ use Rattle.tt_proof.specs.Strategy.{reply, entries_of}
 use Rattle.tt_proof.specs.ProofClaim.{AreReplyChildren, trees_by_turn, turns_of}
 use Rattle.tt_proof.specs.KeptFootprints.{IsFootprint}
 use Rattle.tt_game.specs.laws.Members.{IsIn}
+use Rattle.tt_proof.specs.EndRules.{at_win}
 use Rattle.tt_proof.proofs.ProvenLemmas.{AllWon}
 use Rattle.tt_proof.proofs.proven.Proof.reply.Given as goal
 
@@ -13,7 +14,7 @@ abbrev pub invariant-loop-turn : goal.invariant-loop-turn
 invariant-loop-turn l = record {
   order : l.yielded ++ into_iter_items l.turn-iterator ≡ l.fn.children.items;
   same : l.replies ≡ trees_by_turn l.yielded;
-  won : AllWon l.yielded;
+  won : AllWon at_win l.yielded;
   left : AreReplyChildren l.line.frame l.line.state (into_iter_items l.turn-iterator);
   legal : (t : Turn) → IsIn (turns_of (into_iter_items l.turn-iterator)) t → IsLegal l.line.frame l.line.state t;
   joined : IsFootprint l.line.frame l.line.state (reply (entries_of (trees_by_turn l.yielded))) l.footprint;
