@@ -12,7 +12,7 @@ use tt_proof::Proof;
 use tt_search::{PrivateStore, Store};
 use tt_sgf::{ItemList, MainLine, NoMemory};
 use tt_share::{Answer, solve_one_within_total};
-use tt_text::{Options, TreeOutcome, checkable_dfpn_proof, verdict_text};
+use tt_text::{Options, TreeOutcome, checkable_dfpn_proof, dfpn_verdict, verdict_text};
 
 /// Keeps a proof in the store.
 fn keep_proof(alloc: Global, store: &mut PrivateStore, proof: Proof) -> Result<(), NoMemory> {
@@ -45,6 +45,9 @@ fn verdict_at(
     requires state { IsWellFormedState line.now.frame line.now.state }
     ensures { IfOk result (λ text. IsVerdict line.now options.limits options.total options.cert text.items) }
 {
+    if let Ok(Some(text)) = dfpn_verdict(alloc, line, options, bytes) {
+        return Ok(text);
+    }
     let answer = solve_problem(alloc, line, options, bytes);
     verdict_text(
         alloc,

@@ -11,7 +11,7 @@ use crate::finder::Advisor;
 use crate::memo::Memo;
 use std::alloc::Global;
 use tt_game::Line;
-use tt_proof::Proof;
+use tt_proof::{LifeProof, Proof};
 use tt_sgf::NoMemory;
 
 /// The greatest number of positions that may be asked for.
@@ -19,6 +19,38 @@ pub const MOST_POSITIONS: u32 = 100_000_000;
 
 /// How often the finder may say who wins.
 const MOST_ATTEMPTS: u8 = 8;
+
+/// Looks for a proof at the line, for whichever side wins there, no deeper than `depth` turns, whose tree may end at life or doesn't.
+/// None where none was found within the visits that are left. `NoMemory` where memory was refused. The line stands as before.
+fn find_by_attempts(
+    alloc: Global,
+    line: &mut Line,
+    depth: u16,
+    may_end_at_life: bool,
+    visits: &mut VisitsLeft,
+) -> Result<Option<LifeProof>, NoMemory>
+    requires depth { depth ≤ MOST_DEPTH }
+    ensures stands { IfOk result (λ o. IfSome o (λ p. StandsAt p line.old.frame line.old.state)) }
+    ensures shallow { IfOk result (λ o. IfSome o (λ p. strategy.depth p.tree ≤ depth)) }
+    ensures fewer { visits.new.left ≤ visits.old.left }
+    ensures same { line.new ≡ line.old }
+{
+    let mut memo = Memo::new(alloc, may_end_at_life)?;
+    let mut advisor = Advisor::new(alloc, line, visits.left)?;
+    for attempt in 0..MOST_ATTEMPTS {
+        let Some(side) = advisor.search_winner(line, visits)? else {
+            return Ok(None);
+        };
+        let found = certify(alloc, line, side, depth, &mut advisor, &mut memo, visits)?;
+        if found.is_some() || visits.left == 0 {
+            return Ok(found);
+        }
+        if attempt == 0 {
+            advisor.restart_without_pruning();
+        }
+    }
+    Ok(None)
+}
 
 /// Looks for a proof at the line, for whichever side wins there, no deeper than `depth` turns. None where none was found within
 /// the visits that are left. `NoMemory` where memory was refused. The line stands as before.
@@ -34,19 +66,24 @@ pub fn find_proof(
     ensures fewer { visits.new.left ≤ visits.old.left }
     ensures same { line.new ≡ line.old }
 {
-    let mut memo = Memo::new(alloc);
-    let mut advisor = Advisor::new(alloc, line, visits.left)?;
-    for attempt in 0..MOST_ATTEMPTS {
-        let Some(side) = advisor.search_winner(line, visits)? else {
-            return Ok(None);
-        };
-        let found = certify(alloc, line, side, depth, &mut advisor, &mut memo, visits)?;
-        if found.is_some() || visits.left == 0 {
-            return Ok(found);
-        }
-        if attempt == 0 {
-            advisor.restart_without_pruning();
-        }
+    match find_by_attempts(alloc, line, depth, false, visits)? {
+        Some(proof) => Ok(proof.into_proof()),
+        None => Ok(None),
     }
-    Ok(None)
+}
+
+/// The same, where the proof's tree may end at life.
+pub fn find_life_proof(
+    alloc: Global,
+    line: &mut Line,
+    depth: u16,
+    visits: &mut VisitsLeft,
+) -> Result<Option<LifeProof>, NoMemory>
+    requires depth { depth ≤ MOST_DEPTH }
+    ensures stands { IfOk result (λ o. IfSome o (λ p. StandsAt p line.old.frame line.old.state)) }
+    ensures shallow { IfOk result (λ o. IfSome o (λ p. strategy.depth p.tree ≤ depth)) }
+    ensures fewer { visits.new.left ≤ visits.old.left }
+    ensures same { line.new ≡ line.old }
+{
+    find_by_attempts(alloc, line, depth, true, visits)
 }

@@ -2,6 +2,7 @@
 
 ghost use Rattle.std.specs.Prelude.{◌≡◌, ◌≤◌, ◌<◌, ◌+◌, true, false, IfOk, IfSome, None};
 ghost use Rattle.tt_game.specs.Game.{winner_of, opponent, IsLegal};
+ghost use Rattle.tt_life.specs.Life.{HasWonOrLives};
 ghost use Rattle.tt_proof.specs.declared.tree.TheConstants.{MOST_DEPTH};
 ghost use Rattle.tt_proof.specs.Strategy.{depth};
 ghost use Rattle.tt_proof.specs.ProofClaim.{StandsAt, IsChild};
@@ -10,7 +11,8 @@ use crate::advice::{Advice, VisitsLeft};
 use crate::memo::Memo;
 use std::alloc::Global;
 use tt_game::{Line, Side, Turn};
-use tt_proof::Proof;
+use tt_life::{has_unconditional_life, has_won_or_lives};
+use tt_proof::LifeProof;
 use tt_sgf::NoMemory;
 
 /// How many turns the certifier asks for at one line.
@@ -24,7 +26,8 @@ fn is_same_side(a: Side, b: Side) -> bool
     a == b
 }
 
-/// A proof for the side at the line, of a depth within the room, or none. The line stands as before, also after want of memory.
+/// A proof for the side at the line, of a depth within the room, or none. It ends at life where the memo's proofs may. The line stands
+/// as before, also after want of memory.
 #[cycle(certifying)]
 pub fn certify<A: Advice>(
     alloc: Global,
@@ -34,7 +37,7 @@ pub fn certify<A: Advice>(
     advice: &mut A,
     memo: &mut Memo,
     visits: &mut VisitsLeft,
-) -> Result<Option<Proof>, NoMemory>
+) -> Result<Option<LifeProof>, NoMemory>
     requires room { room ≤ MOST_DEPTH }
     ensures stands { IfOk result (λ o. IfSome o (λ p. StandsAt p line.old.frame line.old.state)) }
     ensures side { IfOk result (λ o. IfSome o (λ p. p.side ≡ side)) }
@@ -45,6 +48,9 @@ pub fn certify<A: Advice>(
     match line.winner() {
         Some(winner) => proof_if_won(alloc, line, side, winner),
         None => {
+            if memo.may_end_at_life && has_won_or_lives(side, line) {
+                return proof_that_ends(alloc, line, side);
+            }
             if is_same_side(line.to_move(), side) {
                 let known = memo.known_proof(line, side, room)?;
                 if known.is_some() {
@@ -70,7 +76,7 @@ fn proof_by_visit<A: Advice>(
     advice: &mut A,
     memo: &mut Memo,
     visits: &mut VisitsLeft,
-) -> Result<Option<Proof>, NoMemory>
+) -> Result<Option<LifeProof>, NoMemory>
     requires room { room ≤ MOST_DEPTH }
     requires some { 0 < room }
     requires left { 0 < visits.old.left }
@@ -96,7 +102,7 @@ fn proof_if_won(
     line: &Line,
     side: Side,
     winner: Side,
-) -> Result<Option<Proof>, NoMemory>
+) -> Result<Option<LifeProof>, NoMemory>
     requires { winner_of line.now.frame line.now.state ≡ Some winner }
     ensures stands { IfOk result (λ o. IfSome o (λ p. StandsAt p line.now.frame line.now.state)) }
     ensures side { IfOk result (λ o. IfSome o (λ p. p.side ≡ side)) }
@@ -105,7 +111,17 @@ fn proof_if_won(
     if winner != side {
         return Ok(None);
     }
-    let proof = Proof::done(alloc, line)?;
+    proof_that_ends(alloc, line, side)
+}
+
+/// The proof where the side has won or lives.
+fn proof_that_ends(alloc: Global, line: &Line, side: Side) -> Result<Option<LifeProof>, NoMemory>
+    requires { HasWonOrLives side line.now.frame line.now.state }
+    ensures stands { IfOk result (λ o. IfSome o (λ p. StandsAt p line.now.frame line.now.state)) }
+    ensures side { IfOk result (λ o. IfSome o (λ p. p.side ≡ side)) }
+    ensures shallow { IfOk result (λ o. IfSome o (λ p. depth p.tree ≡ 0)) }
+{
+    let proof = LifeProof::done(alloc, line, side)?;
     Ok(Some(proof))
 }
 
@@ -120,7 +136,7 @@ fn proof_after<A: Advice>(
     advice: &mut A,
     memo: &mut Memo,
     visits: &mut VisitsLeft,
-) -> Result<Option<Proof>, NoMemory>
+) -> Result<Option<LifeProof>, NoMemory>
     requires room { room < MOST_DEPTH }
     requires legal { IsLegal line.old.frame line.old.state turn.now }
     ensures child { IfOk result (λ o. IfSome o (λ p. IsChild line.old.frame line.old.state side turn.now p)) }
@@ -146,7 +162,8 @@ fn is_legal(line: &Line, turn: &Turn) -> bool
     line.refusal(*turn).is_none()
 }
 
-/// The proof that plays an advised turn, where the side is to move. Each turn that is refused is asked for again.
+/// The proof that plays an advised turn, where the side is to move. Each turn that is refused is asked for again. Where the proof may end
+/// at life, a defender whose targets live passes.
 #[cycle(certifying)]
 fn proof_by_advice<A: Advice>(
     alloc: Global,
@@ -156,7 +173,7 @@ fn proof_by_advice<A: Advice>(
     advice: &mut A,
     memo: &mut Memo,
     visits: &mut VisitsLeft,
-) -> Result<Option<Proof>, NoMemory>
+) -> Result<Option<LifeProof>, NoMemory>
     requires room { room ≤ MOST_DEPTH }
     requires some { 0 < room }
     requires nobody { winner_of line.old.frame line.old.state ≡ None }
@@ -167,6 +184,9 @@ fn proof_by_advice<A: Advice>(
     ensures fewer { visits.new.left ≤ visits.old.left }
     ensures same { line.new ≡ line.old }
 {
+    if memo.may_end_at_life && side == Side::Defender && has_unconditional_life(line) {
+        return proof_by_turn(alloc, line, side, room, &Turn::Pass, advice, memo, visits);
+    }
     for refused in 0..MOST_ADVISED_TURNS {
         let Some(turn) = advice.advise(line, refused, visits)? else {
             return Ok(None);
@@ -190,7 +210,7 @@ fn proof_by_turn<A: Advice>(
     advice: &mut A,
     memo: &mut Memo,
     visits: &mut VisitsLeft,
-) -> Result<Option<Proof>, NoMemory>
+) -> Result<Option<LifeProof>, NoMemory>
     requires room { room ≤ MOST_DEPTH }
     requires some { 0 < room }
     requires to_move { line.old.state.to_move ≡ side }
@@ -213,8 +233,8 @@ fn proof_from_child(
     line: &Line,
     room: u16,
     turn: &Turn,
-    child: Option<Proof>,
-) -> Result<Option<Proof>, NoMemory>
+    child: Option<LifeProof>,
+) -> Result<Option<LifeProof>, NoMemory>
     requires legal { IsLegal line.now.frame line.now.state turn.now }
     requires child { IfSome child (λ p. IsChild line.now.frame line.now.state line.now.state.to_move turn.now p) }
     requires shallow { IfSome child (λ p. depth p.tree + 1 ≤ room) }
@@ -225,7 +245,7 @@ fn proof_from_child(
     let Some(child) = child else {
         return Ok(None);
     };
-    let proof = Proof::pick(alloc, line, *turn, child)?;
+    let proof = LifeProof::pick(alloc, line, *turn, child)?;
     Ok(Some(proof))
 }
 
@@ -239,7 +259,7 @@ fn proof_by_reply<A: Advice>(
     advice: &mut A,
     memo: &mut Memo,
     visits: &mut VisitsLeft,
-) -> Result<Option<Proof>, NoMemory>
+) -> Result<Option<LifeProof>, NoMemory>
     requires room { room ≤ MOST_DEPTH }
     requires some { 0 < room }
     requires nobody { winner_of line.old.frame line.old.state ≡ None }
@@ -259,6 +279,6 @@ fn proof_by_reply<A: Advice>(
         };
         children.push((*turn, child))?;
     }
-    let proof = Proof::reply(alloc, line, children)?;
+    let proof = LifeProof::reply(alloc, line, children)?;
     Ok(Some(proof))
 }

@@ -14,7 +14,7 @@ mod finder;
 mod memo;
 
 pub use advice::{Advice, VisitsLeft};
-pub use attempts::{MOST_POSITIONS, find_proof};
+pub use attempts::{MOST_POSITIONS, find_life_proof, find_proof};
 pub use certifier::certify;
 pub use finder::Advisor;
 pub use memo::Memo;

@@ -345,21 +345,6 @@ impl Proof {
         Proof::from_known_win(line, self.side, measured_tree, footprint)
     }
 
-    /// A proof of the same tree at the line, where the proof's own footprint is seen to be that there without a walk through the tree,
-    /// as always where the proof stands at the line; else none.
-    pub fn moved_if_known(&self, alloc: Global, line: &Line) -> Result<Option<Proof>, NoMemory>
-        ensures made { IfOk result (λ o. IfSome o (λ p. StandsAt p line.now.frame line.now.state × (p.side ≡ self.now.side) × (p.tree ≡ self.now.tree))) }
-        ensures stands { StandsAt self.now line.now.frame line.now.state → result ≢ Ok None }
-    {
-        let Some(own) = self.footprint_if_known(line) else {
-            return Ok(None);
-        };
-        let footprint = own.try_clone(alloc)?;
-        let measured_tree = self.measured_tree.try_clone()?;
-        let here = Proof::from_known_win(line, self.side, measured_tree, footprint)?;
-        Ok(Some(here))
-    }
-
     /// The proof of a measured tree that wins where the snapshot is, and of its footprint there.
     pub(crate) fn from_parts(
         snapshot: Snapshot,

@@ -85,10 +85,11 @@ fn is_right(alloc: Global, line: &mut Line, proof: &Proof, winner: Side, room: u
 fn is_lied_in_vain(alloc: Global, line: &mut Line, winner: Side, side: Side) -> Option<bool> {
     for seed in 0..100u64 {
         let mut liar = Liar { state: seed };
-        let mut memo = Memo::new(alloc);
+        let mut memo = Memo::new(alloc, false).ok()?;
         let mut visits = VisitsLeft { left: 500 };
         let found = certify(alloc, line, side, ROOM, &mut liar, &mut memo, &mut visits);
-        if let Some(proof) = found.ok()? {
+        if let Some(found) = found.ok()? {
+            let proof = found.into_proof()?;
             if !is_right(alloc, line, &proof, winner, ROOM) {
                 return Some(false);
             }

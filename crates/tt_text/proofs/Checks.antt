@@ -17,7 +17,7 @@ use Rattle.tt_proof.specs.CertificateText.{IsCertificate, IsTooDeep}
 use Rattle.tt_proof.specs.Outlines.{Outline, IsSharedCertificate, unfolded}
 use Rattle.tt_proof.specs.SharedParts.{IsOutlineAnswer}
 use Rattle.tt_proof.specs.Strategy.{Strategy}
-use Rattle.tt_proof.specs.Wins.{Wins}
+use Rattle.tt_proof.specs.Wins.{Wins, WinsOrLives}
 use Rattle.tt_text.specs.declared.checking.CheckOutcome.{CheckOutcome}
 use Rattle.tt_text.specs.declared.checking.CheckOutcome.TheVariants.{Valid, Invalid, Refused}
 use Rattle.tt_text.specs.Checking.{Finds, FindsPlain, FindsOnProblem, FindsShared, first_tree, goes_deep, loses, no_certificate, shared_loses, shared_wins, too_deep, unfit, unread, wins}
@@ -58,10 +58,10 @@ module _ (p : LineWithUndo) (f : Frame) (bytes : List ℕ) (same : f ≡ p.frame
   here : IsSharedCertificate p.frame.size bytes side o
   here = subst (λ (g : Frame). IsSharedCertificate g.size bytes side o) same is
 
-  pub shared_wins_at : IsOutlineAnswer side p.frame o p.state (Some true) → Wins side p.frame (unfolded [] o) p.state → FindsShared p bytes Valid
+  pub shared_wins_at : IsOutlineAnswer side p.frame o p.state (Some true) → WinsOrLives side p.frame (unfolded [] o) p.state → FindsShared p bytes Valid
   shared_wins_at h w = shared_wins side o here h w
 
-  pub shared_loses_at : IsOutlineAnswer side p.frame o p.state (Some false) → (Wins side p.frame (unfolded [] o) p.state → ⊥) → FindsShared p bytes Invalid
+  pub shared_loses_at : IsOutlineAnswer side p.frame o p.state (Some false) → (WinsOrLives side p.frame (unfolded [] o) p.state → ⊥) → FindsShared p bytes Invalid
   shared_loses_at h w = shared_loses side o here h w
 
   pub unfit_at : IsOutlineAnswer side p.frame o p.state None → FindsShared p bytes (Refused 32)

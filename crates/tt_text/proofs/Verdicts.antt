@@ -1,18 +1,22 @@
 -- Lemmas on the text of a verdict.
-use Rattle.std.proofs.Common.{◌≡◌, ◌≤◌, ℕ, true, false, List, [], ◌∷◌, ◌++◌, Option, Some, IsSome, refl, sym, ap, subst}
+use Rattle.std.proofs.Common.{◌≡◌, ◌≤◌, ◌∙◌, ℕ, true, false, inl, inr, List, [], ◌∷◌, ◌++◌, Option, Some, None, IsSome, IfSome, refl, sym, ap, subst}
+use Rattle.std.proofs.lemmas.Option.{none-some}
 use Rattle.tt_game.specs.declared.frame.Frame.{Frame}
 use Rattle.tt_game.specs.declared.frame.Side.{Side}
 use Rattle.tt_game.specs.declared.turns.Turn.{Turn}
-use Rattle.tt_game.specs.Game.{HasValue, State, after, value_won_by, winner_of}
+use Rattle.tt_game.specs.declared.frame.Side.TheVariants.{Attacker, Defender}
+use Rattle.tt_game.specs.Game.{HasValue, State, after, opponent, value_won_by, winner_of, game_length_bound}
 use Rattle.tt_game.specs.GameLaws.{IsWellFormedState}
 use Rattle.tt_game.specs.Line.{LineWithUndo}
 use Rattle.tt_game.proofs.SomeSide.{state_after, values_forced}
 use Rattle.tt_proof.specs.CertificateText.{certificate_text}
-use Rattle.tt_proof.specs.ProofClaim.{IsWinningTree, ProofClaim, StandsAt, first_turn_of}
-use Rattle.tt_proof.specs.Strategy.{Strategy, done, pick, reply, depth}
-use Rattle.tt_proof.specs.Wins.{Wins}
+use Rattle.tt_proof.specs.ProofClaim.{IsWinningTree, IsWinningTreeUnder, ProofClaim, StandsAt, first_turn_of}
+use Rattle.tt_proof.specs.EndRules.{at_win_or_life}
+use Rattle.tt_proof.specs.Strategy.{Strategy, done, pick, reply, depth, IsInOrder, IsTurnOnBoardOfSize}
+use Rattle.tt_proof.specs.Wins.{Wins, WinsOrLives}
 use Rattle.tt_proof.specs.SharedWins.{IsWinningSharedCertificate}
 use Rattle.tt_proof.proofs.ForcesLemmas.{win_forces}
+use Rattle.tt_proof.proofs.HoldsLemmas.{wins_either, strategy_forces}
 use Rattle.tt_proof.proofs.OutlineLawLemmas.{certificates_shared}
 use Rattle.tt_search.specs.declared.limits.Limits.{Limits}
 use Rattle.tt_search.specs.declared.limits.Reason.{Reason}
@@ -21,6 +25,7 @@ use Rattle.tt_share.specs.declared.answer.Stuck.{Stuck}
 use Rattle.tt_share.specs.Answers.{IsSettledAnswer}
 use Rattle.tt_share.specs.Answers as answer
 use Rattle.tt_sgf.specs.Bytes.{newline}
+use Rattle.tt_sgf.specs.declared.size.Size.{Size}
 use Rattle.tt_text.specs.declared.options.CertKind.{CertKind}
 use Rattle.tt_text.specs.declared.options.CertKind.TheVariants.{Plain, Shared}
 use Rattle.tt_text.specs.Solving.{CertificateFollowsIfAsked, IsFirstTurnOfWinner, IsDecidedText, IsUnsettledFor, IsVerdict, decided, decided_line, unsettled, unsettled_line}
@@ -28,6 +33,21 @@ use Rattle.tt_text.specs.Solving.{CertificateFollowsIfAsked, IsFirstTurnOfWinner
 -- a strategy that wins says the value
 won_value : (side : Side) (f : Frame) (u : Strategy) (s : State) → IsWellFormedState f s → Wins side f u s → HasValue f s (value_won_by side)
 won_value side f u s is w = (values_forced f s side is).1 (depth u) (win_forces side f u s w)
+
+-- so does one that may end at life
+life_value : (side : Side) (f : Frame) (u : Strategy) (s : State) → IsWellFormedState f s → WinsOrLives side f u s → HasValue f s (value_won_by side)
+life_value side f u s is w = (values_forced f s side is).1 (game_length_bound f) (strategy_forces side f u s is w)
+
+-- a side isn't its opponent
+apart : (x : Side) → x ≡ opponent x → ⊥
+apart Attacker e = cc
+apart Defender e = cc
+
+-- the first turn of a strategy in order lies on the board
+pub first_on_board : (size : Size) (u : Strategy) → IsInOrder size u → IfSome (first_turn_of u) (IsTurnOnBoardOfSize size)
+first_on_board size done o = tt
+first_on_board size (pick t u) o = o.0
+first_on_board size (reply es) o = tt
 
 -- a proof that stands at the problem wins there
 won_there : (p : ProofClaim) (f : Frame) (s : State) → StandsAt p f s → IsWinningTree p.side p.frame p.state p.tree → IsWinningTree p.side f s p.tree
@@ -42,7 +62,7 @@ plain_shared p f s most text at won low e =
     record {
       outline = c.0;
       is = c.1.0;
-      wins = subst (λ (v : Strategy). Wins p.side f v s) (sym c.1.1) w.wins;
+      wins = subst (λ (v : Strategy). WinsOrLives p.side f v s) (sym c.1.1) (wins_either p.side f p.tree s w.wins);
       shallow = subst (λ (v : Strategy). depth v ≤ most) (sym c.1.1) low;
       fits = c.1.2 p.side f s;
       begins = sym (ap first_turn_of c.1.1);
@@ -81,6 +101,31 @@ module _ (line : LineWithUndo) (is : IsWellFormedState line.frame line.state) wh
   won_verdict limits total side u cert text w shown said =
       subst (λ (x : List ℕ). IsVerdict line limits total cert x) (sym said.2)
       (decided side (first_turn_of u) said.0 (won_value side line.frame u line.state is w.wins) (first_keeps side u w.wins shown) said.1)
+
+  -- the first turn of a strategy that may end at life keeps the value, and is shown where its side is to move
+  life_keeps : (side : Side) (u : Strategy) → WinsOrLives side line.frame u line.state → winner_of line.frame line.state ≡ None → IsFirstTurnOfWinner line side (first_turn_of u)
+  life_keeps side done (inl won) nobody = absurd (none-some side (sym nobody ∙ won))
+  life_keeps side done (inr lives) nobody = λ e. (let h : Attacker ≡ Defender = sym lives.1 ∙ e ∙ lives.0 in cc)
+  life_keeps side (pick t u) w nobody =
+      (w.1, w.2, life_value side line.frame u (after line.frame line.state t) (state_after line.frame line.state t is w.2) w.3)
+  life_keeps side (reply es) w nobody = λ e. apart side (sym e ∙ w.1)
+
+  -- the text of a proof that stands at the problem and may end at life
+  pub life_verdict : (limits : Limits) (total : Option ℕ) (cert : CertKind) (p : ProofClaim) (lines text : List ℕ) → winner_of line.frame line.state ≡ None
+      → StandsAt p line.frame line.state → IsWinningTreeUnder at_win_or_life p.side p.frame p.state p.tree
+      → CertificateFollowsIfAsked line limits p.side (first_turn_of p.tree) cert lines → text ≡ decided_line line.frame.size p.side (first_turn_of p.tree) ++ lines
+      → IsVerdict line limits total cert text
+  life_verdict limits total cert p lines text nobody at won follows e =
+      let w : WinsOrLives p.side line.frame p.tree line.state = subst (λ (x : State). WinsOrLives p.side line.frame p.tree x) at.1 (subst (λ (x : Frame). WinsOrLives p.side x p.tree p.state) at.0 won.wins) in
+      subst (λ (x : List ℕ). IsVerdict line limits total cert x) (sym e)
+      (decided p.side (first_turn_of p.tree) lines (life_value p.side line.frame p.tree line.state is w) (life_keeps p.side p.tree w nobody) follows)
+
+  -- its side is the value
+  pub life_side : (p : ProofClaim) → StandsAt p line.frame line.state → IsWinningTreeUnder at_win_or_life p.side p.frame p.state p.tree
+      → HasValue line.frame line.state (value_won_by p.side)
+  life_side p at won =
+      life_value p.side line.frame p.tree line.state is
+      (subst (λ (x : State). WinsOrLives p.side line.frame p.tree x) at.1 (subst (λ (x : Frame). WinsOrLives p.side x p.tree p.state) at.0 won.wins))
 
   settled_won : (limits : Limits) (p : ProofClaim) (first : Option Turn) → IsSettledAnswer line limits p first → IsWinningTree p.side p.frame p.state p.tree → IsWinningTree p.side line.frame line.state p.tree
   settled_won limits p first h w = won_there p line.frame line.state h.stands w

@@ -17,7 +17,7 @@ use Rattle.tt_proof.specs.CertificateText.{IsCertificate, IsTooDeep}
 use Rattle.tt_proof.specs.Outlines.{Outline, IsSharedCertificate, unfolded}
 use Rattle.tt_proof.specs.SharedParts.{IsOutlineAnswer}
 use Rattle.tt_proof.specs.Strategy.{Strategy}
-use Rattle.tt_proof.specs.Wins.{Wins}
+use Rattle.tt_proof.specs.Wins.{Wins, WinsOrLives}
 use Rattle.tt_text.specs.declared.checking.CheckOutcome.{CheckOutcome}
 use Rattle.tt_text.specs.declared.checking.CheckOutcome.TheVariants.{Valid, Invalid, Refused}
 
@@ -33,16 +33,16 @@ pub data FindsPlain (p : LineWithUndo) (bytes : List ℕ) : CheckOutcome → Typ
       → (Wins side p.frame u p.state → ⊥) → FindsPlain p bytes Invalid
 
 -- What is found on bytes at a problem where parts may be shared: they are a certificate with shared parts, and a part of it
--- doesn't fit, or its tree wins at the problem or doesn't; or they are none.
+-- doesn't fit, or its tree, which may end at life, wins at the problem or doesn't; or they are none.
 pub data FindsShared (p : LineWithUndo) (bytes : List ℕ) : CheckOutcome → Type 0 where
   unread : IsSharedCertFault p.frame.size MOST_DEPTH bytes Syntax → FindsShared p bytes (Refused 30)
   goes_deep : IsSharedCertFault p.frame.size MOST_DEPTH bytes TooDeep → FindsShared p bytes (Refused 31)
   unfit : (side : Side) (o : Outline) → IsSharedCertificate p.frame.size bytes side o → IsOutlineAnswer side p.frame o p.state None
       → FindsShared p bytes (Refused 32)
   shared_wins : (side : Side) (o : Outline) → IsSharedCertificate p.frame.size bytes side o → IsOutlineAnswer side p.frame o p.state (Some true)
-      → Wins side p.frame (unfolded [] o) p.state → FindsShared p bytes Valid
+      → WinsOrLives side p.frame (unfolded [] o) p.state → FindsShared p bytes Valid
   shared_loses : (side : Side) (o : Outline) → IsSharedCertificate p.frame.size bytes side o → IsOutlineAnswer side p.frame o p.state (Some false)
-      → (Wins side p.frame (unfolded [] o) p.state → ⊥) → FindsShared p bytes Invalid
+      → (WinsOrLives side p.frame (unfolded [] o) p.state → ⊥) → FindsShared p bytes Invalid
 
 -- the one or the other, as parts are asked for
 abbrev pub FindsPlainOrShared : Bool → LineWithUndo → List ℕ → CheckOutcome → Type 0

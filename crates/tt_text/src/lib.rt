@@ -12,5 +12,5 @@ mod verdict;
 pub use checking::{CheckOutcome, check_input};
 pub use options::{CertKind, MOST_TOTAL, Options};
 pub use outcome::{TreeOutcome, line, score};
-pub use solving::{checkable_dfpn_proof, solve};
+pub use solving::{checkable_dfpn_proof, dfpn_verdict, solve};
 pub use verdict::verdict_text;

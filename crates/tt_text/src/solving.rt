@@ -1,25 +1,26 @@
 //! Solves the problem that a tree is.
-ghost use Rattle.std.specs.Prelude.{◌≡◌, ◌≤◌, ◌+◌, IfOk, IfSome, None, length, true};
+ghost use Rattle.std.specs.Prelude.{◌≡◌, ◌≢◌, ◌≤◌, ◌+◌, IfOk, IfSome, None, length, true};
 ghost use Rattle.tt_sgf.specs.declared.trees.TheConstants.{MAX_BYTES};
-ghost use Rattle.tt_game.specs.Game.{IsLegal, winner_of};
+ghost use Rattle.tt_game.specs.Game.{HasValue, IsLegal, value_won_by, winner_of};
 ghost use Rattle.tt_game.specs.GameLaws.{IsWellFormedState};
 ghost use Rattle.tt_game.specs.Turns.{legal_turns};
 ghost use Rattle.tt_proof.specs.CertificateText.{certificate_text};
 ghost use Rattle.tt_proof.specs.declared.tree.TheConstants.{MOST_DEPTH};
 ghost use Rattle.tt_proof.specs.ProofClaim.{StandsAt};
+ghost use Rattle.tt_proof.specs.Strategy as strategy;
 ghost use Rattle.tt_share.specs.Answers.{IsAnswer};
 ghost use Rattle.tt_text.specs.Solving.{AreTurnLines, IsValueOrReason, IsAnswerText, Solves, TurnLinesFollowIfAsked, IsVerdict};
 ghost use Rattle.tt_game.specs.Line.{problem_after_turn};
 
 use crate::options::{CertKind, Options};
 use crate::outcome::TreeOutcome;
-use crate::verdict::{put_turn_value_line, value_of_answer, verdict_text};
+use crate::verdict::{life_verdict_text, put_turn_value_line, value_of_answer, verdict_text};
 use std::alloc::Global;
 use std::sync::{Arc, Wait};
 use std::thread::Threads;
-use tt_dfpn::{VisitsLeft, find_proof};
+use tt_dfpn::{VisitsLeft, find_life_proof, find_proof};
 use tt_game::{GameFault, Line, Side, Turn, problem};
-use tt_proof::{Proof, write_cert, write_shared_cert};
+use tt_proof::{LifeProof, Proof, write_cert};
 use tt_search::Reason;
 use tt_sgf::{ItemList, MAX_BYTES, MainLine, NoMemory, Size};
 use tt_share::{Answer, CertLog, Gate, NoGate, View};
@@ -42,51 +43,6 @@ fn plain_cert_fits_input(
     Ok(text.len() < MAX_BYTES - bytes - 1)
 }
 
-/// Whether `check --parts` reads a certificate with shared parts of a proof at the line behind a problem's text, with the ends of two
-/// lines.
-fn shared_cert_fits_input(
-    alloc: Global,
-    proof: &Proof,
-    line: &Line,
-    most_depth: u16,
-    bytes: usize,
-) -> Result<bool, NoMemory>
-    requires stands { StandsAt proof.now line.now.frame line.now.state }
-    requires depth { most_depth ≤ MOST_DEPTH }
-{
-    if bytes >= MAX_BYTES - 1 {
-        return Ok(false);
-    }
-    let room = MAX_BYTES - 2 - bytes;
-    let text = write_shared_cert(alloc, proof.side(), proof.tree(), line, most_depth, room)?;
-    Ok(text.is_some())
-}
-
-/// Whether the certificate that is asked for can be checked behind the problem's text.
-fn asked_cert_fits_input(
-    alloc: Global,
-    proof: &Proof,
-    line: &Line,
-    options: Options,
-    bytes: usize,
-) -> Result<bool, NoMemory>
-    requires { StandsAt proof.now line.now.frame line.now.state }
-    ensures { IfOk result (λ b. b ≡ true → options.cert ≡ CertKind.Plain
-        → bytes + length (certificate_text line.now.frame.size proof.now.side proof.now.tree) + 2 ≤ MAX_BYTES) }
-{
-    match options.cert {
-        CertKind::Unasked => Ok(true),
-        CertKind::Plain => plain_cert_fits_input(alloc, proof, line.frame().size, bytes),
-        CertKind::Shared => shared_cert_fits_input(
-            alloc,
-            proof,
-            line,
-            options.limits.depth(),
-            bytes,
-        ),
-    }
-}
-
 /// What df-pn finds at a line within so many positions. Its frame is large, and is never made where df-pn isn't asked for.
 #[inline(never)]
 fn proof_by_dfpn(
@@ -103,8 +59,8 @@ fn proof_by_dfpn(
     find_proof(alloc, &mut copy, depth, &mut visits)
 }
 
-/// What df-pn finds at a line, where it is asked for. A proof whose certificate is to be written, and can't be checked behind the
-/// problem's text, is left.
+/// What df-pn finds at a line, where it is asked for with a plain certificate. A proof whose certificate can't be checked behind the
+/// problem's text is left.
 pub fn checkable_dfpn_proof(
     alloc: Global,
     line: &Line,
@@ -112,20 +68,85 @@ pub fn checkable_dfpn_proof(
     bytes: usize,
 ) -> Result<Option<Proof>, NoMemory>
     ensures stands { IfOk result (λ o. IfSome o (λ p. StandsAt p line.now.frame line.now.state)) }
-    ensures checkable { IfOk result (λ o. IfSome o (λ p. options.cert ≡ CertKind.Plain
-        → bytes + length (certificate_text line.now.frame.size p.side p.tree) + 2 ≤ MAX_BYTES)) }
+    ensures checkable { IfOk result (λ o. IfSome o (λ p.
+        bytes + length (certificate_text line.now.frame.size p.side p.tree) + 2 ≤ MAX_BYTES)) }
 {
+    if options.cert != CertKind::Plain {
+        return Ok(None);
+    }
     let Some(positions) = options.dfpn else {
         return Ok(None);
     };
     let Some(proof) = proof_by_dfpn(alloc, line, options.limits.depth(), positions)? else {
         return Ok(None);
     };
-    if asked_cert_fits_input(alloc, &proof, line, options, bytes)? {
+    if plain_cert_fits_input(alloc, &proof, line.frame().size, bytes)? {
         Ok(Some(proof))
     } else {
         Ok(None)
     }
+}
+
+/// What df-pn finds at a line within so many positions, whose tree may end at life.
+#[inline(never)]
+fn life_proof_by_dfpn(
+    alloc: Global,
+    line: &Line,
+    depth: u16,
+    positions: u32,
+) -> Result<Option<LifeProof>, NoMemory>
+    requires { depth ≤ MOST_DEPTH }
+    ensures stands { IfOk result (λ o. IfSome o (λ p. StandsAt p line.now.frame line.now.state)) }
+    ensures shallow { IfOk result (λ o. IfSome o (λ p. strategy.depth p.tree ≤ depth)) }
+{
+    let mut visits = VisitsLeft { left: positions };
+    let mut copy = line.try_clone()?;
+    find_life_proof(alloc, &mut copy, depth, &mut visits)
+}
+
+/// What df-pn finds at a line, where it is asked for and no plain certificate is: there a tree may end at life.
+fn dfpn_life_proof(
+    alloc: Global,
+    line: &Line,
+    options: Options,
+) -> Result<Option<LifeProof>, NoMemory>
+    ensures stands { IfOk result (λ o. IfSome o (λ p. StandsAt p line.now.frame line.now.state)) }
+    ensures shallow { IfOk result (λ o. IfSome o (λ p. strategy.depth p.tree ≤ options.limits.depth)) }
+    ensures kind { IfOk result (λ o. IfSome o (λ _. options.cert ≢ CertKind.Plain)) }
+{
+    if options.cert == CertKind::Plain {
+        return Ok(None);
+    }
+    match options.dfpn {
+        Some(positions) => life_proof_by_dfpn(alloc, line, options.limits.depth(), positions),
+        None => Ok(None),
+    }
+}
+
+/// The verdict that df-pn finds at a line, where it is asked for and no plain certificate is. None where it finds nothing, or where
+/// `check --parts` doesn't read the certificate that is asked for behind the problem's text, with the ends of two lines.
+pub fn dfpn_verdict(
+    alloc: Global,
+    line: &Line,
+    options: Options,
+    bytes: usize,
+) -> Result<Option<Vec<u8>>, NoMemory>
+    requires open { winner_of line.now.frame line.now.state ≡ None }
+    requires state { IsWellFormedState line.now.frame line.now.state }
+    ensures { IfOk result (λ o. IfSome o (λ text. IsVerdict line.now options.limits options.total options.cert text.items)) }
+{
+    let Some(proof) = dfpn_life_proof(alloc, line, options)? else {
+        return Ok(None);
+    };
+    life_verdict_text(
+        alloc,
+        &proof,
+        line,
+        &options.limits,
+        options.total,
+        options.cert,
+        (MAX_BYTES - 2).saturating_sub(bytes),
+    )
 }
 
 /// Keeps a proof in the log.
@@ -177,6 +198,9 @@ fn verdict_at<X: Threads + Wait + Sync, G: Gate>(
     requires state { IsWellFormedState line.now.frame line.now.state }
     ensures { IfOk result (λ text. IsVerdict line.now options.limits options.total options.cert text.items) }
 {
+    if let Ok(Some(text)) = dfpn_verdict(alloc, line, options, bytes) {
+        return Ok(text);
+    }
     let answer = solve_problem(rt, alloc, line, options, bytes, gate)?;
     verdict_text(
         alloc,
@@ -186,6 +210,18 @@ fn verdict_at<X: Threads + Wait + Sync, G: Gate>(
         &answer,
         options.cert,
     )
+}
+
+/// Which side wins at a line, by a proof of df-pn's.
+#[tactic(auto, using(crate::proofs::Verdicts::life_side))]
+fn value_by_dfpn(alloc: Global, line: &Line, options: Options) -> Result<Option<Side>, NoMemory>
+    requires { IsWellFormedState line.now.frame line.now.state }
+    ensures { IfOk result (λ o. IfSome o (λ side. HasValue line.now.frame line.now.state (value_won_by side))) }
+{
+    let Some(proof) = dfpn_life_proof(alloc, line, options)? else {
+        return Ok(None);
+    };
+    Ok(Some(proof.side()))
 }
 
 /// Which side wins at a line, or why that isn't known.
@@ -199,6 +235,9 @@ fn value_at<X: Threads + Wait + Sync>(
     ensures { IsValueOrReason line.now options.limits options.total result }
 {
     if let Some(side) = line.winner() {
+        return Ok(side);
+    }
+    if let Ok(Some(side)) = value_by_dfpn(alloc, line, options) {
         return Ok(side);
     }
     match solve_problem(rt, alloc, line, options, 0, &NoGate) {

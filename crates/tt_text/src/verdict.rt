@@ -1,19 +1,21 @@
 //! The text of the verdict on a problem, as it stands behind the problem's number.
-ghost use Rattle.std.specs.Prelude.{◌≡◌, ◌≤◌, ◌∷◌, ◌++◌, [], IfOk, IfSome, OnOk};
+ghost use Rattle.std.specs.Prelude.{◌≡◌, ◌≢◌, ◌≤◌, ◌∷◌, ◌++◌, [], None, IfOk, IfSome, OnOk};
 ghost use Rattle.tt_sgf.specs.Bytes.{newline};
 ghost use Rattle.tt_game.specs.GameLaws.{IsWellFormedState};
 ghost use Rattle.tt_proof.specs.declared.tree.TheConstants.{MOST_DEPTH};
 ghost use Rattle.tt_proof.specs.CertificateText.{certificate_text};
+ghost use Rattle.tt_game.specs.Game.{winner_of};
 ghost use Rattle.tt_proof.specs.ProofClaim.{IsWinningTree, StandsAt, first_turn_of};
 ghost use Rattle.tt_proof.specs.SharedWins.{IsWinningSharedCertificate};
 ghost use Rattle.tt_proof.specs.Strategy.{IsTurnOnBoardOfSize, depth};
 ghost use Rattle.tt_share.specs.Answers.{IsAnswer, IsSettledAnswer};
+ghost use Rattle.tt_text.specs.declared.options.CertKind.TheVariants.{Plain};
 ghost use Rattle.tt_text.specs.Solving.{CertificateFollowsIfAsked, IsDecidedText, IsValueOrReason, IsVerdict, decided_line, first_turn_text, reason_word, unsettled_line, turn_value_line, value_text};
 
 use crate::options::CertKind;
 use std::alloc::Global;
 use tt_game::{Line, Side, Turn};
-use tt_proof::{Proof, put_readable_turn, write_cert, write_shared_cert};
+use tt_proof::{LifeProof, Proof, put_readable_turn, write_cert, write_shared_cert};
 use tt_search::{Limits, Reason};
 use tt_sgf::{NoMemory, Size};
 use tt_share::Answer;
@@ -122,17 +124,14 @@ fn certificate_lines(
 /// Which side wins, its first turn, and the lines that follow.
 fn decided_verdict(
     alloc: Global,
-    proof: &Proof,
+    side: Side,
     first: &Option<Turn>,
     size: Size,
     lines: &[u8],
 ) -> Result<Vec<u8>, NoMemory>
-    requires size { size ≡ proof.now.frame.size }
-    requires first { first.now ≡ first_turn_of proof.now.tree }
-    ensures text { IfOk result (λ text. text.items ≡ decided_line size proof.now.side first.now ++ lines.now) }
-    ensures won { IsWinningTree proof.now.side proof.now.frame proof.now.state proof.now.tree }
+    requires { IfSome first.now (IsTurnOnBoardOfSize size) }
+    ensures { IfOk result (λ text. text.items ≡ decided_line size side first.now ++ lines.now) }
 {
-    let side = proof.side();
     let mut out = Vec::new(alloc);
     out.extend_from_slice(side.verdict_word())?;
     put_first_turn_text(&mut out, first, size)?;
@@ -142,7 +141,7 @@ fn decided_verdict(
 }
 
 /// The verdict that a proof at the line is, with its certificate where one is asked for.
-#[tactic(auto, using(crate::proofs::Verdicts::said))]
+#[tactic(auto, using(crate::proofs::Verdicts::said, crate::proofs::Verdicts::first_on_board))]
 fn settled_verdict_text(
     alloc: Global,
     proof: &Proof,
@@ -156,8 +155,70 @@ fn settled_verdict_text(
         × IsDecidedText line.now limits.now proof.now.side first.now cert text.items) }
 {
     let lines = certificate_lines(alloc, proof, line, limits, cert)?;
-    let text = decided_verdict(alloc, proof, first, line.frame().size, lines.as_slice())?;
+    let side = proof.side();
+    let text = decided_verdict(alloc, side, first, line.frame().size, lines.as_slice())?;
     Ok(text)
+}
+
+/// What follows the line of a proof that may end at life: where it is asked for, a certificate with shared parts, of at most so many
+/// bytes. None where none is found.
+#[tactic(auto, using(crate::proofs::Verdicts::shared_follows))]
+fn life_certificate_lines(
+    alloc: Global,
+    proof: &LifeProof,
+    line: &Line,
+    limits: &Limits,
+    cert: CertKind,
+    most_bytes: usize,
+) -> Result<Option<Vec<u8>>, NoMemory>
+    requires stands { StandsAt proof.now line.now.frame line.now.state }
+    requires kind { cert ≢ Plain }
+    ensures { IfOk result (λ o. IfSome o (λ lines.
+        CertificateFollowsIfAsked line.now limits.now proof.now.side (first_turn_of proof.now.tree) cert lines.items)) }
+{
+    if cert != CertKind::Shared {
+        return Ok(Some(Vec::new(alloc)));
+    }
+    let found = write_shared_cert(
+        alloc,
+        proof.side(),
+        proof.tree(),
+        line,
+        limits.depth(),
+        most_bytes,
+    )?;
+    let Some(text) = found else {
+        return Ok(None);
+    };
+    let lines = with_newline(text)?;
+    Ok(Some(lines))
+}
+
+/// The verdict that a proof at the line is that may end at life, with a certificate with shared parts where one is asked for, of at most
+/// so many bytes. None where none is found.
+#[tactic(auto, using(crate::proofs::Verdicts::life_verdict, crate::proofs::Verdicts::first_on_board))]
+pub(crate) fn life_verdict_text(
+    alloc: Global,
+    proof: &LifeProof,
+    line: &Line,
+    limits: &Limits,
+    total: Option<u32>,
+    cert: CertKind,
+    most_bytes: usize,
+) -> Result<Option<Vec<u8>>, NoMemory>
+    requires state { IsWellFormedState line.now.frame line.now.state }
+    requires open { winner_of line.now.frame line.now.state ≡ None }
+    requires stands { StandsAt proof.now line.now.frame line.now.state }
+    requires kind { cert ≢ Plain }
+    ensures { IfOk result (λ o. IfSome o (λ text. IsVerdict line.now limits.now total cert text.items)) }
+{
+    let Some(lines) = life_certificate_lines(alloc, proof, line, limits, cert, most_bytes)? else {
+        return Ok(None);
+    };
+    let side = proof.side();
+    let first = proof.first();
+    let text = decided_verdict(alloc, side, &first, line.frame().size, lines.as_slice())?;
+    Ok(Some(text))
 }
 
 /// Writes which side wins behind the bytes, or why that isn't known.

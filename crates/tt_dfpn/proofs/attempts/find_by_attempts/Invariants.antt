@@ -1,5 +1,5 @@
 use Rattle.std.proofs.Common.{◌≡◌, ◌≤◌}
-use Rattle.tt_dfpn.proofs.attempts.find_proof.Given as goal
+use Rattle.tt_dfpn.proofs.attempts.find_by_attempts.Given as goal
 
 abbrev pub invariant-loop-attempt : goal.invariant-loop-attempt
 invariant-loop-attempt l = record {
