@@ -8,7 +8,9 @@ pub mod SomeSide
 pub mod NodeLemmas
 pub mod RecordLemmas
 pub mod ProblemLemmas
+pub mod FaultLemmas
 pub mod OpenProblems
+pub mod FaultNodes
 pub mod SizedProblems
 pub mod RecordLaws
 pub mod RootLemmas

@@ -1,5 +1,5 @@
 -- Targets, and the nodes up to the first that marks one.
-use Rattle.std.proofs.Common.{◌≡◌, ℕ, suc, ◌*◌, ◌<◌, ◌&&◌, ◌||◌, nat_le, ltb, Bool, true, false, cond, List, [], ◌∷◌, Option, Some, None, Ok, Err, refl, sym, ap, ◌∙◌, inl, inr}
+use Rattle.std.proofs.Common.{◌≡◌, ℕ, suc, ◌+◌, ◌*◌, ◌<◌, ◌&&◌, ◌||◌, nat_le, ltb, Bool, true, false, cond, List, [], ◌∷◌, Option, Some, None, Ok, Err, refl, sym, ap, ◌∙◌, inl, inr}
 use Rattle.std.specs.List.{list_any, list_all}
 use Rattle.std.specs.FinSet as set
 use Rattle.std.specs.Ordering.{nat_cmp}
@@ -15,9 +15,9 @@ use Rattle.tt_sgf.specs.laws.PointLaws.{contains-passing}
 use Rattle.tt_game.specs.declared.faults.GameFault.{GameFault}
 use Rattle.tt_game.specs.declared.faults.GameFault.TheVariants.{NoTarget}
 use Rattle.tt_game.specs.declared.records.GameSoFar.{GameSoFar}
-use Rattle.tt_game.specs.Nodes.{TR, has, move_count, set_named}
-use Rattle.tt_game.specs.Records.{and_then, step_node}
-use Rattle.tt_game.specs.Problems.{node_count_before_solution, adds_stones, region_of, problem_of_sets, problem_at_targets}
+use Rattle.tt_game.specs.Nodes.{TR, has, move_count}
+use Rattle.tt_game.specs.Records.{and_then, at_node, step_node}
+use Rattle.tt_game.specs.Problems.{node_count_before_solution, adds_stones, problem_at_node, problem_at_targets}
 
 -- what a value covers is on the board
 covered_on : (size : Size) (e : Option _) (q : ℕ) → rectangle_covers size e q ≡ true → q < point_count size
@@ -44,25 +44,26 @@ set_on_board size vs s q e h = elim (cases_Bool (list_all (is_entry size) vs)) [
 ]
 
 -- the way to the mark: at its end no target, then a refused node, a node without a mark, and one with it
-pub problem-nil : (s : GameSoFar) → problem_at_targets s [] ≡ Err NoTarget
-unfolding problem_at_targets
-problem-nil s = refl
+module _ (k : ℕ) (s : GameSoFar) where
+  pub problem-nil : problem_at_targets k s [] ≡ Err NoTarget
+  unfolding problem_at_targets
+  problem-nil = refl
 
-pub problem-stop : (s : GameSoFar) (e : GameFault) (n : Node) (ns : List Node) → step_node s n ≡ Err e → problem_at_targets s (n ∷ ns) ≡ Err e
-unfolding problem_at_targets
-problem-stop s e n ns h = ap (λ r. and_then r (λ t. cond (has TR n) (problem_of_sets t.game (set_named t.game.size TR n) (region_of t.game.size n)) (problem_at_targets t ns))) h
+  pub problem-stop : (e : GameFault) (n : Node) (ns : List Node) → step_node (at_node (k + 1) s) n ≡ Err e → problem_at_targets k s (n ∷ ns) ≡ Err e
+  unfolding problem_at_targets
+  problem-stop e n ns h = ap (λ r. and_then r (λ t. cond (has TR n) (problem_at_node t n) (problem_at_targets (k + 1) t ns))) h
 
-pub problem-step : (s t : GameSoFar) (n : Node) (ns : List Node) → step_node s n ≡ Ok t → has TR n ≡ false → problem_at_targets s (n ∷ ns) ≡ problem_at_targets t ns
-unfolding problem_at_targets
-problem-step s t n ns h off =
-    ap (λ r. and_then r (λ x. cond (has TR n) (problem_of_sets x.game (set_named x.game.size TR n) (region_of x.game.size n)) (problem_at_targets x ns))) h
-    ∙ ap (λ b. cond b (problem_of_sets t.game (set_named t.game.size TR n) (region_of t.game.size n)) (problem_at_targets t ns)) off
+  pub problem-step : (t : GameSoFar) (n : Node) (ns : List Node) → step_node (at_node (k + 1) s) n ≡ Ok t → has TR n ≡ false → problem_at_targets k s (n ∷ ns) ≡ problem_at_targets (k + 1) t ns
+  unfolding problem_at_targets
+  problem-step t n ns h off =
+      ap (λ r. and_then r (λ x. cond (has TR n) (problem_at_node x n) (problem_at_targets (k + 1) x ns))) h
+      ∙ ap (λ b. cond b (problem_at_node t n) (problem_at_targets (k + 1) t ns)) off
 
-pub problem-here : (s t : GameSoFar) (n : Node) (ns : List Node) → step_node s n ≡ Ok t → has TR n ≡ true → problem_at_targets s (n ∷ ns) ≡ problem_of_sets t.game (set_named t.game.size TR n) (region_of t.game.size n)
-unfolding problem_at_targets
-problem-here s t n ns h on =
-    ap (λ r. and_then r (λ x. cond (has TR n) (problem_of_sets x.game (set_named x.game.size TR n) (region_of x.game.size n)) (problem_at_targets x ns))) h
-    ∙ ap (λ b. cond b (problem_of_sets t.game (set_named t.game.size TR n) (region_of t.game.size n)) (problem_at_targets t ns)) on
+  pub problem-here : (t : GameSoFar) (n : Node) (ns : List Node) → step_node (at_node (k + 1) s) n ≡ Ok t → has TR n ≡ true → problem_at_targets k s (n ∷ ns) ≡ problem_at_node t n
+  unfolding problem_at_targets
+  problem-here t n ns h on =
+      ap (λ r. and_then r (λ x. cond (has TR n) (problem_at_node x n) (problem_at_targets (k + 1) x ns))) h
+      ∙ ap (λ b. cond b (problem_at_node t n) (problem_at_targets (k + 1) t ns)) on
 
 -- ---- the nodes in front of a solution
 

@@ -1,5 +1,5 @@
 -- Records and problems by the rules: what their nodes keep true of the history, and where a refusal comes from.
-use Rattle.std.proofs.Common.{◌≡◌, ◌≢◌, ℕ, ◌+◌, ◌-◌, ◌*◌, ◌<◌, ◌≤◌, ◌⊎◌, List, [], ◌∷◌, ◌++◌, inl, inr, Bool, true, false, Option, Some, None, Ok, Err, refl, sym, ap, subst, ◌∙◌}
+use Rattle.std.proofs.Common.{◌≡◌, ◌≢◌, ℕ, ◌+◌, ◌-◌, ◌*◌, ◌<◌, ◌≤◌, ◌⊎◌, List, [], ◌∷◌, ◌++◌, length, suc, inl, inr, Bool, true, false, Option, Some, None, Ok, Err, refl, sym, ap, subst, ◌∙◌}
 use Rattle.std.proofs.Common.{cond, ◌==◌, ◌&&◌, nat_eq, nat_le, nat_lt, arith, Contains}
 use Rattle.std.specs.Prelude.{All, AllPairs}
 use Rattle.std.specs.FinSet as set
@@ -14,6 +14,7 @@ use Rattle.tt_sgf.specs.declared.size.PointOrPass.{PointOrPass}
 use Rattle.tt_sgf.specs.declared.size.PointOrPass.TheVariants.{On}
 use Rattle.tt_sgf.specs.declared.size.PointOrPass.TheVariants as values
 use Rattle.tt_sgf.specs.declared.nodes.Node.{Node}
+use Rattle.tt_sgf.specs.declared.nodes.Property.{Property}
 use Rattle.tt_sgf.specs.Sizes.{point_count, sized}
 use Rattle.tt_sgf.specs.laws.SizeLaws.{sized_returns_size}
 use Rattle.tt_sgf.specs.Values.{lettered_point, point_of, trimmed}
@@ -22,7 +23,7 @@ use Rattle.tt_board.specs.declared.Colour.TheVariants.{Black, White}
 use Rattle.tt_board.specs.Position.{Colouring}
 use Rattle.tt_board.specs.Reach.{entry_at}
 use Rattle.tt_board.specs.Play.{is_empty, same_colour}
-use Rattle.tt_board.specs.Stones.{PointNumberSet, any_empty}
+use Rattle.tt_board.specs.Stones.{PointNumberSet}
 use Rattle.tt_board.specs.Setup.{placed}
 use Rattle.tt_game.specs.declared.faults.GameFault.{GameFault}
 use Rattle.tt_game.specs.declared.faults.GameFault.TheVariants.{NoTarget}
@@ -35,13 +36,15 @@ use Rattle.tt_game.specs.Game.{history}
 use Rattle.tt_game.specs.Games.{GameState, game_colourings, begun_with, empty_game, colouring_after_move, refusal_of, game_after_turn}
 use Rattle.tt_game.specs.Superko.{repeats, repeats_is_exact}
 use Rattle.tt_game.specs.Line.{LineWithUndo}
-use Rattle.tt_game.specs.Nodes.{AB, AE, AW, B, GM, PL, SZ, TR, W, apart, mover_of_values, has, is_go, is_setup, move_count, set_named, size_or_default, values_of}
-use Rattle.tt_game.specs.Problems.{common_colour, posed_problem, problem_of_sets, problem_of, problem_if_targets_valid, problem_if_one_colour, region_of, problem_at_targets}
-use Rattle.tt_game.specs.Records.{all_have_liberties, and_then, as_turn, empty_game_of_size, empty_game_for_nodes, empty_game_for_root, game_after_setup, turn_or_fault, play_node_move, record_of_game, record_of, apply_nodes, set_up_by, step_node}
+use Rattle.tt_game.specs.Faults.{least_point, least_with_entry, least_without_liberty, read_mover, read_set}
+use Rattle.tt_game.specs.Nodes.{AB, AE, AW, B, GM, SZ, TR, W, in_two_sets, has, is_go, is_setup, move_count, size_or_default, values_of}
+use Rattle.tt_game.specs.Problems.{posed_problem, problem_of, problem_if_stones, problem_if_targets_valid, read_region, problem_at_node, problem_at_targets}
+use Rattle.tt_game.specs.Records.{and_then, as_turn, at_node, empty_game_of_size, empty_game_for_nodes, empty_game_for_root, setup_or_fault, turn_or_fault, play_node_move, record_of_game, record_of, apply_nodes, set_up_node, set_up_or_fault, step_node}
 use Rattle.tt_game.specs.Records.{play_turn_by, play_named_turn, play_next_turn}
 use Rattle.tt_game.specs.RecordLaws.{UnmarkedAreNoProblems}
 use Rattle.tt_game.specs.RecordLaws.{AreMadeByPlays, IsByTheRules, IsFirstRefusal, IsMadeByPlay, FirstRefusalDecides, ProblemsAreGames, RefusalsCarryToProblems, RecordsAreGames, SetupsBeginHistories, RepeatsTestIsExact}
 use Rattle.tt_game.specs.Turns.{IsTurnOnBoardOfSize}
+use Rattle.tt_game.proofs.FaultNodes.{begin_at, step_at, step_refused}
 use Rattle.tt_game.proofs.OpenProblems.{step_made}
 
 -- ---- choices
@@ -50,12 +53,6 @@ use Rattle.tt_game.proofs.OpenProblems.{step_made}
 choice : {A : Type 0} (b : Bool) (x y z : A) → cond b x y ≡ z → ((b ≡ true) × (x ≡ z)) ⊎ ((b ≡ false) × (y ≡ z))
 choice true x y z e = inl (refl, e)
 choice false x y z e = inr (refl, e)
-
--- a fault of two steps is one of the first, or of the second
-step_refused : {A B : Type 0} (r : Result A GameFault) (f : A → Result B GameFault) (e : GameFault) → and_then r f ≡ Err e
-    → (r ≡ Err e) ⊎ ((x : A) × (r ≡ Ok x) × (f x ≡ Err e))
-step_refused (Ok x) f e h = inr (x, refl, h)
-step_refused (Err c) f e h = inl (let same : c ≡ e = cc in ap Err same)
 
 -- ---- plays
 
@@ -113,7 +110,7 @@ record GoesOn (r q : GameSoFar) : Type 0 where
 
 -- one more turn
 abbrev after_turn : GameSoFar → Turn → GameSoFar
-after_turn r t = record { game = game_after_turn r.game t; turns = r.turns + 1 }
+after_turn r t = record { game = game_after_turn r.game t; turns = r.turns + 1; node = r.node }
 
 -- a turn that is taken is a lawful one, and the 2,000th at most
 turn_made : (r : GameSoFar) (t : Turn) (q : GameSoFar) → play_next_turn r t ≡ Ok q → (refusal_of r.game t ≡ None) × (r.turns < 2000) × (after_turn r t ≡ q)
@@ -187,15 +184,15 @@ value_on size (c ∷ d ∷ []) (On p) e = elim (choice (c == 116 && d == 116) _ 
 value_on size (c ∷ d ∷ x ∷ xs) (On p) e = let bad : None ≡ Some (On p) = e in cc
 
 -- a turn by the value of its property does what turns do
-turn_goes : (r : GameSoFar) (k : Colour) (text : List ℕ) (o : Option PointOrPass) (q : GameSoFar) → point_of r.game.size text ≡ o → play_named_turn r k o ≡ Ok q → GoesOn r q
-turn_goes r k text None q is e = let bad : Err _ ≡ Ok q = e in cc
-turn_goes r k text (Some v) q is e = turns_by r k (as_turn v) q (value_on r.game.size text v is) e
+turn_goes : (r : GameSoFar) (k : Colour) (f : GameFault) (text : List ℕ) (o : Option PointOrPass) (q : GameSoFar) → point_of r.game.size text ≡ o → play_named_turn r k f o ≡ Ok q → GoesOn r q
+turn_goes r k f text None q is e = let bad : Err _ ≡ Ok q = e in cc
+turn_goes r k f text (Some v) q is e = turns_by r k (as_turn v) q (value_on r.game.size text v is) e
 
 -- so does a node's move, or none
-move_goes : (r : GameSoFar) (vs ws : List (List ℕ)) (q : GameSoFar) → play_node_move r vs ws ≡ Ok q → GoesOn r q
-move_goes r (v ∷ vs) ws q e = turn_goes r Black (trimmed v) (point_of r.game.size (trimmed v)) q refl e
-move_goes r [] (w ∷ ws) q e = turn_goes r White (trimmed w) (point_of r.game.size (trimmed w)) q refl e
-move_goes r [] [] q e =
+move_goes : (r : GameSoFar) (ps : List Property) (vs ws : List (List ℕ)) (q : GameSoFar) → play_node_move r ps vs ws ≡ Ok q → GoesOn r q
+move_goes r ps (v ∷ vs) ws q e = turn_goes r Black _ (trimmed v) (point_of r.game.size (trimmed v)) q refl e
+move_goes r ps [] (w ∷ ws) q e = turn_goes r White _ (trimmed w) (point_of r.game.size (trimmed w)) q refl e
+move_goes r ps [] [] q e =
     let same : r ≡ q = cc in
     subst (λ (x : GameSoFar). GoesOn r x) same (record { lawful = λ h. h; grows = inl refl })
 
@@ -207,24 +204,26 @@ record BeginsAnew (r q : GameSoFar) : Type 0 where
   alone : game_colourings q.game ≡ q.game.present ∷ []
 
 -- a colouring begins the history anew
-begun_anew : (r : GameSoFar) (c : Colouring) (k : Colour) (q : GameSoFar) → game_after_setup r c k ≡ Ok q → BeginsAnew r q
-begun_anew r c k q e = elim (choice (all_have_liberties r.game.size c) _ _ _ e) [
-  | inl alive ↦
-      let same : record { game = begun_with r.game.size c k; turns = r.turns } ≡ q = let is = alive.1 in cc in
-      subst (λ (x : GameSoFar). BeginsAnew r x) same (record { lawful = λ h. (alone r.game.size c, h.1); alone = refl })
-  | inr lifeless ↦ let bad : Err _ ≡ Ok q = lifeless.1 in cc
-]
+begun_anew : (r : GameSoFar) (c : Colouring) (k : Colour) (o : Option ℕ) (q : GameSoFar) → setup_or_fault r c k o ≡ Ok q → BeginsAnew r q
+begun_anew r c k None q e =
+    let same : record { game = begun_with r.game.size c k; turns = r.turns; node = r.node } ≡ q = cc in
+    subst (λ (x : GameSoFar). BeginsAnew r x) same (record { lawful = λ h. (alone r.game.size c, h.1); alone = refl })
+begun_anew r c k (Some p) q e = let bad : Err _ ≡ Ok q = e in cc
 
 -- so do sets put over the board
-set_up_anew : (r : GameSoFar) (black white bare : Option PointNumberSet) (k : Option Colour) (q : GameSoFar) → set_up_by r black white bare k ≡ Ok q → BeginsAnew r q
-set_up_anew r None white bare k q e = let bad : Err _ ≡ Ok q = e in cc
-set_up_anew r (Some black) None bare k q e = let bad : Err _ ≡ Ok q = e in cc
-set_up_anew r (Some black) (Some white) None k q e = let bad : Err _ ≡ Ok q = e in cc
-set_up_anew r (Some black) (Some white) (Some bare) None q e = let bad : Err _ ≡ Ok q = e in cc
-set_up_anew r (Some black) (Some white) (Some bare) (Some k) q e = elim (choice (apart black white && apart black bare && apart white bare) _ _ _ e) [
-  | inl once ↦ begun_anew r (placed r.game.size r.game.present black white bare) k q once.1
-  | inr twice ↦ let bad : Err _ ≡ Ok q = twice.1 in cc
-]
+set_up_anew : (r : GameSoFar) (black white bare : PointNumberSet) (k : Colour) (o : Option ℕ) (q : GameSoFar) → set_up_or_fault r black white bare k o ≡ Ok q → BeginsAnew r q
+set_up_anew r black white bare k None q e =
+    let c = placed r.game.size r.game.present black white bare in begun_anew r c k (least_without_liberty r.game.size c) q e
+set_up_anew r black white bare k (Some p) q e = let bad : Err _ ≡ Ok q = e in cc
+
+-- so does a node's setup
+node_anew : (r : GameSoFar) (n : Node) (q : GameSoFar) → set_up_node r n ≡ Ok q → BeginsAnew r q
+node_anew r n q e =
+    let black = step_made (read_set r.node r.game.size AB n) _ q e in
+    let white = step_made (read_set r.node r.game.size AW n) _ q black.2 in
+    let bare = step_made (read_set r.node r.game.size AE n) _ q white.2 in
+    let k = step_made (read_mover r.node n) _ q bare.2 in
+    set_up_anew r black.0 white.0 bare.0 k.0 (least_point (in_two_sets black.0 white.0 bare.0)) q k.2
 
 -- ---- nodes
 
@@ -234,11 +233,11 @@ unfolding step_node
 node_does r n q e = elim (choice (is_setup n) _ _ _ e) [
   | inl setup ↦ elim (choice (nat_le 1 (move_count n)) _ _ _ setup.1) [
     | inl mixed ↦ let bad : Err _ ≡ Ok q = mixed.1 in cc
-    | inr pure ↦ inl (setup.0, set_up_anew r (set_named r.game.size AB n) (set_named r.game.size AW n) (set_named r.game.size AE n) (mover_of_values (values_of PL n.props)) q pure.1)
+    | inr pure ↦ inl (setup.0, node_anew r n q pure.1)
   ]
   | inr moves ↦ elim (choice (nat_le 2 (move_count n)) _ _ _ moves.1) [
     | inl mixed ↦ let bad : Err _ ≡ Ok q = mixed.1 in cc
-    | inr pure ↦ inr (moves.0, move_goes r (values_of B n.props) (values_of W n.props) q pure.1)
+    | inr pure ↦ inr (moves.0, move_goes r n.props (values_of B n.props) (values_of W n.props) q pure.1)
   ]
 ]
 
@@ -254,18 +253,18 @@ node_lawful : (r : GameSoFar) (n : Node) (q : GameSoFar) → step_node r n ≡ O
 node_lawful r n q e h = elim (node_does r n q e) [ inl setup ↦ setup.1.lawful h | inr move ↦ move.1.lawful h ]
 
 -- so do nodes one after another
-run_lawful : (r : GameSoFar) (ns : List Node) (q : GameSoFar) → apply_nodes r ns ≡ Ok q → IsLawful r → IsLawful q
+run_lawful : (k : ℕ) (r : GameSoFar) (ns : List Node) (q : GameSoFar) → apply_nodes k r ns ≡ Ok q → IsLawful r → IsLawful q
 unfolding apply_nodes
-run_lawful r [] q e h = let same : r ≡ q = cc in subst IsLawful same h
-run_lawful r (n ∷ ns) q e h =
-    let made = step_made (step_node r n) _ q e in
-    run_lawful made.0 ns q made.2 (node_lawful r n made.0 made.1 h)
+run_lawful k r [] q e h = let same : r ≡ q = cc in subst IsLawful same h
+run_lawful k r (n ∷ ns) q e h =
+    let made = step_made (step_node (at_node (k + 1) r) n) _ q e in
+    run_lawful (k + 1) made.0 ns q made.2 (node_lawful (at_node (k + 1) r) n made.0 made.1 h)
 
 -- the empty board begins a history by the rules
 empty_lawful : (o : Option Size) (q : GameSoFar) → empty_game_of_size o ≡ Ok q → IsLawful q
 empty_lawful None q e = let bad : Err _ ≡ Ok q = e in cc
 empty_lawful (Some size) q e =
-    let same : record { game = empty_game size; turns = 0 } ≡ q = cc in
+    let same : record { game = empty_game size; turns = 0; node = 0 } ≡ q = cc in
     subst IsLawful same (alone size (empty_game size).present, omega arith)
 
 -- a line begins with a history by the rules
@@ -281,7 +280,7 @@ begin_lawful (n ∷ ns) q e = elim (choice (is_go (values_of GM n.props)) _ _ _ 
 pub records_are_games : RecordsAreGames
 records_are_games ns r e =
     let made = step_made (empty_game_for_nodes ns) _ r e in
-    run_lawful made.0 ns r made.2 (begin_lawful ns made.0 made.1)
+    run_lawful 0 made.0 ns r made.2 (begin_lawful ns made.0 made.1)
 
 -- ---- problems
 
@@ -291,41 +290,43 @@ record IsOfGame (s : GameState) (q : LineWithUndo) : Type 0 where
   history : game_colourings s ≡ history q.state
 
 -- a problem posed in a game has that game's history and size
-of_game_with : (s : GameState) (region targets : PointNumberSet) (o : Option Colour) (q : LineWithUndo) → problem_if_one_colour s region targets o ≡ Ok q → IsOfGame s q
-of_game_with s region targets None q e = let bad : Err _ ≡ Ok q = e in cc
-of_game_with s region targets (Some k) q e =
+of_game_with : (s : GameState) (region targets : PointNumberSet) (o : Result Colour GameFault) (q : LineWithUndo) → and_then o (λ k. Ok (posed_problem s region targets k)) ≡ Ok q → IsOfGame s q
+of_game_with s region targets (Err e) q h = let bad : Err _ ≡ Ok q = h in cc
+of_game_with s region targets (Ok k) q h =
     let same : posed_problem s region targets k ≡ q = cc in
     subst (λ (x : LineWithUndo). IsOfGame s x) same (record { size = refl; history = refl })
 
+of_game_stones : (r : GameSoFar) (region targets : PointNumberSet) (o : Option ℕ) (q : LineWithUndo) → problem_if_stones r region targets o ≡ Ok q → IsOfGame r.game q
+of_game_stones r region targets None q e = of_game_with r.game region targets _ q e
+of_game_stones r region targets (Some p) q e = let bad : Err _ ≡ Ok q = e in cc
+
 -- so has one posed on sets
-of_game_on : (s : GameState) (region targets : PointNumberSet) (q : LineWithUndo) → problem_if_targets_valid s region targets ≡ Ok q → IsOfGame s q
-of_game_on s region targets q e = elim (choice (nat_eq (set.len targets) 0) _ _ _ e) [
+of_game_on : (r : GameSoFar) (region targets : PointNumberSet) (q : LineWithUndo) → problem_if_targets_valid r region targets ≡ Ok q → IsOfGame r.game q
+of_game_on r region targets q e = elim (choice (nat_eq (set.len targets) 0) _ _ _ e) [
   | inl none ↦ let bad : Err _ ≡ Ok q = none.1 in cc
-  | inr some ↦ elim (choice (any_empty targets s.present) _ _ _ some.1) [
-    | inl bare ↦ let bad : Err _ ≡ Ok q = bare.1 in cc
-    | inr full ↦ of_game_with s region targets (common_colour targets s.present) q full.1
-  ]
+  | inr some ↦ of_game_stones r region targets (least_with_entry targets r.game.present None) q some.1
 ]
 
--- and one of sets that a node names
-of_game : (s : GameState) (targets region : Option PointNumberSet) (q : LineWithUndo) → problem_of_sets s targets region ≡ Ok q → IsOfGame s q
-of_game s None region q e = let bad : Err _ ≡ Ok q = e in cc
-of_game s (Some targets) None q e = let bad : Err _ ≡ Ok q = e in cc
-of_game s (Some targets) (Some region) q e = of_game_on s region targets q e
+-- and one that a node poses
+of_game : (r : GameSoFar) (n : Node) (q : LineWithUndo) → problem_at_node r n ≡ Ok q → IsOfGame r.game q
+of_game r n q e =
+    let targets = step_made (read_set r.node r.game.size TR n) _ q e in
+    let region = step_made (read_region r.node r.game.size n) _ q targets.2 in
+    of_game_on r region.0 targets.0 q region.2
 
 -- the history of a problem that nodes come to is by the rules
-mark_lawful : (r : GameSoFar) (ns : List Node) (q : LineWithUndo) → problem_at_targets r ns ≡ Ok q → IsLawful r → IsByTheRules q.frame.size (history q.state)
+mark_lawful : (k : ℕ) (r : GameSoFar) (ns : List Node) (q : LineWithUndo) → problem_at_targets k r ns ≡ Ok q → IsLawful r → IsByTheRules q.frame.size (history q.state)
 unfolding problem_at_targets
-mark_lawful r [] q e h = let bad : Err _ ≡ Ok q = e in cc
-mark_lawful r (n ∷ ns) q e h =
-    let made = step_made (step_node r n) _ q e in
-    let next = node_lawful r n made.0 made.1 h in
+mark_lawful k r [] q e h = let bad : Err _ ≡ Ok q = e in cc
+mark_lawful k r (n ∷ ns) q e h =
+    let made = step_made (step_node (at_node (k + 1) r) n) _ q e in
+    let next = node_lawful (at_node (k + 1) r) n made.0 made.1 h in
     elim (choice (has TR n) _ _ _ made.2) [
       | inl marked ↦
-          let of = of_game made.0.game (set_named made.0.game.size TR n) (region_of made.0.game.size n) q marked.1 in
+          let of = of_game made.0 n q marked.1 in
           subst (λ (x : Size). IsByTheRules x (history q.state)) of.size
           (subst (λ (x : List Colouring). IsByTheRules made.0.game.size x) of.history next.0)
-      | inr on ↦ mark_lawful made.0 ns q on.1 next
+      | inr on ↦ mark_lawful (k + 1) made.0 ns q on.1 next
     ]
 
 -- a problem's history is by the rules
@@ -333,61 +334,62 @@ pub problems_are_games : ProblemsAreGames
 unfolding problem_of
 problems_are_games ns q e =
     let made = step_made (empty_game_for_nodes ns) _ q e in
-    mark_lawful made.0 ns q made.2 (begin_lawful ns made.0 made.1)
+    mark_lawful 0 made.0 ns q made.2 (begin_lawful ns made.0 made.1)
 
 -- ---- refusals
 
--- the node at which a run is refused, and what the nodes before it came to
-record StopsAt (r : GameSoFar) (ns : List Node) (e : GameFault) : Type 0 where
+-- the node at which a run behind k nodes is refused, and what the nodes before it came to
+record StopsAt (k : ℕ) (r : GameSoFar) (ns : List Node) (e : GameFault) : Type 0 where
   front : List Node
   node : Node
   behind : List Node
   last : GameSoFar
   parts : ns ≡ front ++ node ∷ behind
-  taken : apply_nodes r front ≡ Ok last
-  refused : step_node last node ≡ Err e
+  taken : apply_nodes k r front ≡ Ok last
+  refused : step_node (at_node (k + length front + 1) last) node ≡ Err e
 
 -- a refused run stops at a node: the ones before it came to something, and it was refused
-stops_at : (r : GameSoFar) (ns : List Node) (e : GameFault) → apply_nodes r ns ≡ Err e → StopsAt r ns e
+stops_at : (k : ℕ) (r : GameSoFar) (ns : List Node) (e : GameFault) → apply_nodes k r ns ≡ Err e → StopsAt k r ns e
 unfolding apply_nodes
-stops_at r [] e h = let bad : Ok r ≡ Err e = h in cc
-stops_at r (n ∷ ns) e h = elim (step_refused (step_node r n) _ e h) [
-  | inl here ↦ record { front = []; node = n; behind = ns; last = r; parts = refl; taken = refl; refused = here }
+stops_at k r [] e h = let bad : Ok r ≡ Err e = h in cc
+stops_at k r (n ∷ ns) e h = elim (step_refused (step_node (at_node (k + 1) r) n) _ e h) [
+  | inl here ↦ record { front = []; node = n; behind = ns; last = r; parts = refl; taken = refl; refused = ap (λ j. step_node (at_node j r) n) (let same : k + 0 + 1 ≡ k + 1 = omega arith in same) ∙ here }
   | inr on ↦
-      let later = stops_at on.0 ns e on.2 in
+      let later = stops_at (k + 1) on.0 ns e on.2 in
       record {
         front = n ∷ later.front;
         node = later.node;
         behind = later.behind;
         last = later.last;
         parts = ap (λ (x : List Node). n ∷ x) later.parts;
-        taken = ap (λ x. and_then x (λ q. apply_nodes q later.front)) on.1 ∙ later.taken;
-        refused = later.refused;
+        taken = ap (λ x. and_then x (λ q. apply_nodes (k + 1) q later.front)) on.1 ∙ later.taken;
+        refused = ap (λ j. step_node (at_node j later.last) later.node) (let same : k + suc (length later.front) + 1 ≡ k + 1 + length later.front + 1 = omega arith in same) ∙ later.refused;
       }
 ]
 
 -- a run over nodes goes on from what the first of them came to
-run_on : (r : GameSoFar) (front ns : List Node) (q : GameSoFar) → apply_nodes r front ≡ Ok q → apply_nodes r (front ++ ns) ≡ apply_nodes q ns
+run_on : (k : ℕ) (r : GameSoFar) (front ns : List Node) (q : GameSoFar) → apply_nodes k r front ≡ Ok q → apply_nodes k r (front ++ ns) ≡ apply_nodes (k + length front) q ns
 unfolding apply_nodes
-run_on r [] ns q e = let same : r ≡ q = cc in ap (λ (x : GameSoFar). apply_nodes x ns) same
-run_on r (n ∷ front) ns q e =
-    let made = step_made (step_node r n) _ q e in
-    ap (λ x. and_then x (λ s. apply_nodes s (front ++ ns))) made.1 ∙ run_on made.0 front ns q made.2
+run_on k r [] ns q e = let same : r ≡ q = cc in ap (λ (x : GameSoFar). apply_nodes k x ns) same ∙ ap (λ j. apply_nodes j q ns) (let none : k ≡ k + 0 = omega arith in none)
+run_on k r (n ∷ front) ns q e =
+    let made = step_made (step_node (at_node (k + 1) r) n) _ q e in
+    ap (λ x. and_then x (λ s. apply_nodes (k + 1) s (front ++ ns))) made.1 ∙ run_on (k + 1) made.0 front ns q made.2
+    ∙ ap (λ j. apply_nodes j q ns) (let same : k + 1 + length front ≡ k + suc (length front) = omega arith in same)
 
 -- a node that is refused ends a run
-ends_run : (q : GameSoFar) (n : Node) (ns : List Node) (e : GameFault) → step_node q n ≡ Err e → apply_nodes q (n ∷ ns) ≡ Err e
+ends_run : (k : ℕ) (q : GameSoFar) (n : Node) (ns : List Node) (e : GameFault) → step_node (at_node (k + 1) q) n ≡ Err e → apply_nodes k q (n ∷ ns) ≡ Err e
 unfolding apply_nodes
-ends_run q n ns e h = ap (λ x. and_then x (λ s. apply_nodes s ns)) h
+ends_run k q n ns e h = ap (λ x. and_then x (λ s. apply_nodes (k + 1) s ns)) h
 
 -- the record of nodes, where the begin of the line is known
-record_begun : (ns : List Node) (r : GameSoFar) → empty_game_for_nodes ns ≡ Ok r → record_of ns ≡ and_then (apply_nodes r ns) (λ q. Ok (record_of_game q.game))
+record_begun : (ns : List Node) (r : GameSoFar) → empty_game_for_nodes ns ≡ Ok r → record_of ns ≡ and_then (apply_nodes 0 r ns) (λ q. Ok (record_of_game q.game))
 unfolding record_of
-record_begun ns r e = ap (λ x. and_then x (λ s. and_then (apply_nodes s ns) (λ q. Ok (record_of_game q.game)))) e
+record_begun ns r e = ap (λ x. and_then x (λ s. and_then (apply_nodes 0 s ns) (λ q. Ok (record_of_game q.game)))) e
 
 -- a record that isn't begun is refused
 never_begun : (ns : List Node) (e : GameFault) → empty_game_for_nodes ns ≡ Err e → record_of ns ≡ Err e
 unfolding record_of
-never_begun ns e h = ap (λ x. and_then x (λ s. and_then (apply_nodes s ns) (λ q. Ok (record_of_game q.game)))) h
+never_begun ns e h = ap (λ x. and_then x (λ s. and_then (apply_nodes 0 s ns) (λ q. Ok (record_of_game q.game)))) h
 
 -- the board of a line that names no size
 common_size : Size
@@ -396,7 +398,7 @@ common_size = record { columns = 19; rows = 19; columns_in = (omega arith, omega
 -- the record without a node
 empty_record : (r : Record) × (record_of [] ≡ Ok r)
 unfolding record_of apply_nodes common_size
-empty_record = (record_of_game (empty_game common_size), ap (λ o. and_then (empty_game_of_size o) (λ r. and_then (apply_nodes r []) (λ q. Ok (record_of_game q.game)))) (sized_returns_size common_size))
+empty_record = (record_of_game (empty_game common_size), ap (λ o. and_then (empty_game_of_size o) (λ r. and_then (apply_nodes 0 r []) (λ q. Ok (record_of_game q.game)))) (sized_returns_size common_size))
 
 -- a line without a node is never refused
 never_empty : (e : GameFault) → record_of [] ≡ Err e → ⊥
@@ -408,13 +410,13 @@ begins_alike [] n ns others = refl
 begins_alike (m ∷ front) n ns others = refl
 
 -- the nodes before a refused one are a record
-front_taken : (front : List Node) (n : Node) (ns : List Node) (r q : GameSoFar) → empty_game_for_nodes (front ++ n ∷ ns) ≡ Ok r → apply_nodes r front ≡ Ok q → (s : Record) × (record_of front ≡ Ok s)
+front_taken : (front : List Node) (n : Node) (ns : List Node) (r q : GameSoFar) → empty_game_for_nodes (front ++ n ∷ ns) ≡ Ok r → apply_nodes 0 r front ≡ Ok q → (s : Record) × (record_of front ≡ Ok s)
 front_taken [] n ns r q begins runs = empty_record
 front_taken (m ∷ front) n ns r q begins runs =
     (record_of_game q.game, record_begun (m ∷ front) r begins ∙ ap (λ x. and_then x (λ s. Ok (record_of_game s.game))) runs)
 
 -- where a run stops, the record stops
-least_of : (ns : List Node) (r : GameSoFar) (e : GameFault) → empty_game_for_nodes ns ≡ Ok r → StopsAt r ns e → IsFirstRefusal ns e
+least_of : (ns : List Node) (r : GameSoFar) (e : GameFault) → empty_game_for_nodes ns ≡ Ok r → StopsAt 0 r ns e → IsFirstRefusal ns e
 least_of ns r e begins stop =
     let begins_so : empty_game_for_nodes (stop.front ++ stop.node ∷ stop.behind) ≡ Ok r = ap empty_game_for_nodes (sym stop.parts) ∙ begins in
     let taken = front_taken stop.front stop.node stop.behind r stop.last begins_so stop.taken in
@@ -425,18 +427,19 @@ least_of ns r e begins stop =
       score = taken.0;
       parts = stop.parts;
       taken = taken.1;
+      at = step_at (at_node (0 + length stop.front + 1) stop.last) e stop.node stop.refused ∙ ap Some (let same : 0 + length stop.front + 1 ≡ length stop.front + 1 = omega arith in same);
       refused = λ others.
-          let run = run_on r stop.front (stop.node ∷ others) stop.last stop.taken ∙ ends_run stop.last stop.node others e stop.refused in
+          let run = run_on 0 r stop.front (stop.node ∷ others) stop.last stop.taken ∙ ends_run (0 + length stop.front) stop.last stop.node others e stop.refused in
           record_begun (stop.front ++ stop.node ∷ others) r (begins_alike stop.front stop.node stop.behind others ∙ begins_so)
           ∙ ap (λ x. and_then x (λ s. Ok (record_of_game s.game))) run;
     }
 
 -- a record is refused before its first node, or by a run
-refused_by : (ns : List Node) (e : GameFault) → record_of ns ≡ Err e → (empty_game_for_nodes ns ≡ Err e) ⊎ ((r : GameSoFar) × (empty_game_for_nodes ns ≡ Ok r) × (apply_nodes r ns ≡ Err e))
+refused_by : (ns : List Node) (e : GameFault) → record_of ns ≡ Err e → (empty_game_for_nodes ns ≡ Err e) ⊎ ((r : GameSoFar) × (empty_game_for_nodes ns ≡ Ok r) × (apply_nodes 0 r ns ≡ Err e))
 unfolding record_of
 refused_by ns e h = elim (step_refused (empty_game_for_nodes ns) _ e h) [
   | inl never ↦ inl never
-  | inr on ↦ elim (step_refused (apply_nodes on.0 ns) _ e on.2) [
+  | inr on ↦ elim (step_refused (apply_nodes 0 on.0 ns) _ e on.2) [
     | inl stops ↦ inr (on.0, on.1, stops)
     | inr ends ↦ let bad : Ok (record_of_game ends.0.game) ≡ Err e = ends.2 in cc
   ]
@@ -453,23 +456,24 @@ first_refusal_decides (m ∷ ms) e h = elim (refused_by (m ∷ ms) e h) [
     score = empty_record.0;
     parts = refl;
     taken = empty_record.1;
+    at = begin_at (m ∷ ms) e never;
     refused = λ others. never_begun (m ∷ others) e never;
   }
-  | inr on ↦ least_of (m ∷ ms) on.0 e on.1 (stops_at on.0 (m ∷ ms) e on.2)
+  | inr on ↦ least_of (m ∷ ms) on.0 e on.1 (stops_at 0 on.0 (m ∷ ms) e on.2)
 ]
 
 -- a run that is refused before a mark is refused on the way to the mark
-mark_refused : (r : GameSoFar) (ns behind : List Node) (e : GameFault) → All (λ n. has TR n ≡ false) ns → apply_nodes r ns ≡ Err e → problem_at_targets r (ns ++ behind) ≡ Err e
+mark_refused : (k : ℕ) (r : GameSoFar) (ns behind : List Node) (e : GameFault) → All (λ n. has TR n ≡ false) ns → apply_nodes k r ns ≡ Err e → problem_at_targets k r (ns ++ behind) ≡ Err e
 unfolding apply_nodes problem_at_targets
-mark_refused r [] behind e unmarked h = let bad : Ok r ≡ Err e = h in cc
-mark_refused r (n ∷ ns) behind e unmarked h =
-    let go = λ (q : GameSoFar). cond (has TR n) (problem_of_sets q.game (set_named q.game.size TR n) (region_of q.game.size n)) (problem_at_targets q (ns ++ behind)) in
-    elim (step_refused (step_node r n) _ e h) [
+mark_refused k r [] behind e unmarked h = let bad : Ok r ≡ Err e = h in cc
+mark_refused k r (n ∷ ns) behind e unmarked h =
+    let go = λ (q : GameSoFar). cond (has TR n) (problem_at_node q n) (problem_at_targets (k + 1) q (ns ++ behind)) in
+    elim (step_refused (step_node (at_node (k + 1) r) n) _ e h) [
       | inl here ↦ ap (λ x. and_then x go) here
       | inr on ↦
           ap (λ x. and_then x go) on.1
-          ∙ ap (λ b. cond b (problem_of_sets on.0.game (set_named on.0.game.size TR n) (region_of on.0.game.size n)) (problem_at_targets on.0 (ns ++ behind))) (All-head (λ m. has TR m ≡ false) n ns unmarked)
-          ∙ mark_refused on.0 ns behind e (All-tail (λ m. has TR m ≡ false) n ns unmarked) on.2
+          ∙ ap (λ b. cond b (problem_at_node on.0 n) (problem_at_targets (k + 1) on.0 (ns ++ behind))) (All-head (λ m. has TR m ≡ false) n ns unmarked)
+          ∙ mark_refused (k + 1) on.0 ns behind e (All-tail (λ m. has TR m ≡ false) n ns unmarked) on.2
     ]
 
 -- a record that is refused and marks no target is refused as a problem too, whatever follows
@@ -477,26 +481,26 @@ pub refusals_carry_to_problems : RefusalsCarryToProblems
 unfolding problem_of
 refusals_carry_to_problems [] behind e unmarked h = absurd (never_empty e h)
 refusals_carry_to_problems (m ∷ ms) behind e unmarked h =
-    let go = λ (r : GameSoFar). problem_at_targets r ((m ∷ ms) ++ behind) in
+    let go = λ (r : GameSoFar). problem_at_targets 0 r ((m ∷ ms) ++ behind) in
     elim (refused_by (m ∷ ms) e h) [
       | inl never ↦ ap (λ x. and_then x go) never
-      | inr on ↦ ap (λ x. and_then x go) on.1 ∙ mark_refused on.0 (m ∷ ms) behind e unmarked on.2
+      | inr on ↦ ap (λ x. and_then x go) on.1 ∙ mark_refused 0 on.0 (m ∷ ms) behind e unmarked on.2
     ]
 
 -- nodes without a mark come to the end of the way to the mark
-mark_missing : (r q : GameSoFar) (ns : List Node) → All (λ n. has TR n ≡ false) ns → apply_nodes r ns ≡ Ok q → problem_at_targets r ns ≡ Err NoTarget
+mark_missing : (k : ℕ) (r q : GameSoFar) (ns : List Node) → All (λ n. has TR n ≡ false) ns → apply_nodes k r ns ≡ Ok q → problem_at_targets k r ns ≡ Err NoTarget
 unfolding apply_nodes problem_at_targets
-mark_missing r q [] unmarked h = refl
-mark_missing r q (n ∷ ns) unmarked h =
-    let go = λ (x : GameSoFar). cond (has TR n) (problem_of_sets x.game (set_named x.game.size TR n) (region_of x.game.size n)) (problem_at_targets x ns) in
-    let on = step_made (step_node r n) _ q h in
+mark_missing k r q [] unmarked h = refl
+mark_missing k r q (n ∷ ns) unmarked h =
+    let go = λ (x : GameSoFar). cond (has TR n) (problem_at_node x n) (problem_at_targets (k + 1) x ns) in
+    let on = step_made (step_node (at_node (k + 1) r) n) _ q h in
     ap (λ x. and_then x go) on.1
-    ∙ ap (λ b. cond b (problem_of_sets on.0.game (set_named on.0.game.size TR n) (region_of on.0.game.size n)) (problem_at_targets on.0 ns)) (All-head (λ m. has TR m ≡ false) n ns unmarked)
-    ∙ mark_missing on.0 q ns (All-tail (λ m. has TR m ≡ false) n ns unmarked) on.2
+    ∙ ap (λ b. cond b (problem_at_node on.0 n) (problem_at_targets (k + 1) on.0 ns)) (All-head (λ m. has TR m ≡ false) n ns unmarked)
+    ∙ mark_missing (k + 1) on.0 q ns (All-tail (λ m. has TR m ≡ false) n ns unmarked) on.2
 
 -- nodes that come to a game and mark no target are no problem
 pub unmarked_are_no_problems : UnmarkedAreNoProblems
 unfolding problem_of
 unmarked_are_no_problems nodes r unmarked h =
     let on = step_made (empty_game_for_nodes nodes) _ r h in
-    ap (λ x. and_then x (λ q. problem_at_targets q nodes)) on.1 ∙ mark_missing on.0 r nodes unmarked on.2
+    ap (λ x. and_then x (λ q. problem_at_targets 0 q nodes)) on.1 ∙ mark_missing 0 on.0 r nodes unmarked on.2

@@ -79,9 +79,9 @@ abbrev pub mover_of_values : List (List ℕ) → Option Colour
 mover_of_values [] = Some Black
 mover_of_values (v ∷ vs) = colour_of_letter (after_blanks v)
 
--- no point is in both sets
-abbrev pub apart : PointNumberSet → PointNumberSet → Bool
-apart a b = set.len (set.intersection a b) == 0
+-- the points that two of the sets have
+abbrev pub in_two_sets : PointNumberSet → PointNumberSet → PointNumberSet → PointNumberSet
+in_two_sets a b c = set.union (set.intersection a b) (set.intersection (set.union a b) c)
 
 -- how many moves the node has, of either colour
 abbrev pub move_count : Node → ℕ

@@ -1,5 +1,5 @@
 -- Laws of records and problems, in the words of the game.
-use Rattle.std.specs.Prelude.{◌≡◌, ◌≢◌, ℕ, ◌<◌, ◌≤◌, ◌⊎◌, ◌↔◌, List, [], ◌∷◌, ◌++◌, All, AllPairs, Contains, None, Ok, Err, true, false}
+use Rattle.std.specs.Prelude.{◌≡◌, ◌≢◌, ℕ, ◌<◌, ◌≤◌, ◌⊎◌, ◌↔◌, List, [], ◌∷◌, ◌++◌, ◌+◌, length, Some, All, AllPairs, Contains, None, Ok, Err, true, false}
 use Rattle.tt_sgf.specs.declared.size.Size.{Size}
 use Rattle.tt_sgf.specs.declared.nodes.Node.{Node}
 use Rattle.tt_sgf.specs.Sizes.{point_count}
@@ -12,6 +12,7 @@ use Rattle.tt_game.specs.declared.faults.GameFault.TheVariants.{NoTarget}
 use Rattle.tt_game.specs.declared.records.Record.{Record}
 use Rattle.tt_game.specs.declared.records.GameSoFar.{GameSoFar}
 use Rattle.tt_game.specs.declared.records.TheConstants.{MOST_TURNS}
+use Rattle.tt_game.specs.Faults.{fault_node}
 use Rattle.tt_game.specs.Game.{history}
 use Rattle.tt_game.specs.Games.{game_colourings}
 use Rattle.tt_game.specs.Superko.{repeats}
@@ -37,7 +38,7 @@ pub record IsByTheRules (size : Size) (h : List Colouring) : Type 0 where
 
 -- the game and the count of turns that a record's nodes come to
 abbrev pub ComesTo : List Node → GameSoFar → Type 0
-ComesTo nodes r = and_then (empty_game_for_nodes nodes) (λ q. apply_nodes q nodes) ≡ Ok r
+ComesTo nodes r = and_then (empty_game_for_nodes nodes) (λ q. apply_nodes 0 q nodes) ≡ Ok r
 
 -- the history of a record's game is by the rules, and its turns, implied passes among them, are no more than a record has
 abbrev pub RecordsAreGames : Type 0
@@ -53,8 +54,8 @@ SetupsBeginHistories = (r q : GameSoFar) (n : Node) → step_node r n ≡ Ok q
     → (is_setup n ≡ true → game_colourings q.game ≡ q.game.present ∷ [])
     × (is_setup n ≡ false → (game_colourings q.game ≡ game_colourings r.game) ⊎ (game_colourings q.game ≡ game_colourings r.game ++ q.game.present ∷ []))
 
--- a record's refusal is that of its least node that has one: the nodes before it are a record, with it they are refused,
--- and what stands behind it changes nothing
+-- a record's refusal is that of its least node that has one, and names it: the nodes before it are a record, with it they are
+-- refused, and what stands behind it changes nothing
 pub record IsFirstRefusal (nodes : List Node) (e : GameFault) : Type 0 where
   pub front : List Node
   pub node : Node
@@ -62,6 +63,7 @@ pub record IsFirstRefusal (nodes : List Node) (e : GameFault) : Type 0 where
   pub score : Record
   pub parts : nodes ≡ front ++ node ∷ behind
   pub taken : record_of front ≡ Ok score
+  pub at : fault_node e ≡ Some (length front + 1)
   pub refused : (others : List Node) → record_of (front ++ node ∷ others) ≡ Err e
 
 -- each refusal of a record is that of its least node that has one

@@ -3,7 +3,7 @@
 ghost use Rattle.std.specs.Prelude.{◌≡◌, ℕ, ◌<◌, ◌≤◌, ◌↔◌, ◌∷◌, [], List, length, min, nat_le, ◌+◌, MatchOption};
 ghost use Rattle.std.specs.FinSet as set;
 ghost use Rattle.tt_sgf.specs.PointLists.{set_of};
-ghost use Rattle.tt_game.specs.Nodes.{values_of, ReadsSet, colour_of_letter, mover_of_values, PL, apart, has_some_value, is_setup, move_count, is_go, size_or_default, GM, SZ};
+ghost use Rattle.tt_game.specs.Nodes.{values_of, ReadsSet, colour_of_letter, mover_of_values, PL, in_two_sets, has_some_value, is_setup, move_count, is_go, size_or_default, GM, SZ};
 ghost use Rattle.tt_sgf.specs.Values.{after_blanks};
 
 use tt_board::Colour;
@@ -34,7 +34,7 @@ pub fn named_set(properties: &[Property], name: &[u8], size: Size) -> Result<Poi
 }
 
 /// The first value of the properties of this name.
-pub(crate) fn first_value<'a>(properties: &'a [Property], name: &[u8]) -> Option<&'a [u8]>
+pub fn first_value<'a>(properties: &'a [Property], name: &[u8]) -> Option<&'a [u8]>
     ensures { MatchOption result (values_of name.now properties.now ≡ [])
         (λ v. (more : List (List ℕ)) × (values_of name.now properties.now ≡ v.now ∷ more)) }
 {
@@ -92,22 +92,22 @@ pub(crate) fn mover_of_properties(properties: &[Property]) -> Option<Colour>
     }
 }
 
-/// Whether no point is in both sets.
-pub(crate) fn are_disjoint(a: &PointSet, b: &PointSet) -> bool
-    ensures { result ≡ apart a.now b.now }
+/// The points that two of the sets have.
+pub(crate) fn in_two_sets(a: &PointSet, b: &PointSet, c: &PointSet) -> PointSet
+    ensures { result ≡ in_two_sets a.now b.now c.now }
 {
-    a.and(b).count() == 0
+    a.and(b).or(&a.or(b).and(c))
 }
 
 /// Whether the properties of this name have a value.
-pub(crate) fn has_value(properties: &[Property], name: &[u8]) -> bool
+pub fn has_value(properties: &[Property], name: &[u8]) -> bool
     ensures { result ≡ has_some_value (values_of name.now properties.now) }
 {
     first_value(properties, name).is_some()
 }
 
 /// Whether a node is a setup node.
-pub(crate) fn sets_up(node: &Node) -> bool
+pub fn sets_up(node: &Node) -> bool
     ensures { result ≡ is_setup node.now }
 {
     let properties = node.props.as_slice();
@@ -150,7 +150,7 @@ pub(crate) fn is_go(properties: &[Property]) -> bool
 }
 
 /// The size that SZ says, or 19 by 19 without it.
-pub(crate) fn said_size(properties: &[Property]) -> Option<Size>
+pub fn said_size(properties: &[Property]) -> Option<Size>
     ensures { result ≡ size_or_default (values_of SZ properties.now) }
 {
     let Some(value) = first_value(properties, b"SZ") else {

@@ -1,90 +1,81 @@
 //! Problems: a main line up to the node that marks targets.
 
-ghost use Rattle.std.specs.Prelude.{◌≡◌, ◌≤◌, IfOk, false, length};
+ghost use Rattle.std.specs.Prelude.{◌≡◌, ◌≤◌, Some, false, length};
+ghost use Rattle.tt_board.specs.declared.Colour.TheVariants.{Black, White};
 ghost use Rattle.tt_board.specs.Stones.{IsSetOnBoard};
-ghost use Rattle.tt_game.specs.Nodes.{set_named, ReadsSet, TR};
+ghost use Rattle.tt_game.specs.Faults.{least_with_entry};
 ghost use Rattle.tt_game.specs.Records.{ReturnsUnlessNoMemory};
-ghost use Rattle.tt_game.specs.Problems.{node_count_before_solution, game_of, adds_stones, region_of, common_colour, problem_of_sets, problem_at_targets, problem_of};
+ghost use Rattle.tt_game.specs.Problems.{node_count_before_solution, game_of, adds_stones, defender_of, read_region, problem_at_node, problem_at_targets, problem_of};
 
 use crate::faults::GameFault;
 use crate::game::Game;
+use crate::least_points::least_with_entry;
 use crate::line::Line;
-use crate::nodes::{has_move, has_value, named_set};
+use crate::nodes::{has_move, has_value};
+use crate::reading::read_set;
 use crate::records::{GameSoFar, apply_nodes, empty_game_for_nodes};
 use std::alloc::Global;
 use tt_board::{Board, Colour};
-use tt_sgf::{BadPoint, MainLine, Node, PointSet, Size};
+use tt_sgf::{MainLine, Node, PointSet, Size};
 
-/// The region that a node says: the points of SQ, or the whole board without it.
-fn said_region(node: &Node, size: Size) -> Result<PointSet, BadPoint>
-    ensures { ReadsSet result (region_of size node.now) }
+/// The region that the node with this number says: the points of SQ, or the whole board without it.
+fn read_region(number: usize, node: &Node, size: Size) -> Result<PointSet, GameFault>
+    ensures { result ≡ read_region number size node.now }
 {
-    let properties = node.props.as_slice();
-    if !has_value(properties, b"SQ") {
+    if !has_value(node.props.as_slice(), b"SQ") {
         return Ok(PointSet::whole(size));
     }
-    named_set(properties, b"SQ", size)
+    read_set(number, node, b"SQ", size)
 }
 
-/// The points that TR names.
-#[tactic(auto, using(crate::proofs::ProblemLemmas::set_on_board))]
-fn said_targets(node: &Node, size: Size) -> Result<PointSet, BadPoint>
-    ensures value { ReadsSet result (set_named size TR node.now) }
-    ensures on_board { IfOk result (λ s. IsSetOnBoard size s) }
+/// The colour of all these targets, which have stones.
+fn defender_of(node: usize, board: &Board, targets: &PointSet) -> Result<Colour, GameFault>
+    requires { IsSetOnBoard board.now.size targets.now }
+    ensures { result ≡ defender_of node (least_with_entry targets.now board.now.points (Some White)) (least_with_entry targets.now board.now.points (Some Black)) }
 {
-    named_set(node.props.as_slice(), b"TR", size)
-}
-
-/// The colour of all stones on these points of the board: none where there are both.
-fn common_colour(board: &Board, points: &PointSet) -> Option<Colour>
-    requires { IsSetOnBoard board.now.size points.now }
-    ensures { result ≡ common_colour points.now board.now.points }
-{
-    if board.has_stones_on_all(points, Colour::Black) {
-        Some(Colour::Black)
-    } else if board.has_stones_on_all(points, Colour::White) {
-        Some(Colour::White)
-    } else {
-        None
+    let Some(point) = least_with_entry(targets, board, Some(Colour::White)) else {
+        return Ok(Colour::Black);
+    };
+    match least_with_entry(targets, board, Some(Colour::Black)) {
+        None => Ok(Colour::White),
+        Some(_) => Err(GameFault::MixedTargets { node, point }),
     }
 }
 
 /// The problem that a game is at a node with TR.
-fn problem_at(game: Game, node: &Node) -> Result<Line, GameFault>
-    ensures { ReturnsUnlessNoMemory result (problem_of_sets game (set_named game.size TR node.now) (region_of game.size node.now)) }
+fn problem_at_node(last: GameSoFar, node: &Node) -> Result<Line, GameFault>
+    ensures { ReturnsUnlessNoMemory result (problem_at_node last node.now) }
 {
+    let game = last.game;
     let size = game.size();
-    let Ok(targets) = said_targets(node, size) else {
-        return Err(GameFault::BadValue);
-    };
-    let Ok(region) = said_region(node, size) else {
-        return Err(GameFault::BadValue);
-    };
+    let targets = read_set(last.node, node, b"TR", size)?;
+    let region = read_region(last.node, node, size)?;
     if targets.count() == 0 {
         return Err(GameFault::NoTarget);
     }
-    if game.present().has_some_empty(&targets) {
-        return Err(GameFault::EmptyTarget);
+    if let Some(point) = least_with_entry(&targets, game.present(), None) {
+        return Err(GameFault::EmptyTarget {
+            node: last.node,
+            point,
+        });
     }
-    let Some(defender) = common_colour(game.present(), &targets) else {
-        return Err(GameFault::MixedTargets);
-    };
-    match game.into_problem(region, targets, defender) {
-        Ok(line) => Ok(line),
-        Err(_) => Err(GameFault::NoMemory),
-    }
+    let defender = defender_of(last.node, game.present(), &targets)?;
+    Ok(game.into_problem(region, targets, defender)?)
 }
 
 /// The problem at the first of these nodes with TR.
 fn problem_at_targets(replay: GameSoFar, nodes: &[Node]) -> Result<Line, GameFault>
-    ensures { ReturnsUnlessNoMemory result (problem_at_targets replay nodes.now) }
+    ensures { ReturnsUnlessNoMemory result (problem_at_targets 0 replay nodes.now) }
 {
     let mut last = replay;
     let mut rest = nodes;
+    let mut number: usize = 0;
     while let Some((node, behind)) = rest.split_first() {
+        number += 1;
+        last.node = number;
         last.play_node(node)?;
         if has_value(node.props.as_slice(), b"TR") {
-            return problem_at(last.game, node);
+            return problem_at_node(last, node);
         }
         rest = behind;
     }

@@ -2,23 +2,24 @@
 
 ghost use Rattle.std.specs.Prelude.{◌≡◌, Some};
 ghost use Rattle.tt_sgf.specs.Values.{point_of, trimmed};
-ghost use Rattle.tt_sgf.specs.PointLists.{set_of};
 ghost use Rattle.tt_board.specs.Setup.{placed};
 ghost use Rattle.tt_game.specs.Turns.{IsTurnOnBoardOfSize};
-ghost use Rattle.tt_game.specs.Nodes.{values_of, mover_of_values, AB, AW, AE, PL, B, W};
-ghost use Rattle.tt_game.specs.Records.{ReturnsUnlessNoMemory, UpdatesUnlessNoMemory, fault_of, as_turn, play_next_turn, play_turn_by, play_named_turn, play_node_move, game_after_setup};
-ghost use Rattle.tt_game.specs.Records.{set_up_by, step_node, empty_game_of_size, empty_game_for_root, empty_game_for_nodes, apply_nodes, record_of_game, record_of};
+ghost use Rattle.tt_game.specs.Faults.{bad_first_value};
+ghost use Rattle.tt_game.specs.Nodes.{values_of, B, W};
+ghost use Rattle.tt_game.specs.Records.{ReturnsUnlessNoMemory, UpdatesUnlessNoMemory, fault_of, turn_point, as_turn, play_next_turn, play_turn_by, play_named_turn, play_node_move, game_after_setup};
+ghost use Rattle.tt_game.specs.Records.{set_up_node, step_node, empty_game_of_size, empty_game_for_root, empty_game_for_nodes, apply_nodes, record_of_game, record_of};
 
 use crate::faults::{GameFault, Refused, Why};
 use crate::game::Game;
+use crate::least_points::least_point;
 use crate::nodes::{
-    are_disjoint, first_value, has_move, has_several_moves, is_go, mover_of_properties, named_set,
-    said_size, sets_up,
+    first_value, has_move, has_several_moves, in_two_sets, is_go, said_size, sets_up,
 };
+use crate::reading::{bad_first_value, read_mover, read_set};
 use crate::turns::Turn;
 use std::alloc::Global;
-use tt_board::Colour;
-use tt_sgf::{MOST_SIDE, MainLine, Node, PointOrPass, PointSet, Property, Size, point};
+use tt_board::{Colour, Lifeless};
+use tt_sgf::{MOST_SIDE, MainLine, Node, Point, PointOrPass, PointSet, Property, Size, point};
 
 /// What a record comes to.
 #[derive(Clone, Copy, Debug, PartialEq, Eq)]
@@ -34,21 +35,35 @@ pub struct Record {
 /// So many turns a record has at the most.
 pub(crate) const MOST_TURNS: u16 = 2_000;
 
-/// The game that a main line has come to, and how many turns were played.
+/// The game that a main line has come to, how many turns were played, and the number of the node at hand.
 #[derive(Drop)]
 pub(crate) struct GameSoFar {
     pub(crate) game: Game,
     pub(crate) turns: u16,
+    pub(crate) node: usize,
 }
 
-/// The fault that a refused turn is.
-fn fault_of(why: Why) -> GameFault
-    ensures { result ≡ fault_of why }
+/// The point of a play; a pass has none.
+fn turn_point(t: &Turn) -> Option<Point>
+    ensures { result ≡ turn_point t.now }
 {
+    match t {
+        Turn::Play(p) => Some(*p),
+        Turn::Pass => None,
+    }
+}
+
+/// The fault that a refused turn is, by the number of its node and its point.
+fn fault_of(node: usize, at: Option<Point>, why: Why) -> GameFault
+    ensures { result ≡ fault_of node at why }
+{
+    let Some(point) = at else {
+        return GameFault::AfterEnd { node };
+    };
     match why {
-        Why::Over => GameFault::AfterEnd,
-        Why::Occupied | Why::Outside => GameFault::OccupiedPoint,
-        Why::Repeats => GameFault::RepeatedBoard,
+        Why::Over => GameFault::AfterEnd { node },
+        Why::Occupied | Why::Outside => GameFault::OccupiedPoint { node, point },
+        Why::Repeats => GameFault::RepeatedBoard { node, point },
     }
 }
 
@@ -69,17 +84,18 @@ impl GameSoFar {
         ensures { UpdatesUnlessNoMemory result self.new (play_next_turn self.old t) }
     {
         if self.game.passes() == 2 {
-            return Err(GameFault::AfterEnd);
+            return Err(GameFault::AfterEnd { node: self.node });
         }
         if self.turns >= MOST_TURNS {
-            return Err(GameFault::TooManyTurns);
+            return Err(GameFault::TooManyTurns { node: self.node });
         }
+        let at = turn_point(&t);
         match self.game.push(t) {
             Ok(()) => {
                 self.turns += 1;
                 Ok(())
             }
-            Err(Refused::Illegal(why)) => Err(fault_of(why)),
+            Err(Refused::Illegal(why)) => Err(fault_of(self.node, at, why)),
             Err(Refused::NoMemory) => Err(GameFault::NoMemory),
         }
     }
@@ -95,31 +111,38 @@ impl GameSoFar {
         self.play_turn(t)
     }
 
-    /// The turn that a value of a colour names.
-    fn play_named_turn(&mut self, colour: Colour, value: &[u8]) -> Result<(), GameFault>
-        ensures { UpdatesUnlessNoMemory result self.new (play_named_turn self.old colour (point_of self.old.game.size (trimmed value.now))) }
+    /// The turn that a value of a colour names. The properties are those of the node at hand, and this is the value's name.
+    fn play_named_turn(
+        &mut self,
+        colour: Colour,
+        value: &[u8],
+        properties: &[Property],
+        name: &[u8],
+    ) -> Result<(), GameFault>
+        ensures { UpdatesUnlessNoMemory result self.new
+            (play_named_turn self.old colour (bad_first_value self.old.node name.now 0 properties.now) (point_of self.old.game.size (trimmed value.now))) }
     {
         let Some(t) = point(value, self.game.size()) else {
-            return Err(GameFault::BadValue);
+            return Err(bad_first_value(self.node, properties, name));
         };
         self.play_turn_by(colour, as_turn(t))
     }
 
     /// The move of a node, where it has one.
     fn play_node_move(&mut self, properties: &[Property]) -> Result<(), GameFault>
-        ensures { UpdatesUnlessNoMemory result self.new (play_node_move self.old (values_of B properties.now) (values_of W properties.now)) }
+        ensures { UpdatesUnlessNoMemory result self.new (play_node_move self.old properties.now (values_of B properties.now) (values_of W properties.now)) }
     {
         if let Some(value) = first_value(properties, b"B") {
-            return self.play_named_turn(Colour::Black, value);
+            return self.play_named_turn(Colour::Black, value, properties, b"B");
         }
         if let Some(value) = first_value(properties, b"W") {
-            return self.play_named_turn(Colour::White, value);
+            return self.play_named_turn(Colour::White, value, properties, b"W");
         }
         Ok(())
     }
 
     /// Puts the sets over the present board, which begins the game anew.
-    #[tactic(auto, using(crate::proofs::RecordLemmas::is_alive, crate::proofs::RecordLemmas::not_alive))]
+    #[tactic(auto, using(crate::proofs::FaultLemmas::all_alive, crate::proofs::FaultLemmas::least_lifeless))]
     fn restart_from_setup(
         &mut self,
         black: &PointSet,
@@ -129,38 +152,29 @@ impl GameSoFar {
     ) -> Result<(), GameFault>
         ensures { UpdatesUnlessNoMemory result self.new (game_after_setup self.old (placed self.old.game.size self.old.game.present black.now white.now clear.now) colour) }
     {
-        let Ok(board) = self.game.present().set_up(black, white, clear) else {
-            return Err(GameFault::StoneWithoutLiberty);
-        };
-        if self.game.restart_with(board, colour).is_err() {
-            return Err(GameFault::NoMemory);
+        match self.game.present().set_up(black, white, clear) {
+            Ok(board) => Ok(self.game.restart_with(board, colour)?),
+            Err(Lifeless(point)) => Err(GameFault::StoneWithoutLiberty {
+                node: self.node,
+                point,
+            }),
         }
-        Ok(())
     }
 
     /// What a setup node does.
-    fn set_up_node(&mut self, properties: &[Property]) -> Result<(), GameFault>
-        ensures { UpdatesUnlessNoMemory result self.new (set_up_by self.old (set_of self.old.game.size (values_of AB properties.now)) (set_of self.old.game.size (values_of AW properties.now))
-            (set_of self.old.game.size (values_of AE properties.now)) (mover_of_values (values_of PL properties.now))) }
+    fn set_up_node(&mut self, node: &Node) -> Result<(), GameFault>
+        ensures { UpdatesUnlessNoMemory result self.new (set_up_node self.old node.now) }
     {
         let size = self.game.size();
-        let Ok(black) = named_set(properties, b"AB", size) else {
-            return Err(GameFault::BadValue);
-        };
-        let Ok(white) = named_set(properties, b"AW", size) else {
-            return Err(GameFault::BadValue);
-        };
-        let Ok(clear) = named_set(properties, b"AE", size) else {
-            return Err(GameFault::BadValue);
-        };
-        let Some(colour) = mover_of_properties(properties) else {
-            return Err(GameFault::BadValue);
-        };
-        if !(are_disjoint(&black, &white)
-            && are_disjoint(&black, &clear)
-            && are_disjoint(&white, &clear))
-        {
-            return Err(GameFault::PointTwice);
+        let black = read_set(self.node, node, b"AB", size)?;
+        let white = read_set(self.node, node, b"AW", size)?;
+        let clear = read_set(self.node, node, b"AE", size)?;
+        let colour = read_mover(self.node, node)?;
+        if let Some(point) = least_point(&in_two_sets(&black, &white, &clear)) {
+            return Err(GameFault::PointTwice {
+                node: self.node,
+                point,
+            });
         }
         self.restart_from_setup(&black, &white, &clear, colour)
     }
@@ -172,12 +186,12 @@ impl GameSoFar {
     {
         if sets_up(node) {
             if has_move(node) {
-                return Err(GameFault::MixedNode);
+                return Err(GameFault::MixedNode { node: self.node });
             }
-            return self.set_up_node(node.props.as_slice());
+            return self.set_up_node(node);
         }
         if has_several_moves(node) {
-            return Err(GameFault::MixedNode);
+            return Err(GameFault::MixedNode { node: self.node });
         }
         self.play_node_move(node.props.as_slice())
     }
@@ -186,10 +200,11 @@ impl GameSoFar {
     fn begin(alloc: Global, size: Size) -> Result<GameSoFar, GameFault>
         ensures { ReturnsUnlessNoMemory result (empty_game_of_size (Some size)) }
     {
-        match Game::empty(alloc, size) {
-            Ok(game) => Ok(GameSoFar { game, turns: 0 }),
-            Err(_) => Err(GameFault::NoMemory),
-        }
+        Ok(GameSoFar {
+            game: Game::empty(alloc, size)?,
+            turns: 0,
+            node: 0,
+        })
     }
 
     /// Before the first node: its game and its size.
@@ -222,11 +237,14 @@ pub(crate) fn empty_game_for_nodes(alloc: Global, nodes: &[Node]) -> Result<Game
 
 /// After all nodes.
 pub(crate) fn apply_nodes(replay: GameSoFar, nodes: &[Node]) -> Result<GameSoFar, GameFault>
-    ensures { ReturnsUnlessNoMemory result (apply_nodes replay nodes.now) }
+    ensures { ReturnsUnlessNoMemory result (apply_nodes 0 replay nodes.now) }
 {
     let mut last = replay;
     let mut rest = nodes;
+    let mut number: usize = 0;
     while let Some((node, behind)) = rest.split_first() {
+        number += 1;
+        last.node = number;
         last.play_node(node)?;
         rest = behind;
     }

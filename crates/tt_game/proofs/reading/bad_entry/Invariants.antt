@@ -1,0 +1,12 @@
+use Rattle.std.proofs.Common.{◌≡◌, length, ◌+◌}
+use Rattle.tt_game.specs.Faults.{bad_entry}
+use Rattle.tt_game.proofs.reading.bad_entry.Given as goal
+
+abbrev pub invariant-loop-first : goal.invariant-loop-first
+invariant-loop-first l = record {
+  all : bad_entry l.node l.size l.name l.property l.rest ≡ bad_entry l.node l.size l.name 0 l.properties;
+  most : l.property + length l.rest ≡ length l.properties;
+}
+
+abbrev pub decreases-loop-first : goal.decreases-loop-first
+decreases-loop-first l = length l.rest
