@@ -1,9 +1,11 @@
--- Unconditional life: stones that no play can take, even if their side always passes (D. B. Benson, Life in the Game of Go, 1976).
+-- Unconditional life: stones that the attacker can't take, even if their side always passes (D. B. Benson, Life in the Game of Go, 1976).
+-- Benson speaks of chains and their vital regions. Here a stone touches a point by stones of the set that link it to a neighbour of it.
 -- Benson asks that a chain touches each empty point of an eye. Under the Tromp-Taylor rules several stones may commit suicide: the
 -- attacker fills such an eye, empties it, and it's larger than before. So here each point of an eye has to be touched, those with the
 -- attacker's stones among them. (;SZ[5:1]AB[ca]AW[aa][ea]PL[W]TR[ca]) shows why:
 --
---     O . X . O     White's play on b gives up two stones. White plays on b again, and on d, which takes the stone on c
+--     O . X . O     White's play on b gives up two stones. White plays on b again, and on d, which takes the stone on c, if Black
+--                   only passes
 --
 use Rattle.std.specs.Prelude.{◌≡◌, ◌≢◌, ℕ, ◌<◌, ◌⊎◌, List, Some, None, Bool, All, IsTrue}
 use Rattle.std.specs.FinSet as set
@@ -79,7 +81,7 @@ IsUnconditionallyAlive f c = (stones : Points) × AreUnconditionallyAlive f c st
 abbrev pub HasWonOrLives : Side → Frame → State → Type 0
 HasWonOrLives side f s = (winner_of f s ≡ Some side) ⊎ ((side ≡ Defender) × (s.to_move ≡ Attacker) × IsUnconditionallyAlive f s.present)
 
--- the attacker's play on an empty point of the region leaves them so
+-- the attacker's play on an empty point of the region leaves them so, the same stones with the targets among them
 abbrev pub LifeIsKept : Type 0
 LifeIsKept = (f : Frame) (c : Colouring) (stones : Points) (p : ℕ) → AreUnconditionallyAlive f c stones → entry_at c p ≡ None
     → IsTrue (set.contains f.region p) → AreUnconditionallyAlive f (play_of f.size c (other f.defender) p) stones
@@ -92,6 +94,6 @@ LifeIsNeverTaken = (f : Frame) (s : State) (n : ℕ) → IsUnconditionallyAlive 
 abbrev pub LifeLives : Type 0
 LifeLives = (f : Frame) (s : State) → IsWellFormedState f s → IsUnconditionallyAlive f s.present → HasValue f s lives × Forces f Defender (game_length_bound f) s
 
--- a side that has won or lives is one over which the other side doesn't force a win
+-- where a side has won or lives, the other side doesn't force a win
 abbrev pub WonOrLivesIsHeld : Type 0
 WonOrLivesIsHeld = (side : Side) (f : Frame) (s : State) (n : ℕ) → HasWonOrLives side f s → Forces f (opponent side) n s → ⊥

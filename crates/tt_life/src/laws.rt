@@ -2,13 +2,12 @@
 
 ghost use Rattle.tt_life.specs.Life.{LifeIsKept, LifeIsNeverTaken, LifeLives, WonOrLivesIsHeld};
 
-/// Where the attacker plays in the region, stones that are unconditionally alive stay so.
+/// Where the attacker plays in the region, stones that make the targets unconditionally alive stay so.
 pub fn life_is_kept()
     ensures { LifeIsKept }
 {}
 
-/// Where the targets are unconditionally alive the attacker can't force a win, in any number of turns: not even if the defender
-/// always passes.
+/// Where the targets are unconditionally alive the attacker can't force a win, in any number of turns.
 pub fn life_is_never_taken()
     ensures { LifeIsNeverTaken }
 {}
@@ -20,7 +19,8 @@ pub fn life_lives()
     tt_game::laws::values_are_forced();
 }
 
-/// Where a side has won, or where it is the defender's targets that are unconditionally alive, the other side can't force a win.
+/// Where a side has won or lives, the other side can't force a win. The defender lives where the attacker is to move and the targets
+/// are unconditionally alive.
 pub fn won_or_lives_is_held()
     ensures { WonOrLivesIsHeld }
 {}

@@ -1,4 +1,4 @@
-//! Unconditional life: stones that no play can take, even if their side always passes (D. B. Benson, Life in the Game of Go, 1976).
+//! Unconditional life: stones that the attacker can't take, even if their side always passes (D. B. Benson, Life in the Game of Go, 1976).
 //!
 //! | Module | What it has |
 //! |---|---|

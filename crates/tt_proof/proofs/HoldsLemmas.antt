@@ -48,6 +48,20 @@ module _ (side : Side) (f : Frame) where
     holds_behind (entry t' u es) t s n (inl w) h = strategy_holds u (after f s t) n w.1 h
     holds_behind (entry t' u es) t s n (inr w) h = holds_behind es t s n w h
 
+-- the attacker's strategy never ends at life
+module _ (f : Frame) where
+  mutual
+    pub attacker_wins : (u : Strategy) (s : State) → WinsOrLives Attacker f u s → Wins Attacker f u s
+    attacker_wins done s (inl w) = w
+    attacker_wins done s (inr (e, _, _)) = cc
+    attacker_wins (pick t u) s w = (w.0, w.1, w.2, attacker_wins u (after f s t) w.3)
+    attacker_wins (reply es) s w = (w.0, w.1, λ t l. attacker_wins_behind es t s (w.2 t l))
+
+    attacker_wins_behind : (es : Entries) (t : Turn) (s : State) → WinsBehindUnder at_win_or_life Attacker f es t s → WinsBehind Attacker f es t s
+    attacker_wins_behind none t s w = w
+    attacker_wins_behind (entry t' u es) t s (inl w) = inl (w.0, attacker_wins u (after f s t) w.1)
+    attacker_wins_behind (entry t' u es) t s (inr w) = inr (attacker_wins_behind es t s w)
+
 -- so the side of the strategy forces a win at a state of the game
 pub strategy_forces : (side : Side) (f : Frame) (u : Strategy) (s : State) → IsWellFormedState f s → WinsOrLives side f u s → Forces f side (game_length_bound f) s
 strategy_forces Attacker f u s is w = elim (some_side f s is) [ inl a ↦ a | inr d ↦ absurd (strategy_holds Attacker f u s (game_length_bound f) w d) ]

@@ -5,7 +5,8 @@ use Rattle.tt_game.specs.declared.frame.Side.{Side}
 use Rattle.tt_game.specs.declared.frame.Frame.{Frame}
 use Rattle.tt_life.specs.Life.{HasWonOrLives}
 
--- where its side has won; or there, and where the attacker is to move and the targets are unconditionally alive
+-- where its side has won; or there, and, for a strategy of the defender, where the attacker is to move and the targets are
+-- unconditionally alive
 pub data EndRule : Type 0 where
   at_win : EndRule
   at_win_or_life : EndRule

@@ -46,7 +46,7 @@ abbrev pub IsEntryJoined : Frame → State → Turn → Strategy → Footprint �
 IsEntryJoined f s t u old new =
     (es : List (Turn × Strategy)) → IsFootprint f s (reply (entries_of es)) old → IsFootprint f s (reply (entries_of (es ++ (t, u) ∷ []))) new
 
--- the tree wins for the side from the state, and the footprint is its own
+-- the tree wins for the side from the state, by the rule on where it may end, and the footprint is its own
 pub record WinsWithFootprint (rule : EndRule) (side : Side) (f : Frame) (s : State) (u : Strategy) (x : Footprint) : Type 0 where
   pub won : IsWinningTreeUnder rule side f s u
   pub footprint : IsFootprint f s u x

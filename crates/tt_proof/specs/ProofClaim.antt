@@ -16,13 +16,13 @@ pub record ProofClaim : Type 0 where
   pub side : Side
   pub tree : Strategy
 
--- the tree wins, has at most 512 turns on any way down, and is in order
+-- the tree wins by the rule on where it may end, has at most 512 turns on any way down, and is in order
 pub record IsWinningTreeUnder (rule : EndRule) (side : Side) (f : Frame) (s : State) (u : Strategy) : Type 0 where
   pub wins : WinsUnder rule side f u s
   pub shallow : depth u ≤ MOST_DEPTH
   pub in_order : IsInOrder f.size u
 
--- so it is, and it ends only where its side has won
+-- the same, where it may end only where its side has won
 abbrev pub IsWinningTree : Side → Frame → State → Strategy → Type 0
 IsWinningTree = IsWinningTreeUnder at_win
 

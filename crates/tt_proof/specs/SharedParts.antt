@@ -11,7 +11,7 @@ use Rattle.tt_proof.specs.declared.position_footprint.PositionFootprint.{Positio
 use Rattle.tt_proof.specs.declared.outline_replay.ReplayResult.{ReplayResult}
 use Rattle.tt_proof.specs.declared.outline_replay.ReplayResult.TheVariants.{Won, Lost, Unfit}
 use Rattle.tt_proof.specs.Outlines.{Outline, Branches, ended, picked, replied, part, no_branch, branch}
-use Rattle.tt_life.specs.Life.{HasWonOrLives}
+use Rattle.tt_proof.specs.EndRules.{at_win_or_life, MayEnd}
 use Rattle.tt_proof.specs.Footprints.{IsRepeatedByPlay, MakesColouring}
 use Rattle.tt_proof.specs.KeptFootprints.{board_of_colouring}
 
@@ -139,8 +139,8 @@ module _ (f : Frame) where
 module _ (side : Side) (f : Frame) where
   -- on an ended tree
   abbrev pub IsResultOfDone : State → ReplayResult → Type 0
-  IsResultOfDone s (Won x) = HasWonOrLives side f s × RestsOnPositionAlone f s x
-  IsResultOfDone s Lost = HasWonOrLives side f s → ⊥
+  IsResultOfDone s (Won x) = MayEnd at_win_or_life side f s × RestsOnPositionAlone f s x
+  IsResultOfDone s Lost = MayEnd at_win_or_life side f s → ⊥
   IsResultOfDone s Unfit = ⊥
 
   -- on a node, by what is found behind it. Where no play leads on, the names are those that are skipped.

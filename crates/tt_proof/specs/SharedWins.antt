@@ -10,8 +10,8 @@ use Rattle.tt_proof.specs.SharedParts.{IsOutlineAnswer}
 use Rattle.tt_proof.specs.Strategy.{depth}
 use Rattle.tt_proof.specs.Wins.{WinsOrLives}
 
--- the bytes are a certificate with shared parts: with its names' trees put in it wins for the side from the state, has at most so
--- many turns on each way down, and begins with that turn; each of its parts fits where play reaches it
+-- the bytes are a certificate with shared parts: with its names' trees put in it wins for the side from the state, or ends at life,
+-- has at most so many turns on each way down, and begins with that turn; each of its parts fits where play reaches it
 pub record IsWinningSharedCertificate (f : Frame) (s : State) (side : Side) (first : Option Turn) (most : ℕ) (bytes : List ℕ) : Type 0 where
   pub outline : Outline
   pub is : IsSharedCertificate f.size bytes side outline

@@ -8,6 +8,7 @@ use Rattle.tt_board.specs.Position.{Colouring}
 use Rattle.tt_game.specs.Game.{State, Forces, after, history, opponent, colouring_after_play, game_length_bound}
 use Rattle.tt_game.specs.GameLaws.{IsWellFormedState}
 use Rattle.tt_game.specs.declared.frame.Side.{Side}
+use Rattle.tt_game.specs.declared.frame.Side.TheVariants.{Attacker}
 use Rattle.tt_game.specs.declared.frame.Frame.{Frame}
 use Rattle.tt_game.specs.declared.turns.Turn.{Turn}
 use Rattle.tt_game.specs.declared.turns.Turn.TheVariants.{Play}
@@ -27,9 +28,18 @@ abbrev pub StrategyToLifeForces : Type 0
 StrategyToLifeForces = (side : Side) (f : Frame) (u : Strategy) (s : State) → WinsOrLives side f u s
     → ((n : ℕ) → Forces f (opponent side) n s → ⊥) × (IsWellFormedState f s → Forces f side (game_length_bound f) s)
 
+-- a strategy that wins also wins where it may end at life; for the attacker no other strategy does
+abbrev pub WinsAreWinsOrLives : Type 0
+WinsAreWinsOrLives = (f : Frame) (u : Strategy) (s : State)
+    → ((side : Side) → Wins side f u s → WinsOrLives side f u s) × (WinsOrLives Attacker f u s → Wins Attacker f u s)
+
 -- a strategy that wins from one state wins from each state that it fits
 abbrev pub FittingTreesWin : Type 0
 FittingTreesWin = (side : Side) (f : Frame) (u : Strategy) (s s' : State) → Wins side f u s → Fits f u s s' → Wins side f u s'
+
+-- so does a strategy that may end at life
+abbrev pub FittingTreesWinOrLive : Type 0
+FittingTreesWinOrLive = (side : Side) (f : Frame) (u : Strategy) (s s' : State) → WinsOrLives side f u s → Fits f u s s' → WinsOrLives side f u s'
 
 -- where a strategy fits, and the history has no colouring that it meets but what its own history has, it needs, avoids and meets
 -- there what it does at its own state

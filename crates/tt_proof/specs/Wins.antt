@@ -29,6 +29,6 @@ Wins = WinsUnder at_win
 abbrev pub WinsBehind : Side → Frame → Entries → Turn → State → Type 0
 WinsBehind = WinsBehindUnder at_win
 
--- it wins, and may also end where the attacker is to move and the targets are unconditionally alive
+-- it wins; and if it's the defender's, it may also end where the attacker is to move and the targets are unconditionally alive
 abbrev pub WinsOrLives : Side → Frame → Strategy → State → Type 0
 WinsOrLives = WinsUnder at_win_or_life

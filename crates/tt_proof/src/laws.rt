@@ -1,22 +1,32 @@
 //! Laws of trees and of certificates, over the definitions alone.
 
 ghost use Rattle.tt_proof.specs.OutlineLaws.{OneOutlinePerCertificate, PlainIsSharedCertificate, OneAnswerPerOutline};
-ghost use Rattle.tt_proof.specs.StrategyLaws.{WinningStrategyForces, StrategyToLifeForces, FittingTreesWin, FootprintsCarryOverIfUnmet, NeedsLosePlayedColouring, OneStrategyPerTextPrefix, OneStrategyPerCertificate, StrategyOfEquations};
+ghost use Rattle.tt_proof.specs.StrategyLaws.{WinningStrategyForces, StrategyToLifeForces, WinsAreWinsOrLives, FittingTreesWin, FittingTreesWinOrLive, FootprintsCarryOverIfUnmet, NeedsLosePlayedColouring, OneStrategyPerTextPrefix, OneStrategyPerCertificate, StrategyOfEquations};
 
 /// A winning tree of depth n makes its side force a win within n turns.
 pub fn l1()
     ensures { WinningStrategyForces }
 {}
 
-/// Where a tree wins that may end at life, the other side can't force a win, in any number of turns; so its side forces one within twice
-/// as many turns as there are colourings of the board.
+/// Where a tree wins that may end at life, the other side can't force a win, in any number of turns. So at a state of the game the tree's
+/// side forces one, within twice as many turns as there are colourings of the board.
 pub fn strategy_to_life_forces()
     ensures { StrategyToLifeForces }
+{}
+
+/// A tree that wins also wins where it may end at life. For the attacker no other tree does: a kill never ends at life.
+pub fn wins_are_wins_or_lives()
+    ensures { WinsAreWinsOrLives }
 {}
 
 /// A tree that wins from one state wins from each state that it fits, whatever the path there.
 pub fn l3()
     ensures { FittingTreesWin }
+{}
+
+/// So does a tree that may end at life.
+pub fn fitting_trees_win_or_live()
+    ensures { FittingTreesWinOrLive }
 {}
 
 /// A footprint may be taken to another history without a walk through its tree: where the tree fits, and the history has no

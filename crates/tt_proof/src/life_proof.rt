@@ -1,4 +1,5 @@
-//! Proofs whose trees may also end at life: where the attacker is to move and the targets are unconditionally alive.
+//! Proofs whose trees, if they are the defender's, may also end at life: where the attacker is to move and the targets are
+//! unconditionally alive.
 
 ghost use Rattle.std.specs.Prelude.{◌≡◌, ◌≢◌, ◌≤◌, ◌↔◌, IfOk, IfSome, IsTrue, None, Ok};
 ghost use Rattle.tt_game.specs.Game.{winner_of, opponent, IsLegal};
@@ -128,6 +129,7 @@ impl LifeProof {
         ensures at_wins { IfSome result (λ _. IsWinningTree self.now.side self.now.frame self.now.state self.now.tree
             → IsWinningTree self.now.side line.now.frame line.now.state self.now.tree) }
         ensures exact { IfSome result (λ x. IsFootprint line.now.frame line.now.state self.now.tree x.now) }
+        ensures stands { StandsAt self.now line.now.frame line.now.state → result ≢ None }
     {
         let own = &self.footprint;
         if self.snapshot.is_state_of(line) {
@@ -142,9 +144,10 @@ impl LifeProof {
     }
 
     /// A proof of the same tree at the line, where the proof's own footprint is seen to be that there without a walk through the
-    /// tree; else none.
+    /// tree, as always where the proof stands at the line; else none.
     pub fn moved_if_known(&self, alloc: Global, line: &Line) -> Result<Option<LifeProof>, NoMemory>
         ensures made { IfOk result (λ o. IfSome o (λ p. StandsAt p line.now.frame line.now.state × (p.side ≡ self.now.side) × (p.tree ≡ self.now.tree))) }
+        ensures stands { StandsAt self.now line.now.frame line.now.state → result ≢ Ok None }
     {
         let Some(own) = self.footprint_if_known(line) else {
             return Ok(None);

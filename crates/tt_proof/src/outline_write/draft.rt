@@ -52,7 +52,7 @@ impl Draft {
         self.text.len().saturating_sub(self.marked.len()) > self.most_bytes
     }
 
-    /// Writes a leaf, where somebody has won.
+    /// Writes a leaf, where the side has won or lives.
     fn put_done(&mut self, alloc: Global, line: &Line) -> Result<Option<TreeFacts>, NoMemory> {
         self.text.push(b'.')?;
         Ok(Some(TreeFacts {
