@@ -33,14 +33,14 @@ pub step_refused : {A B : Type 0} (r : Result A GameFault) (f : A → Result B G
 step_refused (Ok x) f e h = inr (x, refl, h)
 step_refused (Err c) f e h = inl (let same : c ≡ e = cc in ap Err same)
 
-abbrev IsAt : ℕ → GameFault → Type 0
+abbrev pub IsAt : ℕ → GameFault → Type 0
 IsAt k e = fault_node e ≡ Some k
 
 -- the fault that is handed on
-abbrev fails : {A : Type 0} → GameFault → Result A GameFault
+abbrev pub fails : {A : Type 0} → GameFault → Result A GameFault
 fails e = Err e
 
-handed : {A : Type 0} (k : ℕ) (f e : GameFault) → IsAt k f → fails {A = A} f ≡ Err e → IsAt k e
+pub handed : {A : Type 0} (k : ℕ) (f e : GameFault) → IsAt k f → fails {A = A} f ≡ Err e → IsAt k e
 handed k f e at h = let same : f ≡ e = cc in subst (IsAt k) same at
 
 missing_at : {A : Type 0} (k : ℕ) (o : Option A) (f e : GameFault) → IsAt k f → or_fault o f ≡ Err e → IsAt k e
@@ -65,7 +65,7 @@ bad_first_at k name i (p ∷ ps) = elim (cases_Bool (has_value_named name p)) [
   | inr behind ↦ rw behind (bad_first_at k name (i + 1) ps)
 ]
 
-set_at : (k : ℕ) (size : Size) (name : List ℕ) (n : Node) (e : GameFault) → read_set k size name n ≡ Err e → IsAt k e
+pub set_at : (k : ℕ) (size : Size) (name : List ℕ) (n : Node) (e : GameFault) → read_set k size name n ≡ Err e → IsAt k e
 set_at k size name n e h = missing_at k _ (bad_entry k size name 0 n.props) e (bad_entry_at k size name 0 n.props) h
 
 -- ---- turns
@@ -84,7 +84,7 @@ module _ (r : GameSoFar) (e : GameFault) where
 
   next_at : (t : Turn) → play_next_turn r t ≡ Err e → IsAt r.node e
   next_at t h = elim (either (r.game.passes == 2) _ _ _ h) [
-    | inl over ↦ handed r.node (AfterEnd r.node) e refl over
+    | inl over ↦ handed r.node (AfterEnd r.node (turn_point t)) e refl over
     | inr on ↦ elim (either (nat_le 2000 r.turns) _ _ _ on) [ inl many ↦ handed r.node (TooManyTurns r.node) e refl many | inr few ↦ turn_at t (refusal_of r.game t) few ]
   ]
 
@@ -95,7 +95,7 @@ made_at r t None q h =
     sym (ap (λ (x : GameSoFar). x.node) same)
 made_at r t (Some why) q h = let bad : Err _ ≡ Ok q = h in cc
 
-next_made_at : (r : GameSoFar) (t : Turn) (q : GameSoFar) → play_next_turn r t ≡ Ok q → q.node ≡ r.node
+pub next_made_at : (r : GameSoFar) (t : Turn) (q : GameSoFar) → play_next_turn r t ≡ Ok q → q.node ≡ r.node
 next_made_at r t q h = elim (either (r.game.passes == 2) _ _ _ h) [
   | inl over ↦ let bad : Err _ ≡ Ok q = over in cc
   | inr on ↦ elim (either (nat_le 2000 r.turns) _ _ _ on) [

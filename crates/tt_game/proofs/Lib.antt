@@ -13,6 +13,7 @@ pub mod OpenProblems
 pub mod FaultNodes
 pub mod SizedProblems
 pub mod RecordLaws
+pub mod ProblemRefusals
 pub mod RootLemmas
 pub mod BoardStackLemmas
 pub mod MoveGeneratorLemmas

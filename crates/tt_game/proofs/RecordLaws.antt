@@ -50,7 +50,7 @@ use Rattle.tt_game.proofs.OpenProblems.{step_made}
 -- ---- choices
 
 -- which branch a choice took
-choice : {A : Type 0} (b : Bool) (x y z : A) → cond b x y ≡ z → ((b ≡ true) × (x ≡ z)) ⊎ ((b ≡ false) × (y ≡ z))
+pub choice : {A : Type 0} (b : Bool) (x y z : A) → cond b x y ≡ z → ((b ≡ true) × (x ≡ z)) ⊎ ((b ≡ false) × (y ≡ z))
 choice true x y z e = inl (refl, e)
 choice false x y z e = inr (refl, e)
 
@@ -387,7 +387,7 @@ unfolding record_of
 record_begun ns r e = ap (λ x. and_then x (λ s. and_then (apply_nodes 0 s ns) (λ q. Ok (record_of_game q.game)))) e
 
 -- a record that isn't begun is refused
-never_begun : (ns : List Node) (e : GameFault) → empty_game_for_nodes ns ≡ Err e → record_of ns ≡ Err e
+pub never_begun : (ns : List Node) (e : GameFault) → empty_game_for_nodes ns ≡ Err e → record_of ns ≡ Err e
 unfolding record_of
 never_begun ns e h = ap (λ x. and_then x (λ s. and_then (apply_nodes 0 s ns) (λ q. Ok (record_of_game q.game)))) h
 
@@ -396,21 +396,21 @@ common_size : Size
 common_size = record { columns = 19; rows = 19; columns_in = (omega arith, omega arith); rows_in = (omega arith, omega arith) }
 
 -- the record without a node
-empty_record : (r : Record) × (record_of [] ≡ Ok r)
+pub empty_record : (r : Record) × (record_of [] ≡ Ok r)
 unfolding record_of apply_nodes common_size
 empty_record = (record_of_game (empty_game common_size), ap (λ o. and_then (empty_game_of_size o) (λ r. and_then (apply_nodes 0 r []) (λ q. Ok (record_of_game q.game)))) (sized_returns_size common_size))
 
 -- a line without a node is never refused
-never_empty : (e : GameFault) → record_of [] ≡ Err e → ⊥
+pub never_empty : (e : GameFault) → record_of [] ≡ Err e → ⊥
 never_empty e h = let r = empty_record in let bad : Ok r.0 ≡ Err e = sym r.1 ∙ h in cc
 
 -- a line begins by its first node alone
-begins_alike : (front : List Node) (n : Node) (ns others : List Node) → empty_game_for_nodes (front ++ n ∷ others) ≡ empty_game_for_nodes (front ++ n ∷ ns)
+pub begins_alike : (front : List Node) (n : Node) (ns others : List Node) → empty_game_for_nodes (front ++ n ∷ others) ≡ empty_game_for_nodes (front ++ n ∷ ns)
 begins_alike [] n ns others = refl
 begins_alike (m ∷ front) n ns others = refl
 
 -- the nodes before a refused one are a record
-front_taken : (front : List Node) (n : Node) (ns : List Node) (r q : GameSoFar) → empty_game_for_nodes (front ++ n ∷ ns) ≡ Ok r → apply_nodes 0 r front ≡ Ok q → (s : Record) × (record_of front ≡ Ok s)
+pub front_taken : (front : List Node) (n : Node) (ns : List Node) (r q : GameSoFar) → empty_game_for_nodes (front ++ n ∷ ns) ≡ Ok r → apply_nodes 0 r front ≡ Ok q → (s : Record) × (record_of front ≡ Ok s)
 front_taken [] n ns r q begins runs = empty_record
 front_taken (m ∷ front) n ns r q begins runs =
     (record_of_game q.game, record_begun (m ∷ front) r begins ∙ ap (λ x. and_then x (λ s. Ok (record_of_game s.game))) runs)

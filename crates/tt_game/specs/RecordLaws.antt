@@ -70,6 +70,23 @@ pub record IsFirstRefusal (nodes : List Node) (e : GameFault) : Type 0 where
 abbrev pub FirstRefusalDecides : Type 0
 FirstRefusalDecides = (nodes : List Node) (e : GameFault) → record_of nodes ≡ Err e → IsFirstRefusal nodes e
 
+-- a problem's refusal is that of its least node that has one, and names it: no node before it marks a target, those nodes are a
+-- record, with it they are refused, and what stands behind it changes nothing
+pub record IsFirstProblemRefusal (nodes : List Node) (e : GameFault) : Type 0 where
+  pub front : List Node
+  pub node : Node
+  pub behind : List Node
+  pub score : Record
+  pub parts : nodes ≡ front ++ node ∷ behind
+  pub unmarked : All (λ n. has TR n ≡ false) front
+  pub taken : record_of front ≡ Ok score
+  pub at : fault_node e ≡ Some (length front + 1)
+  pub refused : (others : List Node) → problem_of (front ++ node ∷ others) ≡ Err e
+
+-- each refusal of a problem is that of its least node that has one; that there is no target is known behind the last node
+abbrev pub FirstProblemRefusalDecides : Type 0
+FirstProblemRefusalDecides = (nodes : List Node) (e : GameFault) → e ≢ NoTarget → problem_of nodes ≡ Err e → IsFirstProblemRefusal nodes e
+
 -- where a record is refused, and no node of it marks a target, the problem of a main line that begins so is refused alike
 abbrev pub RefusalsCarryToProblems : Type 0
 RefusalsCarryToProblems = (nodes behind : List Node) (e : GameFault) → All (λ n. has TR n ≡ false) nodes → record_of nodes ≡ Err e

@@ -2,7 +2,7 @@
 
 ghost use Rattle.tt_game.specs.GameLaws.{AtMostOneSideForces, SomeSideForces, ValuesAreForced, TurnsKeepStates, LegalTurnsAreListed, ProblemsHaveNoWinner, ProblemsAreStates};
 ghost use Rattle.tt_game.specs.Keys.{SameKeyIffAlike};
-ghost use Rattle.tt_game.specs.RecordLaws.{RecordsAreGames, ProblemsAreGames, SetupsBeginHistories, FirstRefusalDecides, RefusalsCarryToProblems, UnmarkedAreNoProblems, RepeatsTestIsExact};
+ghost use Rattle.tt_game.specs.RecordLaws.{RecordsAreGames, ProblemsAreGames, SetupsBeginHistories, FirstRefusalDecides, FirstProblemRefusalDecides, RefusalsCarryToProblems, UnmarkedAreNoProblems, RepeatsTestIsExact};
 
 /// Not both sides force a win at one state.
 pub fn l2()
@@ -67,6 +67,12 @@ pub fn setups_begin_histories()
 /// changes nothing.
 pub fn first_refusal_decides()
     ensures { FirstRefusalDecides }
+{}
+
+/// So is a problem's refusal, but for want of a target: no node before the refused one marks a target, and those nodes are a
+/// record.
+pub fn first_problem_refusal_decides()
+    ensures { FirstProblemRefusalDecides }
 {}
 
 /// Where a record is refused and none of its nodes marks a target, the problem of each main line that begins so is refused
