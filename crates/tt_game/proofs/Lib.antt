@@ -14,6 +14,7 @@ pub mod FaultNodes
 pub mod SizedProblems
 pub mod RecordLaws
 pub mod ProblemRefusals
+pub mod FaultPlaces
 pub mod RootLemmas
 pub mod BoardStackLemmas
 pub mod MoveGeneratorLemmas

@@ -1,7 +1,8 @@
 -- Where a problem is refused: the least node that has a refusal, and that it is named.
-use Rattle.std.proofs.Common.{◌≡◌, ℕ, ◌+◌, suc, List, [], ◌∷◌, ◌++◌, length, inl, inr, false, Option, Some, None, Ok, Err, refl, sym, ap, ◌∙◌, cond, nat_eq, nat_le, arith}
+use Rattle.std.proofs.Common.{◌≡◌, ℕ, ◌+◌, suc, List, [], ◌∷◌, ◌++◌, length, inl, inr, false, Option, Some, None, Ok, Err, refl, sym, ap, ◌∙◌, cond, nat_eq, nat_le, ◌&&◌, ◌<◌, true, arith}
 use Rattle.std.specs.Prelude.{All}
 use Rattle.std.specs.FinSet as set
+use Rattle.std.proofs.lemmas.Bool.{and_parts}
 use Rattle.std.proofs.lemmas.List.Elements.{All-cons, All-nil}
 use Rattle.tt_sgf.specs.declared.nodes.Node.{Node}
 use Rattle.tt_sgf.specs.declared.nodes.Property.{Property}
@@ -11,6 +12,9 @@ use Rattle.tt_board.specs.declared.Colour.{Colour}
 use Rattle.tt_board.specs.declared.Colour.TheVariants.{Black, White}
 use Rattle.tt_board.specs.Position.{Colouring}
 use Rattle.tt_board.specs.Play.{same_colour}
+use Rattle.tt_board.specs.Reach.{entry_at}
+use Rattle.tt_sgf.specs.Sizes.{point_count}
+use Rattle.tt_sgf.specs.declared.size.TheConstants.{MOST_POINTS}
 use Rattle.tt_board.specs.Setup.{placed}
 use Rattle.tt_board.specs.Stones.{PointNumberSet}
 use Rattle.tt_game.specs.declared.faults.GameFault.{GameFault}
@@ -18,107 +22,117 @@ use Rattle.tt_game.specs.declared.faults.GameFault.TheVariants.{EmptyTarget, Mix
 use Rattle.tt_game.specs.declared.records.GameSoFar.{GameSoFar}
 use Rattle.tt_game.specs.declared.turns.Turn.{Turn}
 use Rattle.tt_game.specs.declared.turns.Turn.TheVariants.{Pass}
-use Rattle.tt_game.specs.Faults.{fault_node, least_point, least_with_entry, least_without_liberty, read_mover, read_set}
+use Rattle.tt_game.specs.Faults.{fault_node, least_point, has_entry, least_with_entry, least_without_liberty, read_mover, read_set}
 use Rattle.tt_game.specs.Games.{begun_with}
 use Rattle.tt_game.specs.Nodes.{AB, AE, AW, B, SQ, TR, W, has, in_two_sets, is_setup, move_count, values_of}
 use Rattle.tt_game.specs.Problems.{defender_of, posed_problem, problem_at_node, problem_at_targets, problem_if_stones, problem_if_targets_valid, problem_of, read_region, whole}
 use Rattle.tt_game.specs.RecordLaws.{FirstProblemRefusalDecides, IsFirstProblemRefusal}
 use Rattle.tt_game.specs.Records.{and_then, apply_nodes, as_turn, at_node, empty_game_for_nodes, play_named_turn, play_next_turn, play_node_move, play_turn_by, set_up_node, set_up_or_fault, setup_or_fault, step_node}
-use Rattle.tt_game.proofs.FaultNodes.{begin_at, handed, next_made_at, set_at, step_at, step_refused}
-use Rattle.tt_game.proofs.OpenProblems.{either, step_made}
-use Rattle.tt_game.proofs.RecordLaws.{begins_alike, choice, empty_record, front_taken, never_begun, never_empty}
+use Rattle.tt_game.proofs.FaultLemmas.{least_in}
+use Rattle.tt_game.proofs.FaultNodes.{HoldsOfFaults, IsAt, Stays, at_holds, begin_at, handed, next_stays, marks_region, marks_targets, set_holds, set_in, stays_same, step_at, step_refused}
+use Rattle.tt_game.proofs.OpenProblems.{choice, either, step_made}
+use Rattle.tt_game.proofs.RecordLaws.{begins_alike, empty_record, front_taken, never_begun, never_empty}
 
--- ---- the number of the node at hand
+-- ---- nodes that are made
 
--- a turn of a colour that is made leaves it
-by_made_at : (r : GameSoFar) (k : Colour) (t : Turn) (q : GameSoFar) → play_turn_by r k t ≡ Ok q → q.node ≡ r.node
-by_made_at r k t q e = elim (either (same_colour r.game.to_move k) _ _ _ e) [
-  | inl its ↦ next_made_at r t q its
+-- a turn of a colour leaves the number of the node and the size
+by_stays : (r : GameSoFar) (k : Colour) (t : Turn) (q : GameSoFar) → play_turn_by r k t ≡ Ok q → Stays r q
+by_stays r k t q e = elim (either (same_colour r.game.to_move k) _ _ _ e) [
+  | inl its ↦ next_stays r t q its
   | inr others ↦
       let passed = step_made (play_next_turn r Pass) (λ x. play_next_turn x t) q others in
-      next_made_at passed.0 t q passed.2 ∙ next_made_at r Pass passed.0 passed.1
+      let first = next_stays r Pass passed.0 passed.1 in
+      let second = next_stays passed.0 t q passed.2 in
+      record { node = second.node ∙ first.node; size = second.size ∙ first.size }
 ]
 
-named_made_at : (r : GameSoFar) (k : Colour) (f : GameFault) (o : Option PointOrPass) (q : GameSoFar) → play_named_turn r k f o ≡ Ok q → q.node ≡ r.node
-named_made_at r k f None q e = let bad : Err _ ≡ Ok q = e in cc
-named_made_at r k f (Some v) q e = by_made_at r k (as_turn v) q e
+named_stays : (r : GameSoFar) (k : Colour) (f : GameFault) (o : Option PointOrPass) (q : GameSoFar) → play_named_turn r k f o ≡ Ok q → Stays r q
+named_stays r k f None q e = let bad : Err _ ≡ Ok q = e in cc
+named_stays r k f (Some v) q e = by_stays r k (as_turn v) q e
 
-move_made_at : (r : GameSoFar) (ps : List Property) (vs ws : List (List ℕ)) (q : GameSoFar) → play_node_move r ps vs ws ≡ Ok q → q.node ≡ r.node
-move_made_at r ps (v ∷ vs) ws q e = named_made_at r Black _ (point_of r.game.size (trimmed v)) q e
-move_made_at r ps [] (w ∷ ws) q e = named_made_at r White _ (point_of r.game.size (trimmed w)) q e
-move_made_at r ps [] [] q e = let same : r ≡ q = cc in ap (λ (x : GameSoFar). x.node) (sym same)
+move_stays : (r : GameSoFar) (ps : List Property) (vs ws : List (List ℕ)) (q : GameSoFar) → play_node_move r ps vs ws ≡ Ok q → Stays r q
+move_stays r ps (v ∷ vs) ws q e = named_stays r Black _ (point_of r.game.size (trimmed v)) q e
+move_stays r ps [] (w ∷ ws) q e = named_stays r White _ (point_of r.game.size (trimmed w)) q e
+move_stays r ps [] [] q e = let same : r ≡ q = cc in stays_same r q same
 
 -- so does a setup
-begun_at : (r : GameSoFar) (c : Colouring) (k : Colour) (o : Option ℕ) (q : GameSoFar) → setup_or_fault r c k o ≡ Ok q → q.node ≡ r.node
-begun_at r c k None q e =
+begun_stays : (r : GameSoFar) (c : Colouring) (k : Colour) (o : Option ℕ) (q : GameSoFar) → setup_or_fault r c k o ≡ Ok q → Stays r q
+begun_stays r c k None q e =
     let same : record { game = begun_with r.game.size c k; turns = r.turns; node = r.node } ≡ q = cc in
-    ap (λ (x : GameSoFar). x.node) (sym same)
-begun_at r c k (Some p) q e = let bad : Err _ ≡ Ok q = e in cc
+    record { node = ap (λ (x : GameSoFar). x.node) (sym same); size = ap (λ (x : GameSoFar). x.game.size) (sym same) }
+begun_stays r c k (Some p) q e = let bad : Err _ ≡ Ok q = e in cc
 
-sets_made_at : (r : GameSoFar) (black white bare : PointNumberSet) (k : Colour) (o : Option ℕ) (q : GameSoFar) → set_up_or_fault r black white bare k o ≡ Ok q → q.node ≡ r.node
-sets_made_at r black white bare k None q e =
-    let c = placed r.game.size r.game.present black white bare in begun_at r c k (least_without_liberty r.game.size c) q e
-sets_made_at r black white bare k (Some p) q e = let bad : Err _ ≡ Ok q = e in cc
+sets_stay : (r : GameSoFar) (black white bare : PointNumberSet) (k : Colour) (o : Option ℕ) (q : GameSoFar) → set_up_or_fault r black white bare k o ≡ Ok q → Stays r q
+sets_stay r black white bare k None q e =
+    let c = placed r.game.size r.game.present black white bare in begun_stays r c k (least_without_liberty r.game.size c) q e
+sets_stay r black white bare k (Some p) q e = let bad : Err _ ≡ Ok q = e in cc
 
-set_up_made_at : (r : GameSoFar) (n : Node) (q : GameSoFar) → set_up_node r n ≡ Ok q → q.node ≡ r.node
-set_up_made_at r n q e =
+set_up_stays : (r : GameSoFar) (n : Node) (q : GameSoFar) → set_up_node r n ≡ Ok q → Stays r q
+set_up_stays r n q e =
     let black = step_made (read_set r.node r.game.size AB n) _ q e in
     let white = step_made (read_set r.node r.game.size AW n) _ q black.2 in
     let bare = step_made (read_set r.node r.game.size AE n) _ q white.2 in
     let k = step_made (read_mover r.node n) _ q bare.2 in
-    sets_made_at r black.0 white.0 bare.0 k.0 (least_point (in_two_sets black.0 white.0 bare.0)) q k.2
+    sets_stay r black.0 white.0 bare.0 k.0 (least_point (in_two_sets black.0 white.0 bare.0)) q k.2
 
 -- and so does each node
-step_made_at : (r : GameSoFar) (n : Node) (q : GameSoFar) → step_node r n ≡ Ok q → q.node ≡ r.node
+pub step_stays : (r : GameSoFar) (n : Node) (q : GameSoFar) → step_node r n ≡ Ok q → Stays r q
 unfolding step_node
-step_made_at r n q e = elim (either (is_setup n) _ _ _ e) [
+step_stays r n q e = elim (either (is_setup n) _ _ _ e) [
   | inl setup ↦ elim (either (nat_le 1 (move_count n)) _ _ _ setup) [
     | inl mixed ↦ let bad : Err _ ≡ Ok q = mixed in cc
-    | inr pure ↦ set_up_made_at r n q pure
+    | inr pure ↦ set_up_stays r n q pure
   ]
   | inr moves ↦ elim (either (nat_le 2 (move_count n)) _ _ _ moves) [
     | inl mixed ↦ let bad : Err _ ≡ Ok q = mixed in cc
-    | inr pure ↦ move_made_at r n.props (values_of B n.props) (values_of W n.props) q pure
+    | inr pure ↦ move_stays r n.props (values_of B n.props) (values_of W n.props) q pure
   ]
 ]
 
 -- ---- the node with TR
 
-module _ (r : GameSoFar) (e : GameFault) where
-  defender_at : (a b : Option ℕ) → defender_of r.node a b ≡ Err e → fault_node e ≡ Some r.node
-  defender_at None b h = let bad : Ok _ ≡ Err e = h in cc
-  defender_at (Some p) None h = let bad : Ok _ ≡ Err e = h in cc
-  defender_at (Some p) (Some q) h = handed r.node (MixedTargets r.node p) e refl h
+module _ (P : GameFault → Type 0) (r : GameSoFar) (n : Node) (holds : HoldsOfFaults P r.node r.game.size n) (e : GameFault) where
+  defender_holds : (a b : Option ℕ) → ((p : ℕ) → a ≡ Some p → p < point_count r.game.size) → defender_of r.node a b ≡ Err e → P e
+  defender_holds None b on h = let bad : Ok _ ≡ Err e = h in cc
+  defender_holds (Some p) None on h = let bad : Ok _ ≡ Err e = h in cc
+  defender_holds (Some p) (Some q) on h = handed P (MixedTargets r.node p) e (holds.both p (on p refl)) h
 
-  stones_at : (region targets : PointNumberSet) (o : Option ℕ) → problem_if_stones r region targets o ≡ Err e → fault_node e ≡ Some r.node
-  stones_at region targets None h =
+  -- the least target of some kind is on the board
+  least_on : (targets : PointNumberSet) (k : Option Colour) → ((q : ℕ) → set.contains targets q ≡ true → q < point_count r.game.size)
+      → (p : ℕ) → least_with_entry targets r.game.present k ≡ Some p → p < point_count r.game.size
+  least_on targets k in_ p h = in_ p (and_parts _ _ (least_in (λ q. set.contains targets q && has_entry k (entry_at r.game.present q)) MOST_POINTS p h).1).0
+
+  stones_hold : (region targets : PointNumberSet) (o : Option ℕ) → ((q : ℕ) → set.contains targets q ≡ true → q < point_count r.game.size)
+      → ((p : ℕ) → o ≡ Some p → p < point_count r.game.size) → problem_if_stones r region targets o ≡ Err e → P e
+  stones_hold region targets None in_ on h =
       let white = least_with_entry targets r.game.present (Some White) in
       let black = least_with_entry targets r.game.present (Some Black) in
       elim (step_refused (defender_of r.node white black) _ e h) [
-        | inl both ↦ defender_at white black both
+        | inl both ↦ defender_holds white black (least_on targets (Some White) in_) both
         | inr one ↦ let bad : Ok (posed_problem r.game region targets one.0) ≡ Err e = one.2 in cc
       ]
-  stones_at region targets (Some p) h = handed r.node (EmptyTarget r.node p) e refl h
+  stones_hold region targets (Some p) in_ on h = handed P (EmptyTarget r.node p) e (holds.bare p (on p refl)) h
 
-  targets_at : (region targets : PointNumberSet) → (e ≡ NoTarget → ⊥) → problem_if_targets_valid r region targets ≡ Err e → fault_node e ≡ Some r.node
-  targets_at region targets other h = elim (either (nat_eq (set.len targets) 0) _ _ _ h) [
+  targets_hold : (region targets : PointNumberSet) → ((q : ℕ) → set.contains targets q ≡ true → q < point_count r.game.size) → (e ≡ NoTarget → ⊥)
+      → problem_if_targets_valid r region targets ≡ Err e → P e
+  targets_hold region targets in_ other h = elim (either (nat_eq (set.len targets) 0) _ _ _ h) [
     | inl none ↦ absurd (other (let same : NoTarget ≡ e = cc in sym same))
-    | inr some ↦ stones_at region targets (least_with_entry targets r.game.present None) some
+    | inr some ↦ stones_hold region targets (least_with_entry targets r.game.present None) in_ (least_on targets None in_) some
   ]
 
-  region_at : (n : Node) → read_region r.node r.game.size n ≡ Err e → fault_node e ≡ Some r.node
-  region_at n h = elim (either (has SQ n) _ _ _ h) [
-    | inl named ↦ set_at r.node r.game.size SQ n e named
+  region_holds : read_region r.node r.game.size n ≡ Err e → P e
+  region_holds h = elim (either (has SQ n) _ _ _ h) [
+    | inl named ↦ set_holds P r n holds e SQ marks_region named
     | inr none ↦ let bad : Ok (whole r.game.size) ≡ Err e = none in cc
   ]
 
-  -- a fault of the problem at it has its number, unless no target is there
-  problem_node_at : (n : Node) → (e ≡ NoTarget → ⊥) → problem_at_node r n ≡ Err e → fault_node e ≡ Some r.node
-  problem_node_at n other h = elim (step_refused (read_set r.node r.game.size TR n) _ e h) [
-    | inl here ↦ set_at r.node r.game.size TR n e here
-    | inr targets ↦ elim (step_refused (read_region r.node r.game.size n) _ e targets.2) [
-      | inl here ↦ region_at n here
-      | inr region ↦ targets_at region.0 targets.0 other region.2
+  -- what holds of each fault of a node holds of the fault of the problem at it, unless no target is there
+  pub problem_holds : (e ≡ NoTarget → ⊥) → problem_at_node r n ≡ Err e → P e
+  problem_holds other h = elim (step_refused (read_set r.node r.game.size TR n) _ e h) [
+    | inl here ↦ set_holds P r n holds e TR marks_targets here
+    | inr named ↦ elim (step_refused (read_region r.node r.game.size n) _ e named.2) [
+      | inl here ↦ region_holds here
+      | inr squares ↦ targets_hold squares.0 named.0 (set_in r.node r.game.size TR n named.0 named.1) other squares.2
     ]
   ]
 
@@ -163,7 +177,7 @@ stops_at k r (n ∷ ns) e other h =
           parts = refl;
           unmarked = All-nil (λ m. has TR m ≡ false);
           taken = refl;
-          at = problem_node_at on.0 e n other marked.1 ∙ ap Some (step_made_at (at_node (k + 1) r) n on.0 on.1) ∙ first;
+          at = problem_holds (IsAt on.0.node) on.0 n (at_holds on.0.node on.0.game.size n) e other marked.1 ∙ ap Some (step_stays (at_node (k + 1) r) n on.0 on.1).node ∙ first;
           refused = λ others.
               ap (λ x. and_then x (go others)) on.1
               ∙ ap (λ b. cond b (problem_at_node on.0 n) (problem_at_targets (k + 1) on.0 others)) marked.0 ∙ marked.1;

@@ -2,7 +2,7 @@
 
 ghost use Rattle.tt_game.specs.GameLaws.{AtMostOneSideForces, SomeSideForces, ValuesAreForced, TurnsKeepStates, LegalTurnsAreListed, ProblemsHaveNoWinner, ProblemsAreStates};
 ghost use Rattle.tt_game.specs.Keys.{SameKeyIffAlike};
-ghost use Rattle.tt_game.specs.RecordLaws.{RecordsAreGames, ProblemsAreGames, SetupsBeginHistories, FirstRefusalDecides, FirstProblemRefusalDecides, RefusalsCarryToProblems, UnmarkedAreNoProblems, RepeatsTestIsExact};
+ghost use Rattle.tt_game.specs.RecordLaws.{RecordsAreGames, ProblemsAreGames, SetupsBeginHistories, FirstRefusalDecides, FirstProblemRefusalDecides, BadValuesAreThere, FaultPointsAreOnBoard, RefusalsCarryToProblems, UnmarkedAreNoProblems, RepeatsTestIsExact};
 
 /// Not both sides force a win at one state.
 pub fn l2()
@@ -73,6 +73,17 @@ pub fn first_refusal_decides()
 /// record.
 pub fn first_problem_refusal_decides()
     ensures { FirstProblemRefusalDecides }
+{}
+
+/// Where a refusal says that a value can't be read, the value is there: it is the first one under its name in that node that the
+/// rule of its property doesn't read.
+pub fn bad_values_are_there()
+    ensures { BadValuesAreThere }
+{}
+
+/// The point that a refusal names is on the board whose size the first node gives.
+pub fn fault_points_are_on_board()
+    ensures { FaultPointsAreOnBoard }
 {}
 
 /// Where a record is refused and none of its nodes marks a target, the problem of each main line that begins so is refused
