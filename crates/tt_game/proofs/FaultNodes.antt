@@ -21,7 +21,8 @@ use Rattle.tt_board.specs.Play.{same_colour}
 use Rattle.tt_board.specs.Setup.{placed}
 use Rattle.tt_board.specs.Stones.{PointNumberSet}
 use Rattle.tt_game.specs.declared.faults.GameFault.{GameFault}
-use Rattle.tt_game.specs.declared.faults.GameFault.TheVariants.{AfterEnd, BadSize, BadValue, EmptyTarget, MixedNode, MixedTargets, NotGo, OccupiedPoint, PointTwice, RepeatedBoard, StoneWithoutLiberty, TooManyTurns}
+use Rattle.tt_game.specs.declared.faults.GameFault.TheVariants.{AfterEnd, BadSize, BadValue, EmptyTarget, MixedNode, MixedTargets}
+use Rattle.tt_game.specs.declared.faults.GameFault.TheVariants.{NotGo, OccupiedPoint, PointTwice, RepeatedBoard, StoneWithoutLiberty, TooManyTurns}
 use Rattle.tt_game.specs.declared.faults.Why.{Why}
 use Rattle.tt_game.specs.declared.faults.Why.TheVariants.{Over, Occupied, Outside, Repeats}
 use Rattle.tt_game.specs.declared.records.GameSoFar.{GameSoFar}
@@ -30,7 +31,8 @@ use Rattle.tt_game.specs.declared.turns.Turn.TheVariants.{Play, Pass}
 use Rattle.tt_game.specs.Faults.{bad_entry, bad_first_value, fault_node, first_bad_entry, has_bad_entry, has_value_named, least_point, least_without_liberty, or_fault, read_mover, read_set}
 use Rattle.tt_game.specs.Games.{GameState, game_after_turn, refusal_of}
 use Rattle.tt_game.specs.Nodes.{AB, AE, AW, B, GM, PL, SQ, SZ, TR, W, in_two_sets, is_go, is_setup, move_count, mover_of_values, set_named, size_or_default, values_of}
-use Rattle.tt_game.specs.Records.{and_then, as_turn, empty_game_of_size, empty_game_for_nodes, empty_game_for_root, fault_of, play_named_turn, play_next_turn, play_node_move, play_turn_by, set_up_node, set_up_or_fault, setup_or_fault, step_node, turn_or_fault, turn_point}
+use Rattle.tt_game.specs.Records.{and_then, as_turn, empty_game_of_size, empty_game_for_nodes, empty_game_for_root, fault_of, play_named_turn, play_next_turn}
+use Rattle.tt_game.specs.Records.{play_node_move, play_turn_by, set_up_node, set_up_or_fault, setup_or_fault, step_node, turn_or_fault, turn_point}
 use Rattle.tt_game.specs.Turns.{IsTurnOnBoardOfSize}
 use Rattle.tt_game.proofs.FaultLemmas.{least_lifeless_on_board, least_point_in}
 use Rattle.tt_game.proofs.OpenProblems.{choice, either, there}
@@ -203,7 +205,8 @@ module _ (P : GameFault → Type 0) (r : GameSoFar) (n : Node) (holds : HoldsOfF
     ]
   ]
 
-  named_holds : (k : Colour) (f : GameFault) (o : Option PointOrPass) → (o ≡ None → P f) → ((v : PointOrPass) → o ≡ Some v → IsTurnOnBoardOfSize r.game.size (as_turn v)) → play_named_turn r k f o ≡ Err e → P e
+  named_holds : (k : Colour) (f : GameFault) (o : Option PointOrPass) → (o ≡ None → P f) → ((v : PointOrPass) → o ≡ Some v → IsTurnOnBoardOfSize r.game.size (as_turn v))
+      → play_named_turn r k f o ≡ Err e → P e
   named_holds k f None at on h = handed P f e (at refl) h
   named_holds k f (Some v) at on h = by_holds k (as_turn v) (on v refl) h
 

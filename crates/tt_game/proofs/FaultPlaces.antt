@@ -17,7 +17,8 @@ use Rattle.tt_sgf.specs.PointLists.{is_entry}
 use Rattle.tt_sgf.specs.Sizes.{point_count, sized}
 use Rattle.tt_sgf.specs.Values.{after_blanks, point_of, trimmed}
 use Rattle.tt_game.specs.declared.faults.GameFault.{GameFault}
-use Rattle.tt_game.specs.declared.faults.GameFault.TheVariants.{AfterEnd, BadSize, BadValue, EmptyTarget, MixedNode, MixedTargets, NoTarget, NotGo, OccupiedPoint, PointTwice, RepeatedBoard, StoneWithoutLiberty, TooManyTurns}
+use Rattle.tt_game.specs.declared.faults.GameFault.TheVariants.{AfterEnd, BadSize, BadValue, EmptyTarget, MixedNode, MixedTargets}
+use Rattle.tt_game.specs.declared.faults.GameFault.TheVariants.{NoTarget, NotGo, OccupiedPoint, PointTwice, RepeatedBoard, StoneWithoutLiberty, TooManyTurns}
 use Rattle.tt_game.specs.declared.records.GameSoFar.{GameSoFar}
 use Rattle.tt_game.specs.Faults.{bad_entry, bad_first_value, fault_node, fault_point, first_bad_entry, has_bad_entry, has_value_named}
 use Rattle.tt_game.specs.Games.{empty_game}
@@ -26,7 +27,8 @@ use Rattle.tt_game.specs.Problems.{problem_at_targets, problem_of}
 use Rattle.tt_game.specs.RecordLaws.{BadValuesAreThere, FaultPointsAreOnBoard, IsFirstUnread, IsRefused, is_read, size_of_nodes}
 use Rattle.tt_game.specs.Records.{apply_nodes, at_node, empty_game_for_nodes, empty_game_for_root, empty_game_of_size, record_of, step_node}
 use Rattle.tt_game.proofs.FaultLemmas.{some_unread}
-use Rattle.tt_game.proofs.FaultNodes.{HoldsOfFaults, IsAt, IsListName, IsMoveName, adds_black, adds_white, at_holds, bad_entry_is, bad_first_is, begin_refused, black_move, empties, marks_region, marks_targets, step_at, step_holds, step_refused, white_move}
+use Rattle.tt_game.proofs.FaultNodes.{HoldsOfFaults, IsAt, IsListName, IsMoveName, adds_black, adds_white, at_holds, bad_entry_is, bad_first_is}
+use Rattle.tt_game.proofs.FaultNodes.{begin_refused, black_move, empties, marks_region, marks_targets, step_at, step_holds, step_refused, white_move}
 use Rattle.tt_game.proofs.NodeLemmas.{values-named, values-other}
 use Rattle.tt_game.proofs.OpenProblems.{choice, either}
 use Rattle.tt_game.proofs.ProblemRefusals.{problem_holds, step_stays}
@@ -207,9 +209,6 @@ record FirstUnread (size : Size) (name : List ℕ) (from : ℕ) (ps : List Prope
   read_in_front : All (λ p. p.ident ≡ name → All (λ v. is_read size name v ≡ true) p.values) front
 
 module _ (size : Size) (name : List ℕ) where
-  AllRead : List (List ℕ) → Type 0
-  AllRead vs = All (λ v. is_read size name v ≡ true) vs
-
   -- behind a property whose values of this name are read
   unread_later : (from : ℕ) (p : Property) (ps : List Property) (i j : ℕ) → (p.ident ≡ name → All (λ v. is_read size name v ≡ true) p.values)
       → FirstUnread size name (from + 1) ps i j → FirstUnread size name from (p ∷ ps) i j
@@ -369,7 +368,7 @@ module _ (size : Size) (name : List ℕ) where
               read_before = All-nil (λ w. is_read size name w ≡ true);
               read_in_front = All-nil (λ q. q.ident ≡ name → All (λ w. is_read size name w ≡ true) q.values);
             }
-        | inr none ↦ unread_later from p ps i j (λ same. subst (λ (x : List (List ℕ)). All (λ w. is_read size name w ≡ true) x) (sym (no_values p none same)) (All-nil (λ w. is_read size name w ≡ true)))
+        | inr none ↦ unread_later from p ps i j (λ same. subst (All (λ w. is_read size name w ≡ true)) (sym (no_values p none same)) (All-nil (λ w. is_read size name w ≡ true)))
             (first_of_name k (from + 1) ps v vs l i j (sym (values_later p ps none) ∙ there) unread (sym (ap go none) ∙ e))
       ]
 

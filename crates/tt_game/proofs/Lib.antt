@@ -15,6 +15,7 @@ pub mod SizedProblems
 pub mod RecordLaws
 pub mod ProblemRefusals
 pub mod FaultPlaces
+pub mod TargetLemmas
 pub mod RootLemmas
 pub mod BoardStackLemmas
 pub mod MoveGeneratorLemmas

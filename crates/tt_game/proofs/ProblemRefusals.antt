@@ -27,7 +27,8 @@ use Rattle.tt_game.specs.Games.{begun_with}
 use Rattle.tt_game.specs.Nodes.{AB, AE, AW, B, SQ, TR, W, has, in_two_sets, is_setup, move_count, values_of}
 use Rattle.tt_game.specs.Problems.{defender_of, posed_problem, problem_at_node, problem_at_targets, problem_if_stones, problem_if_targets_valid, problem_of, read_region, whole}
 use Rattle.tt_game.specs.RecordLaws.{FirstProblemRefusalDecides, IsFirstProblemRefusal}
-use Rattle.tt_game.specs.Records.{and_then, apply_nodes, as_turn, at_node, empty_game_for_nodes, play_named_turn, play_next_turn, play_node_move, play_turn_by, set_up_node, set_up_or_fault, setup_or_fault, step_node}
+use Rattle.tt_game.specs.Records.{and_then, apply_nodes, as_turn, at_node, empty_game_for_nodes, play_named_turn}
+use Rattle.tt_game.specs.Records.{play_next_turn, play_node_move, play_turn_by, set_up_node, set_up_or_fault, setup_or_fault, step_node}
 use Rattle.tt_game.proofs.FaultLemmas.{least_in}
 use Rattle.tt_game.proofs.FaultNodes.{HoldsOfFaults, IsAt, Stays, at_holds, begin_at, handed, next_stays, marks_region, marks_targets, set_holds, set_in, stays_same, step_at, step_refused}
 use Rattle.tt_game.proofs.OpenProblems.{choice, either, step_made}

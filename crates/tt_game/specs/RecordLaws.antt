@@ -1,6 +1,7 @@
 -- Laws of records and problems, in the words of the game.
 use Rattle.std.specs.Prelude.{◌≡◌, ◌≢◌, ℕ, ◌<◌, ◌≤◌, ◌⊎◌, ◌↔◌, List, [], ◌∷◌, ◌++◌, ◌+◌, length, Option, Some, All, AllPairs, Contains, None, Ok, Err, Bool, true, false, cond, ◌||◌, ◌==◌}
 use Rattle.std.specs.Option.{is_some}
+use Rattle.std.specs.FinSet as set
 use lib.Pointwise.{pointwise}
 use Rattle.tt_sgf.specs.declared.size.Size.{Size}
 use Rattle.tt_sgf.specs.declared.nodes.Node.{Node}
@@ -52,6 +53,11 @@ RecordsAreGames = (nodes : List Node) (r : GameSoFar) → ComesTo nodes r → Is
 -- a problem's history is by the rules
 abbrev pub ProblemsAreGames : Type 0
 ProblemsAreGames = (nodes : List Node) (p : LineWithUndo) → problem_of nodes ≡ Ok p → IsByTheRules p.frame.size (history p.state)
+
+-- on each target of a problem stands a stone of the defender
+abbrev pub TargetsAreTheDefenders : Type 0
+TargetsAreTheDefenders = (nodes : List Node) (p : LineWithUndo) → problem_of nodes ≡ Ok p
+    → (q : ℕ) → set.contains p.frame.targets q ≡ true → entry_at p.state.present q ≡ Some p.frame.defender
 
 -- a setup begins the history anew, with one colouring; another node leaves it, or a play adds the present one at its end
 abbrev pub SetupsBeginHistories : Type 0

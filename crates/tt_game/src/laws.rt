@@ -2,7 +2,8 @@
 
 ghost use Rattle.tt_game.specs.GameLaws.{AtMostOneSideForces, SomeSideForces, ValuesAreForced, TurnsKeepStates, LegalTurnsAreListed, ProblemsHaveNoWinner, ProblemsAreStates};
 ghost use Rattle.tt_game.specs.Keys.{SameKeyIffAlike};
-ghost use Rattle.tt_game.specs.RecordLaws.{RecordsAreGames, ProblemsAreGames, SetupsBeginHistories, FirstRefusalDecides, FirstProblemRefusalDecides, BadValuesAreThere, FaultPointsAreOnBoard, RefusalsCarryToProblems, UnmarkedAreNoProblems, RepeatsTestIsExact};
+ghost use Rattle.tt_game.specs.RecordLaws.{RecordsAreGames, ProblemsAreGames, SetupsBeginHistories, FirstRefusalDecides, FirstProblemRefusalDecides};
+ghost use Rattle.tt_game.specs.RecordLaws.{BadValuesAreThere, FaultPointsAreOnBoard, TargetsAreTheDefenders, RefusalsCarryToProblems, UnmarkedAreNoProblems, RepeatsTestIsExact};
 
 /// Not both sides force a win at one state.
 pub fn l2()
@@ -95,6 +96,11 @@ pub fn refusals_carry_to_problems()
 /// A main line without a marked target whose nodes are taken as a record is no problem.
 pub fn unmarked_are_no_problems()
     ensures { UnmarkedAreNoProblems }
+{}
+
+/// On each target of a problem stands a stone of the defender.
+pub fn targets_are_the_defenders()
+    ensures { TargetsAreTheDefenders }
 {}
 
 /// The test of superko is true exactly where the colouring is in the history.
