@@ -126,6 +126,22 @@ module _ (test : ℕ → Bool) where
   unfolding least_below
   none_below n q h below = missed 0 n q h (omega arith) (omega arith)
 
+  found_in : (a n p : ℕ) → find test (range_with_len a n) ≡ Some p → (p < a + n) × (test p ≡ true)
+  found_in a zero p h = absurd (none-some p h)
+  found_in a (suc n) p h = elim (cases_Bool (test a)) [
+    | inl on ↦
+        let is : Some a ≡ Some p = sym (ap (λ b. cond b (Some a) (find test (range_with_len (a + 1) n))) on) ∙ h in
+        let same : a ≡ p = cc in
+        (omega (arith, same), ap test (sym same) ∙ on)
+    | inr off ↦
+        let later = found_in (a + 1) n p (sym (ap (λ b. cond b (Some a) (find test (range_with_len (a + 1) n))) off) ∙ h) in
+        (omega (arith, later.0), later.1)
+  ]
+
+  pub least_in : (n p : ℕ) → least_below n test ≡ Some p → (p < n) × (test p ≡ true)
+  unfolding least_below
+  least_in n p h = let is = found_in 0 n p h in (omega (arith, is.0), is.1)
+
 -- ---- stones without liberties
 
 -- a point whose stone, if any, reaches empty passes the test
@@ -151,6 +167,9 @@ module _ (size : Size) (c : Colouring) where
   least_lifeless p h =
       least_is (λ p. not (is_empty (entry_at c p) || reaches size c p None)) (point_count size) p h.on_board (ap not (dead_at size c p h.on_board h.stone h.lifeless))
       (λ q before. ap not (alive_at size c q (let on = h.on_board in omega (arith, on, before)) (h.least q before)))
+
+  pub least_lifeless_on_board : (p : ℕ) → least_without_liberty size c ≡ Some p → p < point_count size
+  least_lifeless_on_board p h = (least_in (λ p. not (is_empty (entry_at c p) || reaches size c p None)) (point_count size) p h).0
 
 -- ---- sets
 
@@ -179,6 +198,10 @@ none_empty size s c most on_board h = elim (cases_Bool (list_any (λ p. is_empty
       let off = none_below (λ q. set.contains s q && is_empty (entry_at c q)) MOST_POINTS p.0 h (omega (arith, below, most)) in
       absurd (false≢true (sym off ∙ ap (λ b. b && is_empty (entry_at c p.0)) has ∙ p.2))
 ]
+
+-- the least point of a set is in it
+pub least_point_in : (s : PointNumberSet) (p : ℕ) → least_point s ≡ Some p → set.contains s p ≡ true
+least_point_in s p h = (least_in (λ p. set.contains s p) MOST_POINTS p h).1
 
 -- the least point of a set, or none
 pub no_least_point : (s : PointNumberSet) → s ≡ set.empty → least_point s ≡ None

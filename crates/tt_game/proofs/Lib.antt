@@ -13,6 +13,9 @@ pub mod OpenProblems
 pub mod FaultNodes
 pub mod SizedProblems
 pub mod RecordLaws
+pub mod ProblemRefusals
+pub mod FaultPlaces
+pub mod TargetLemmas
 pub mod RootLemmas
 pub mod BoardStackLemmas
 pub mod MoveGeneratorLemmas

@@ -35,6 +35,11 @@ pub either : {A : Type 0} (b : Bool) (x y z : A) → cond b x y ≡ z → (x ≡
 either true x y z e = inl e
 either false x y z e = inr e
 
+-- and which branch it took
+pub choice : {A : Type 0} (b : Bool) (x y z : A) → cond b x y ≡ z → ((b ≡ true) × (x ≡ z)) ⊎ ((b ≡ false) × (y ≡ z))
+choice true x y z e = inl (refl, e)
+choice false x y z e = inr (refl, e)
+
 -- what was to be there is there
 pub there : {A : Type 0} (o : Option A) (e : GameFault) (x : A) → or_fault o e ≡ Ok x → o ≡ Some x
 there None e x h = let bad : Err e ≡ Ok x = h in cc

@@ -1,6 +1,6 @@
 -- Records and problems by the rules: what their nodes keep true of the history, and where a refusal comes from.
-use Rattle.std.proofs.Common.{◌≡◌, ◌≢◌, ℕ, ◌+◌, ◌-◌, ◌*◌, ◌<◌, ◌≤◌, ◌⊎◌, List, [], ◌∷◌, ◌++◌, length, suc, inl, inr, Bool, true, false, Option, Some, None, Ok, Err, refl, sym, ap, subst, ◌∙◌}
-use Rattle.std.proofs.Common.{cond, ◌==◌, ◌&&◌, nat_eq, nat_le, nat_lt, arith, Contains}
+use Rattle.std.proofs.Common.{◌≡◌, ◌≢◌, ℕ, ◌+◌, ◌<◌, ◌≤◌, ◌⊎◌, List, [], ◌∷◌, ◌++◌, length, suc, inl, inr, true, false, Option, Some, None, Ok, Err, refl, sym, ap, subst, ◌∙◌}
+use Rattle.std.proofs.Common.{cond, ◌==◌, nat_eq, nat_le, arith, Contains}
 use Rattle.std.specs.Prelude.{All, AllPairs}
 use Rattle.std.specs.FinSet as set
 use Rattle.std.specs.declared.result.Result.{Result}
@@ -8,16 +8,13 @@ use Rattle.std.proofs.lemmas.Bool.{false≢true}
 use Rattle.std.proofs.lemmas.Bool.Decides.{nat_tests}
 use Rattle.std.proofs.lemmas.List.Elements.{All-head, All-tail, Contains-get_or}
 use Rattle.std.proofs.lemmas.List.Quantifiers.{all_pairs_push}
-use Rattle.std.proofs.lemmas.Nat.{mul-add-lt}
 use Rattle.tt_sgf.specs.declared.size.Size.{Size}
 use Rattle.tt_sgf.specs.declared.size.PointOrPass.{PointOrPass}
-use Rattle.tt_sgf.specs.declared.size.PointOrPass.TheVariants.{On}
-use Rattle.tt_sgf.specs.declared.size.PointOrPass.TheVariants as values
 use Rattle.tt_sgf.specs.declared.nodes.Node.{Node}
 use Rattle.tt_sgf.specs.declared.nodes.Property.{Property}
-use Rattle.tt_sgf.specs.Sizes.{point_count, sized}
+use Rattle.tt_sgf.specs.Sizes.{sized}
 use Rattle.tt_sgf.specs.laws.SizeLaws.{sized_returns_size}
-use Rattle.tt_sgf.specs.Values.{lettered_point, point_of, trimmed}
+use Rattle.tt_sgf.specs.Values.{point_of, trimmed}
 use Rattle.tt_board.specs.declared.Colour.{Colour}
 use Rattle.tt_board.specs.declared.Colour.TheVariants.{Black, White}
 use Rattle.tt_board.specs.Position.{Colouring}
@@ -44,15 +41,8 @@ use Rattle.tt_game.specs.Records.{play_turn_by, play_named_turn, play_next_turn}
 use Rattle.tt_game.specs.RecordLaws.{UnmarkedAreNoProblems}
 use Rattle.tt_game.specs.RecordLaws.{AreMadeByPlays, IsByTheRules, IsFirstRefusal, IsMadeByPlay, FirstRefusalDecides, ProblemsAreGames, RefusalsCarryToProblems, RecordsAreGames, SetupsBeginHistories, RepeatsTestIsExact}
 use Rattle.tt_game.specs.Turns.{IsTurnOnBoardOfSize}
-use Rattle.tt_game.proofs.FaultNodes.{begin_at, step_at, step_refused}
-use Rattle.tt_game.proofs.OpenProblems.{step_made}
-
--- ---- choices
-
--- which branch a choice took
-choice : {A : Type 0} (b : Bool) (x y z : A) → cond b x y ≡ z → ((b ≡ true) × (x ≡ z)) ⊎ ((b ≡ false) × (y ≡ z))
-choice true x y z e = inl (refl, e)
-choice false x y z e = inr (refl, e)
+use Rattle.tt_game.proofs.FaultNodes.{begin_at, step_at, step_refused, value_on}
+use Rattle.tt_game.proofs.OpenProblems.{choice, step_made}
 
 -- ---- plays
 
@@ -159,29 +149,6 @@ turns_by r k t q on e = elim (choice (same_colour r.game.to_move k) _ _ _ e) [
       let behind = one_turn (after_turn r Pass) t q on second in
       record { lawful = λ h. behind.lawful (on_it.lawful h); grows = behind.grows }
 ]
-
--- the point of two letters is on the board
-place_on : (size : Size) (c d p : ℕ) → lettered_point size c d ≡ Some (On p) → p < point_count size
-place_on size c d p e = elim (choice ((nat_le 97 c && nat_lt (c - 97) size.columns) && (nat_le 97 d && nat_lt (d - 97) size.rows)) _ _ _ e) [
-  | inr not_ ↦ let bad : None ≡ Some (On p) = not_.1 in cc
-  | inl is ↦
-      let same : (d - 97) * size.columns + (c - 97) ≡ p = cc in
-      let column : c - 97 < size.columns = grind (arith, nat_tests, is.0) in
-      let row : d - 97 < size.rows = grind (arith, nat_tests, is.0) in
-      subst (λ (x : ℕ). x < point_count size) same (mul-add-lt (d - 97) size.columns (c - 97) size.rows row column)
-]
-
--- a value's turn is on the board
-value_on : (size : Size) (text : List ℕ) (v : PointOrPass) → point_of size text ≡ Some v → IsTurnOnBoardOfSize size (as_turn v)
-unfolding point_of
-value_on size text values.Pass e = tt
-value_on size [] (On p) e = let bad : Some values.Pass ≡ Some (On p) = e in cc
-value_on size (c ∷ []) (On p) e = let bad : None ≡ Some (On p) = e in cc
-value_on size (c ∷ d ∷ []) (On p) e = elim (choice (c == 116 && d == 116) _ _ _ e) [
-  | inl pass ↦ let bad : Some values.Pass ≡ Some (On p) = pass.1 in cc
-  | inr point ↦ place_on size c d p point.1
-]
-value_on size (c ∷ d ∷ x ∷ xs) (On p) e = let bad : None ≡ Some (On p) = e in cc
 
 -- a turn by the value of its property does what turns do
 turn_goes : (r : GameSoFar) (k : Colour) (f : GameFault) (text : List ℕ) (o : Option PointOrPass) (q : GameSoFar) → point_of r.game.size text ≡ o → play_named_turn r k f o ≡ Ok q → GoesOn r q
@@ -387,7 +354,7 @@ unfolding record_of
 record_begun ns r e = ap (λ x. and_then x (λ s. and_then (apply_nodes 0 s ns) (λ q. Ok (record_of_game q.game)))) e
 
 -- a record that isn't begun is refused
-never_begun : (ns : List Node) (e : GameFault) → empty_game_for_nodes ns ≡ Err e → record_of ns ≡ Err e
+pub never_begun : (ns : List Node) (e : GameFault) → empty_game_for_nodes ns ≡ Err e → record_of ns ≡ Err e
 unfolding record_of
 never_begun ns e h = ap (λ x. and_then x (λ s. and_then (apply_nodes 0 s ns) (λ q. Ok (record_of_game q.game)))) h
 
@@ -396,21 +363,21 @@ common_size : Size
 common_size = record { columns = 19; rows = 19; columns_in = (omega arith, omega arith); rows_in = (omega arith, omega arith) }
 
 -- the record without a node
-empty_record : (r : Record) × (record_of [] ≡ Ok r)
+pub empty_record : (r : Record) × (record_of [] ≡ Ok r)
 unfolding record_of apply_nodes common_size
 empty_record = (record_of_game (empty_game common_size), ap (λ o. and_then (empty_game_of_size o) (λ r. and_then (apply_nodes 0 r []) (λ q. Ok (record_of_game q.game)))) (sized_returns_size common_size))
 
 -- a line without a node is never refused
-never_empty : (e : GameFault) → record_of [] ≡ Err e → ⊥
+pub never_empty : (e : GameFault) → record_of [] ≡ Err e → ⊥
 never_empty e h = let r = empty_record in let bad : Ok r.0 ≡ Err e = sym r.1 ∙ h in cc
 
 -- a line begins by its first node alone
-begins_alike : (front : List Node) (n : Node) (ns others : List Node) → empty_game_for_nodes (front ++ n ∷ others) ≡ empty_game_for_nodes (front ++ n ∷ ns)
+pub begins_alike : (front : List Node) (n : Node) (ns others : List Node) → empty_game_for_nodes (front ++ n ∷ others) ≡ empty_game_for_nodes (front ++ n ∷ ns)
 begins_alike [] n ns others = refl
 begins_alike (m ∷ front) n ns others = refl
 
 -- the nodes before a refused one are a record
-front_taken : (front : List Node) (n : Node) (ns : List Node) (r q : GameSoFar) → empty_game_for_nodes (front ++ n ∷ ns) ≡ Ok r → apply_nodes 0 r front ≡ Ok q → (s : Record) × (record_of front ≡ Ok s)
+pub front_taken : (front : List Node) (n : Node) (ns : List Node) (r q : GameSoFar) → empty_game_for_nodes (front ++ n ∷ ns) ≡ Ok r → apply_nodes 0 r front ≡ Ok q → (s : Record) × (record_of front ≡ Ok s)
 front_taken [] n ns r q begins runs = empty_record
 front_taken (m ∷ front) n ns r q begins runs =
     (record_of_game q.game, record_begun (m ∷ front) r begins ∙ ap (λ x. and_then x (λ s. Ok (record_of_game s.game))) runs)
@@ -435,7 +402,7 @@ least_of ns r e begins stop =
     }
 
 -- a record is refused before its first node, or by a run
-refused_by : (ns : List Node) (e : GameFault) → record_of ns ≡ Err e → (empty_game_for_nodes ns ≡ Err e) ⊎ ((r : GameSoFar) × (empty_game_for_nodes ns ≡ Ok r) × (apply_nodes 0 r ns ≡ Err e))
+pub refused_by : (ns : List Node) (e : GameFault) → record_of ns ≡ Err e → (empty_game_for_nodes ns ≡ Err e) ⊎ ((r : GameSoFar) × (empty_game_for_nodes ns ≡ Ok r) × (apply_nodes 0 r ns ≡ Err e))
 unfolding record_of
 refused_by ns e h = elim (step_refused (empty_game_for_nodes ns) _ e h) [
   | inl never ↦ inl never

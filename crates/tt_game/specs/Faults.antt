@@ -31,14 +31,14 @@ code_of (MixedNode k) = 14
 code_of (StoneWithoutLiberty k p) = 15
 code_of (OccupiedPoint k p) = 16
 code_of (RepeatedBoard k p) = 17
-code_of (AfterEnd k) = 18
+code_of (AfterEnd k p) = 18
 code_of (TooManyTurns k) = 19
 code_of NoTarget = 20
 code_of (EmptyTarget k p) = 22
 code_of (MixedTargets k p) = 23
 code_of NoMemory = 40
 
--- the number of the refused node: GM and SZ are looked at in the first one, and a target is missed behind the last
+-- the number of the refused node: GM and SZ are looked at in the first one, and that there is no target is known behind the last node
 abbrev pub fault_node : GameFault → Option ℕ
 fault_node NotGo = Some 1
 fault_node BadSize = Some 1
@@ -48,7 +48,7 @@ fault_node (MixedNode k) = Some k
 fault_node (StoneWithoutLiberty k p) = Some k
 fault_node (OccupiedPoint k p) = Some k
 fault_node (RepeatedBoard k p) = Some k
-fault_node (AfterEnd k) = Some k
+fault_node (AfterEnd k p) = Some k
 fault_node (TooManyTurns k) = Some k
 fault_node NoTarget = None
 fault_node (EmptyTarget k p) = Some k
@@ -63,12 +63,31 @@ fault_point (OccupiedPoint k p) = Some p
 fault_point (RepeatedBoard k p) = Some p
 fault_point (EmptyTarget k p) = Some p
 fault_point (MixedTargets k p) = Some p
-fault_point e = None
+fault_point (AfterEnd k p) = p
+fault_point NotGo = None
+fault_point BadSize = None
+fault_point (BadValue k i j) = None
+fault_point (MixedNode k) = None
+fault_point (TooManyTurns k) = None
+fault_point NoTarget = None
+fault_point NoMemory = None
 
 -- the indices of the property in its node and of the value in that, where a value can't be read
 abbrev pub fault_value : GameFault → Option (ℕ × ℕ)
 fault_value (BadValue k i j) = Some (i, j)
-fault_value e = None
+fault_value NotGo = None
+fault_value BadSize = None
+fault_value (PointTwice k p) = None
+fault_value (MixedNode k) = None
+fault_value (StoneWithoutLiberty k p) = None
+fault_value (OccupiedPoint k p) = None
+fault_value (RepeatedBoard k p) = None
+fault_value (AfterEnd k p) = None
+fault_value (TooManyTurns k) = None
+fault_value NoTarget = None
+fault_value (EmptyTarget k p) = None
+fault_value (MixedTargets k p) = None
+fault_value NoMemory = None
 
 -- ---- values that can't be read
 

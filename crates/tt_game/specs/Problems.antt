@@ -41,7 +41,7 @@ posed_problem s region targets k = record {
   before = [];
 }
 
--- the defender has the colour of the targets' stones, of which this is a white one and this a black one; where there are both, it is the fault
+-- the defender has the colour of the targets' stones, of which this is a white one and this a black one; where there are both, the least white one is at fault
 abbrev pub defender_of : ℕ → Option ℕ → Option ℕ → Result Colour GameFault
 defender_of k None black = Ok Black
 defender_of k (Some p) None = Ok White

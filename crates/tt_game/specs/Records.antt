@@ -44,8 +44,8 @@ turn_point (Play p) = Some p
 
 -- the fault that a refused turn is at node k: a pass is refused after the end alone, and a game has no region, so no turn is outside
 abbrev pub fault_of : ℕ → Option ℕ → Why → GameFault
-fault_of k None why = AfterEnd k
-fault_of k (Some p) Over = AfterEnd k
+fault_of k None why = AfterEnd k None
+fault_of k (Some p) Over = AfterEnd k (Some p)
 fault_of k (Some p) Occupied = OccupiedPoint k p
 fault_of k (Some p) Outside = OccupiedPoint k p
 fault_of k (Some p) Repeats = RepeatedBoard k p
@@ -57,7 +57,7 @@ turn_or_fault r t (Some why) = Err (fault_of r.node (turn_point t) why)
 
 -- a turn of the side to move: after the end no turn, no more than a record has, and a legal one
 abbrev pub play_next_turn : GameSoFar → Turn → Result GameSoFar GameFault
-play_next_turn r t = cond (r.game.passes == 2) (Err (AfterEnd r.node)) (cond (nat_le MOST_TURNS r.turns) (Err (TooManyTurns r.node)) (turn_or_fault r t (refusal_of r.game t)))
+play_next_turn r t = cond (r.game.passes == 2) (Err (AfterEnd r.node (turn_point t))) (cond (nat_le MOST_TURNS r.turns) (Err (TooManyTurns r.node)) (turn_or_fault r t (refusal_of r.game t)))
 
 -- a turn of a colour; where the other is to move it passes first
 abbrev pub play_turn_by : GameSoFar → Colour → Turn → Result GameSoFar GameFault

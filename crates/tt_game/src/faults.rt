@@ -26,14 +26,17 @@ pub enum Refused {
     NoMemory,
 }
 
-/// Why a main line is no record or no problem, and where. Nodes count from 1 along the main line.
+/// Why a main line is no record or no problem, and where. Nodes count from 1 along the main line; the properties of a node and
+/// the values of a property count from 0. A point's number is its row times the columns of the board and its column, so the
+/// size that the first node gives is needed to write it as letters.
 #[derive(Clone, Copy, Debug, PartialEq, Eq)]
 pub enum GameFault {
     /// GM is there and is not 1. Only the first node's counts.
     NotGo,
     /// SZ is there and is no size. Only the first node's counts.
     BadSize,
-    /// A point or a colour can't be read: the value of this index, in the property of this index of the node.
+    /// A value of B, W, AB, AW, AE, PL, TR or SQ is no point or colour: the value of this index, in the property of this index of
+    /// the node. Where several can't be read, it is the first of AB, AW, AE and PL in this order, then of TR and SQ.
     BadValue {
         node: usize,
         property: usize,
@@ -44,11 +47,12 @@ pub enum GameFault {
         node: usize,
         point: Point,
     },
-    /// A setup stands beside a move, or a node has two moves.
+    /// AB, AW or AE stands beside a move, or a node has two moves. PL beside a move is left out of account.
     MixedNode {
         node: usize,
     },
-    /// A setup leaves a stone that doesn't reach an empty point: the least such stone.
+    /// A setup leaves a stone that doesn't reach an empty point: the least such stone, of either colour, which perhaps an earlier
+    /// node set up or played.
     StoneWithoutLiberty {
         node: usize,
         point: Point,
@@ -63,11 +67,13 @@ pub enum GameFault {
         node: usize,
         point: Point,
     },
-    /// A turn after two passes in a row.
+    /// A turn after two passes in a row: its point, or none where it is a pass, also one that is implied because the side named
+    /// is not to move.
     AfterEnd {
         node: usize,
+        point: Option<Point>,
     },
-    /// More than 2,000 turns.
+    /// More than 2,000 turns, those before a setup and implied passes among them.
     TooManyTurns {
         node: usize,
     },
@@ -134,7 +140,7 @@ impl GameFault {
             | GameFault::StoneWithoutLiberty { node, .. }
             | GameFault::OccupiedPoint { node, .. }
             | GameFault::RepeatedBoard { node, .. }
-            | GameFault::AfterEnd { node }
+            | GameFault::AfterEnd { node, .. }
             | GameFault::TooManyTurns { node }
             | GameFault::EmptyTarget { node, .. }
             | GameFault::MixedTargets { node, .. } => Some(*node),
@@ -142,7 +148,8 @@ impl GameFault {
         }
     }
 
-    /// The point at fault, where there is one.
+    /// The point at fault, where there is one, by its number. The columns of the board, by which it becomes letters, are those
+    /// that the first node gives.
     pub fn point(&self) -> Option<Point>
         ensures { result ≡ fault_point self.now }
     {
@@ -153,11 +160,19 @@ impl GameFault {
             | GameFault::RepeatedBoard { point, .. }
             | GameFault::EmptyTarget { point, .. }
             | GameFault::MixedTargets { point, .. } => Some(*point),
-            _ => None,
+            GameFault::AfterEnd { point, .. } => *point,
+            GameFault::NotGo
+            | GameFault::BadSize
+            | GameFault::BadValue { .. }
+            | GameFault::MixedNode { .. }
+            | GameFault::TooManyTurns { .. }
+            | GameFault::NoTarget
+            | GameFault::NoMemory => None,
         }
     }
 
-    /// The indices of the property and of its value, where a value can't be read.
+    /// The indices of the property and of its value, where a value of a point or a colour can't be read. None for GM and SZ, whose
+    /// refusals carry no index: it is the first value of that name in the first node.
     pub fn value(&self) -> Option<(usize, usize)>
         ensures { result ≡ fault_value self.now }
     {
@@ -167,37 +182,55 @@ impl GameFault {
                 value,
                 ..
             } => Some((*property, *value)),
-            _ => None,
+            GameFault::NotGo
+            | GameFault::BadSize
+            | GameFault::PointTwice { .. }
+            | GameFault::MixedNode { .. }
+            | GameFault::StoneWithoutLiberty { .. }
+            | GameFault::OccupiedPoint { .. }
+            | GameFault::RepeatedBoard { .. }
+            | GameFault::AfterEnd { .. }
+            | GameFault::TooManyTurns { .. }
+            | GameFault::NoTarget
+            | GameFault::EmptyTarget { .. }
+            | GameFault::MixedTargets { .. }
+            | GameFault::NoMemory => None,
         }
     }
 
     /// Why a main line is refused, and how to go on, in English words. No newline ends them.
     pub fn reason(&self) -> &'static [u8] {
-        match self {
-            GameFault::NotGo => b"GM is not 1, so this is no game of Go",
-            GameFault::BadSize => b"SZ is no size: write a number from 1 to 19, or columns:rows",
-            GameFault::BadValue { .. } =>
-                b"a value is no point of the board, which is two letters, column then row; or that of PL is no colour",
-            GameFault::PointTwice { .. } =>
-                b"a point stands in two of AB, AW and AE: take it out of all but one",
-            GameFault::MixedNode { .. } =>
-                b"stones are set up beside a move, or there are two moves: give each a node of its own",
-            GameFault::StoneWithoutLiberty { .. } =>
-                b"the setup leaves a stone without liberties: take its chain off, or empty a point beside it",
-            GameFault::OccupiedPoint { .. } => b"the move is on a point where a stone stands",
-            GameFault::RepeatedBoard { .. } =>
-                b"the move makes a position of the whole board again, which superko forbids; a suicide of one stone does too",
-            GameFault::AfterEnd { .. } =>
-                b"the move comes after two passes in a row, which end a game",
-            GameFault::TooManyTurns { .. } =>
-                b"more than 2,000 turns, passes of the side that isn't named among them: set the position up instead",
-            GameFault::NoTarget =>
-                b"no node of the main line has TR: put a triangle on a stone of the group that is to live or die",
-            GameFault::EmptyTarget { .. } =>
-                b"TR is on an empty point: put the triangle on a stone",
-            GameFault::MixedTargets { .. } =>
-                b"TR is on stones of both colours: mark those of the group alone",
-            GameFault::NoMemory => b"memory was refused",
-        }
+        reason_of_code(self.code())
+    }
+}
+
+/// The words of the refusal with this number, as `reason` has them: why a main line is refused, and how to go on. Empty where no
+/// refusal of a main line has the number.
+pub fn reason_of_code(code: u8) -> &'static [u8] {
+    match code {
+        10 => b"GM must be 1, which is Go",
+        11 =>
+            b"SZ is no size: write one number for both sides, or columns:rows, 1 to 19 each, with no white space at the colon",
+        12 =>
+            b"a value is no point of the board: write two small letters, column then row, or in a list two such points with a colon between; a pass isn't allowed in a list; or that of PL is no colour, which is B or W",
+        13 => b"a point stands in two of AB, AW and AE: take it out of all but one",
+        14 =>
+            b"AB, AW or AE stands beside a move, or there are two moves: give each a node of its own",
+        15 =>
+            b"the setup leaves a stone without liberties: take its chain off, or empty a point beside it",
+        16 => b"the move is on a point where a stone stands",
+        17 =>
+            b"the move makes a position of the whole board again, which superko forbids; a suicide of one stone makes the present position again",
+        18 =>
+            b"a turn comes after two passes in a row, which end a game; where one side plays twice the other's pass is counted",
+        19 =>
+            b"more than 2,000 turns; turns before a setup count too, and so does the other's pass where one side plays twice: set the position up instead",
+        20 =>
+            b"no node of the main line has TR: put a triangle on a stone of the group that is to live or die",
+        22 => b"TR is on an empty point: put the triangle on a stone",
+        23 =>
+            b"TR is on stones of both colours, on this white one and on a black one: mark those of the group alone",
+        40 => b"memory was refused",
+        _ => b"",
     }
 }

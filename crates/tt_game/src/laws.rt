@@ -2,7 +2,8 @@
 
 ghost use Rattle.tt_game.specs.GameLaws.{AtMostOneSideForces, SomeSideForces, ValuesAreForced, TurnsKeepStates, LegalTurnsAreListed, ProblemsHaveNoWinner, ProblemsAreStates};
 ghost use Rattle.tt_game.specs.Keys.{SameKeyIffAlike};
-ghost use Rattle.tt_game.specs.RecordLaws.{RecordsAreGames, ProblemsAreGames, SetupsBeginHistories, FirstRefusalDecides, RefusalsCarryToProblems, UnmarkedAreNoProblems, RepeatsTestIsExact};
+ghost use Rattle.tt_game.specs.RecordLaws.{RecordsAreGames, ProblemsAreGames, SetupsBeginHistories, FirstRefusalDecides, FirstProblemRefusalDecides};
+ghost use Rattle.tt_game.specs.RecordLaws.{BadValuesAreThere, FaultPointsAreOnBoard, TargetsAreTheDefenders, RefusalsCarryToProblems, UnmarkedAreNoProblems, RepeatsTestIsExact};
 
 /// Not both sides force a win at one state.
 pub fn l2()
@@ -69,6 +70,23 @@ pub fn first_refusal_decides()
     ensures { FirstRefusalDecides }
 {}
 
+/// So is a problem's refusal, but for want of a target: no node before the refused one marks a target, and those nodes are a
+/// record.
+pub fn first_problem_refusal_decides()
+    ensures { FirstProblemRefusalDecides }
+{}
+
+/// Where a refusal says that a value can't be read, the value is there: it is the first one under its name in that node that the
+/// rule of its property doesn't read.
+pub fn bad_values_are_there()
+    ensures { BadValuesAreThere }
+{}
+
+/// The point that a refusal names is on the board whose size the first node gives.
+pub fn fault_points_are_on_board()
+    ensures { FaultPointsAreOnBoard }
+{}
+
 /// Where a record is refused and none of its nodes marks a target, the problem of each main line that begins so is refused
 /// alike.
 pub fn refusals_carry_to_problems()
@@ -78,6 +96,11 @@ pub fn refusals_carry_to_problems()
 /// A main line without a marked target whose nodes are taken as a record is no problem.
 pub fn unmarked_are_no_problems()
     ensures { UnmarkedAreNoProblems }
+{}
+
+/// On each target of a problem stands a stone of the defender.
+pub fn targets_are_the_defenders()
+    ensures { TargetsAreTheDefenders }
 {}
 
 /// The test of superko is true exactly where the colouring is in the history.

@@ -19,7 +19,7 @@ mod reading;
 mod records;
 mod turns;
 
-pub use faults::{GameFault, Refused, Why};
+pub use faults::{GameFault, Refused, Why, reason_of_code};
 pub use frame::{Frame, Side};
 pub use game::Game;
 pub use history::bloom_filter::{BloomFilter, board_hash};

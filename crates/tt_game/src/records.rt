@@ -58,10 +58,10 @@ fn fault_of(node: usize, at: Option<Point>, why: Why) -> GameFault
     ensures { result ≡ fault_of node at why }
 {
     let Some(point) = at else {
-        return GameFault::AfterEnd { node };
+        return GameFault::AfterEnd { node, point: at };
     };
     match why {
-        Why::Over => GameFault::AfterEnd { node },
+        Why::Over => GameFault::AfterEnd { node, point: at },
         Why::Occupied | Why::Outside => GameFault::OccupiedPoint { node, point },
         Why::Repeats => GameFault::RepeatedBoard { node, point },
     }
@@ -83,13 +83,16 @@ impl GameSoFar {
         requires { IsTurnOnBoardOfSize self.old.game.size t }
         ensures { UpdatesUnlessNoMemory result self.new (play_next_turn self.old t) }
     {
+        let at = turn_point(&t);
         if self.game.passes() == 2 {
-            return Err(GameFault::AfterEnd { node: self.node });
+            return Err(GameFault::AfterEnd {
+                node: self.node,
+                point: at,
+            });
         }
         if self.turns >= MOST_TURNS {
             return Err(GameFault::TooManyTurns { node: self.node });
         }
-        let at = turn_point(&t);
         match self.game.push(t) {
             Ok(()) => {
                 self.turns += 1;
@@ -105,8 +108,13 @@ impl GameSoFar {
         requires { IsTurnOnBoardOfSize self.old.game.size t }
         ensures { UpdatesUnlessNoMemory result self.new (play_turn_by self.old colour t) }
     {
-        if self.game.to_move() != colour {
-            self.play_turn(Turn::Pass)?;
+        let implied = if self.game.to_move() == colour {
+            None
+        } else {
+            Some(Turn::Pass)
+        };
+        if let Some(pass) = implied {
+            self.play_turn(pass)?;
         }
         self.play_turn(t)
     }
