@@ -1,5 +1,5 @@
 //! Solves the problem that a tree is.
-ghost use Rattle.std.specs.Prelude.{◌≡◌, ◌≤◌, ◌+◌, IfOk, IfSome, None, length, true};
+ghost use Rattle.std.specs.Prelude.{◌≡◌, ◌≤◌, ◌+◌, ℕ, Option, IfOk, IfSome, None, length, true};
 ghost use Rattle.tt_sgf.specs.declared.trees.TheConstants.{MAX_BYTES};
 ghost use Rattle.tt_game.specs.Game.{HasValue, IsLegal, value_won_by, winner_of};
 ghost use Rattle.tt_game.specs.GameLaws.{IsWellFormedState};
@@ -129,7 +129,7 @@ pub fn dfpn_verdict(
 ) -> Result<Option<Vec<u8>>, NoMemory>
     requires open { winner_of line.now.frame line.now.state ≡ None }
     requires state { IsWellFormedState line.now.frame line.now.state }
-    ensures { IfOk result (λ o. IfSome o (λ text. IsVerdict line.now options.limits options.total options.cert text.items)) }
+    ensures { (total : Option ℕ) → IfOk result (λ o. IfSome o (λ text. IsVerdict line.now options.limits total options.cert text.items)) }
 {
     let Some(proof) = dfpn_life_proof(alloc, line, options)? else {
         return Ok(None);
@@ -139,7 +139,6 @@ pub fn dfpn_verdict(
         &proof,
         line,
         &options.limits,
-        options.total,
         options.cert,
         (MAX_BYTES - 2).saturating_sub(bytes),
     )
@@ -209,7 +208,6 @@ fn verdict_at<X: Threads + Wait + Sync, G: Gate>(
 }
 
 /// Which side wins at a line, by a proof of df-pn's.
-#[tactic(auto, using(crate::proofs::Verdicts::life_side))]
 fn value_by_dfpn(alloc: Global, line: &Line, options: Options) -> Result<Option<Side>, NoMemory>
     requires { IsWellFormedState line.now.frame line.now.state }
     ensures { IfOk result (λ o. IfSome o (λ side. HasValue line.now.frame line.now.state (value_won_by side))) }

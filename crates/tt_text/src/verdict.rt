@@ -1,5 +1,5 @@
 //! The text of the verdict on a problem, as it stands behind the problem's number.
-ghost use Rattle.std.specs.Prelude.{◌≡◌, ◌≤◌, ◌∷◌, ◌++◌, [], None, IfOk, IfSome, OnOk};
+ghost use Rattle.std.specs.Prelude.{◌≡◌, ◌≤◌, ◌∷◌, ◌++◌, [], ℕ, Option, None, IfOk, IfSome, OnOk};
 ghost use Rattle.tt_sgf.specs.Bytes.{newline};
 ghost use Rattle.tt_game.specs.GameLaws.{IsWellFormedState};
 ghost use Rattle.tt_proof.specs.declared.tree.TheConstants.{MOST_DEPTH};
@@ -203,14 +203,13 @@ pub(crate) fn life_verdict_text(
     proof: &LifeProof,
     line: &Line,
     limits: &Limits,
-    total: Option<u32>,
     cert: CertKind,
     most_bytes: usize,
 ) -> Result<Option<Vec<u8>>, NoMemory>
     requires state { IsWellFormedState line.now.frame line.now.state }
     requires open { winner_of line.now.frame line.now.state ≡ None }
     requires stands { StandsAt proof.now line.now.frame line.now.state }
-    ensures { IfOk result (λ o. IfSome o (λ text. IsVerdict line.now limits.now total cert text.items)) }
+    ensures { (total : Option ℕ) → IfOk result (λ o. IfSome o (λ text. IsVerdict line.now limits.now total cert text.items)) }
 {
     let Some(lines) = life_certificate_lines(alloc, proof, line, limits, cert, most_bytes)? else {
         return Ok(None);
