@@ -574,10 +574,10 @@ def search(frame, state, budget, most_depth, kept, grants):
     return side, strategy_of(frame, root, side)
 
 
-def solve(frame, state, budget, most_depth, total):
+def solve(frame, state, budget, most_depth, grants):
     """The side that wins and its strategy, or the reason why that isn't known: each first turn is searched by itself, and
     the first one that wins ends it."""
-    kept, grants, answers, reasons = [], [total], [], []
+    kept, answers, reasons = [], [], []
     side = side_to_move(frame, state)
     for turn in legal_turns(frame, state):
         found = search(frame, after(frame, state, turn), budget, most_depth - 1, kept, grants)
@@ -600,9 +600,10 @@ def score_text(nodes):
 
 def solve_text(nodes, with_certificate=False, with_turns=False, budget=100_000, most_depth=512, total=362_000_000):
     frame, state = problem(nodes)
-    limits = budget, most_depth, total
-    turns = turn_texts(frame, state, limits) if with_turns else []
+    # the problem and its turns spend one total, in the order of their lines
+    limits = budget, most_depth, [total]
     found = solve(frame, state, *limits)
+    turns = turn_texts(frame, state, limits) if with_turns else []
     if isinstance(found, str):
         return [f"unsettled {found}"] + turns
     side, tree = found

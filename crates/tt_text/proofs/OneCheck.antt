@@ -18,7 +18,7 @@ use Rattle.tt_proof.specs.SharedParts.{IsOutlineAnswer}
 use Rattle.tt_proof.specs.Strategy.{Strategy}
 use Rattle.tt_proof.specs.Wins.{Wins}
 use Rattle.tt_text.specs.declared.checking.CheckOutcome.{CheckOutcome}
-use Rattle.tt_text.specs.Checking.{Finds, FindsPlain, FindsShared, FindsPlainOrShared, FindsOnProblem, IsCheckText, check_line, check_status, first_tree, loses, no_certificate, no_tree}
+use Rattle.tt_text.specs.Checking.{Finds, FindsPlain, FindsShared, FindsOnProblem, IsCheckText, check_line, check_status, first_tree, loses, no_certificate, no_tree}
 use Rattle.tt_text.specs.Checking.{too_deep, too_long, wins, unread, goes_deep, unfit, shared_wins, shared_loses}
 
 no_answer : (b : Bool) → None ≡ Some b → ⊥

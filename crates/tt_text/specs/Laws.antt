@@ -1,5 +1,5 @@
 -- Laws of verdicts.
-use Rattle.std.specs.Prelude.{◌≡◌, Bool, List, ℕ, ◌∷◌, ◌++◌, Option}
+use Rattle.std.specs.Prelude.{◌≡◌, List, ℕ, ◌∷◌, ◌++◌, Option}
 use Rattle.tt_sgf.specs.Bytes.{newline}
 use Rattle.tt_game.specs.declared.frame.Side.{Side}
 use Rattle.tt_game.specs.declared.turns.Turn.{Turn}

@@ -4,3 +4,5 @@ pub mod Laws
 pub mod Scoring
 pub mod Solving
 pub mod Trees
+-- What private contracts and proofs cite. Nobody has to believe these.
+pub mod inside

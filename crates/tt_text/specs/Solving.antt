@@ -1,5 +1,5 @@
 -- What `solve` says of a problem: killed or lives with the first turn and a certificate, or unsettled; and of each legal turn.
-use Rattle.std.specs.Prelude.{◌≡◌, ◌≢◌, ◌≤◌, ℕ, Bool, true, false, List, [], ◌∷◌, ◌++◌, Option, Some, None, Ok, Err, codes}
+use Rattle.std.specs.Prelude.{◌≡◌, ◌≢◌, ◌≤◌, ◌-◌, ℕ, Bool, true, false, List, [], ◌∷◌, ◌++◌, Option, Some, None, Ok, Err, codes}
 use Rattle.std.specs.declared.result.Result.{Result}
 use Rattle.tt_sgf.specs.Bytes.{newline, space}
 use Rattle.tt_sgf.specs.declared.nodes.Node.{Node}
@@ -107,21 +107,52 @@ abbrev pub IsValueOrReason : LineWithUndo → Limits → Option ℕ → Result S
 IsValueOrReason p limits total (Ok side) = HasValue p.frame p.state (value_won_by side)
 IsValueOrReason p limits total (Err reason) = IsUnsettledFor p limits total reason
 
--- a line for each of the turns, with the value behind it, or why that isn't known under the same limits
-abbrev pub AreTurnLines : LineWithUndo → Limits → Option ℕ → List Turn → List ℕ → Type 0
-AreTurnLines p limits total [] lines = lines ≡ []
-AreTurnLines p limits total (t ∷ ts) lines = (value : Result Side Reason) × (rest : List ℕ) × IsValueOrReason (problem_after_turn p t) limits total value
-    × (lines ≡ turn_value_line p.frame.size t value ++ rest) × AreTurnLines p limits total ts rest
+-- a total, where there is one, has so many grants
+abbrev pub HasGrants : Option ℕ → ℕ → Type 0
+HasGrants None granted = Unit {0}
+HasGrants (Some total) granted = granted ≤ total
+
+-- what is left of it behind so many grants
+abbrev pub total_left : Option ℕ → ℕ → Option ℕ
+total_left None granted = None
+total_left (Some total) granted = Some (total - granted)
+
+-- so many grants as a total of their own, where there is a total
+abbrev pub total_granted : Option ℕ → ℕ → Option ℕ
+total_granted None granted = None
+total_granted (Some total) granted = Some granted
+
+-- the value, or why it isn't known, where so many expansions were granted of the total: it is stuck for the total only where these
+-- are all of it
+pub record IsValueByGrants (p : LineWithUndo) (limits : Limits) (total : Option ℕ) (granted : ℕ) (value : Result Side Reason) : Type 0 where
+  pub granted_of : HasGrants total granted
+  pub within : IsValueOrReason p limits total value
+  pub by_grants : IsValueOrReason p limits (total_granted total granted) value
+
+-- a line for each of the turns, with the value behind it, or why that isn't known under the same limits. The turns share the total:
+-- each has what those before it left, and the last leaves so much
+abbrev pub AreTurnLines : LineWithUndo → Limits → Option ℕ → Option ℕ → List Turn → List ℕ → Type 0
+AreTurnLines p limits total left [] lines = (left ≡ total) × (lines ≡ [])
+AreTurnLines p limits total left (t ∷ ts) lines = (granted : ℕ) × (value : Result Side Reason) × (rest : List ℕ)
+    × IsValueByGrants (problem_after_turn p t) limits total granted value
+    × (lines ≡ turn_value_line p.frame.size t value ++ rest) × AreTurnLines p limits (total_left total granted) left ts rest
 
 -- nothing follows, or a line for each legal turn, in rising order, where they are asked for
 abbrev pub TurnLinesFollowIfAsked : LineWithUndo → Limits → Option ℕ → Bool → List ℕ → Type 0
 TurnLinesFollowIfAsked p limits total false lines = lines ≡ []
-TurnLinesFollowIfAsked p limits total true lines = AreTurnLines p limits total (legal_turns p.frame p.state) lines
+TurnLinesFollowIfAsked p limits total true lines = (left : Option ℕ) × AreTurnLines p limits total left (legal_turns p.frame p.state) lines
 
--- a verdict on the problem, and what follows of its turns
+-- the verdict on the problem, where so many expansions were granted of the total
+pub record IsVerdictByGrants (p : LineWithUndo) (limits : Limits) (total : Option ℕ) (granted : ℕ) (cert : CertKind) (text : List ℕ) : Type 0 where
+  pub granted_of : HasGrants total granted
+  pub within : IsVerdict p limits total cert text
+  pub by_grants : IsVerdict p limits (total_granted total granted) cert text
+
+-- a verdict on the problem, and what follows of its turns, which have what the problem left of the total
 abbrev pub IsAnswerText : Options → LineWithUndo → List ℕ → Type 0
-IsAnswerText options p text = (verdict lines : List ℕ) × (text ≡ verdict ++ lines)
-    × IsVerdict p options.limits options.total options.cert verdict × TurnLinesFollowIfAsked p options.limits options.total options.turns lines
+IsAnswerText options p text = (verdict lines : List ℕ) × (granted : ℕ) × (text ≡ verdict ++ lines)
+    × IsVerdictByGrants p options.limits options.total granted options.cert verdict
+    × TurnLinesFollowIfAsked p options.limits (total_left options.total granted) options.turns lines
 
 -- what is said of the problem, or the number of its refusal
 abbrev pub SolvesProblemAs : Options → Result LineWithUndo GameFault → TreeOutcome → Type 0

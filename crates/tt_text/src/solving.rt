@@ -7,8 +7,8 @@ ghost use Rattle.tt_game.specs.Turns.{legal_turns};
 ghost use Rattle.tt_proof.specs.CertificateText.{certificate_text};
 ghost use Rattle.tt_proof.specs.declared.tree.TheConstants.{MOST_DEPTH};
 ghost use Rattle.tt_proof.specs.ProofClaim.{StandsAt};
-ghost use Rattle.tt_share.specs.Answers.{IsAnswer};
-ghost use Rattle.tt_text.specs.Solving.{AreTurnLines, IsValueOrReason, IsAnswerText, Solves, TurnLinesFollowIfAsked, IsVerdict};
+ghost use Rattle.tt_text.specs.Solving.{AreTurnLines, IsAnswerText, IsVerdict, Solves, TurnLinesFollowIfAsked, total_left};
+ghost use Rattle.tt_text.specs.inside.Leaving.{IsSolvedLeaving, IsValueLeaving, IsVerdictLeaving};
 ghost use Rattle.tt_game.specs.Line.{problem_after_turn};
 
 use crate::options::{CertKind, Options};
@@ -22,7 +22,7 @@ use tt_game::{GameFault, Line, Side, Turn, problem};
 use tt_proof::{LifeProof, Proof, write_cert};
 use tt_search::Reason;
 use tt_sgf::{ItemList, MAX_BYTES, MainLine, NoMemory, Size};
-use tt_share::{Answer, CertLog, Gate, NoGate, View};
+use tt_share::{Answer, CertLog, Gate, NoGate, View, solve_counting_grants};
 
 /// Whether `check` reads the certificate of a proof behind a problem's text, with the ends of two lines.
 fn plain_cert_fits_input(
@@ -151,36 +151,49 @@ fn keep_proof<X: Wait>(rt: &X, alloc: Global, log: &CertLog, proof: Proof) -> Re
     Ok(())
 }
 
-/// Solves the problem at a line over a log of its own, where df-pn comes first if it is asked for. Where it has no memory the
-/// search goes on.
+/// What is left of a total behind so many grants.
+fn total_left(total: Option<u32>, granted: u64) -> Option<u32>
+    requires { IfSome total (λ n. granted ≤ n) }
+    ensures { result ≡ total_left total granted }
+{
+    match total {
+        Some(n) => Some(n - granted as u32),
+        None => None,
+    }
+}
+
+/// Solves the problem at a line over a log of its own, where df-pn comes first if it is asked for; and what is left of the total. Where
+/// df-pn has no memory the search goes on.
 fn solve_problem<X: Threads + Wait + Sync, G: Gate>(
     rt: &X,
     alloc: Global,
     line: &Line,
     options: Options,
+    total: Option<u32>,
     bytes: usize,
     gate: &G,
-) -> Result<Answer, NoMemory>
+) -> Result<(Answer, Option<u32>), NoMemory>
     requires { winner_of line.now.frame line.now.state ≡ None }
-    ensures { IfOk result (λ answer. IsAnswer line.now options.limits options.total answer) }
+    ensures { IfOk result (λ r. IsSolvedLeaving line.now options.limits total r.0 r.1) }
 {
     let log = CertLog::new(alloc)?;
     if let Ok(Some(proof)) = checkable_dfpn_proof(alloc, line, options, bytes) {
         let _ = keep_proof(rt, alloc, &log, proof);
     }
-    Ok(tt_share::solve(
+    let (answer, granted) = solve_counting_grants(
         rt,
         alloc,
         line,
         &options.limits,
-        options.total,
+        total,
         options.workers,
         &log,
         gate,
-    ))
+    );
+    Ok((answer, total_left(total, granted)))
 }
 
-/// The verdict on the problem at a line.
+/// The verdict on the problem at a line, and what is left of the total.
 fn verdict_at<X: Threads + Wait + Sync, G: Gate>(
     rt: &X,
     alloc: Global,
@@ -188,23 +201,17 @@ fn verdict_at<X: Threads + Wait + Sync, G: Gate>(
     options: Options,
     bytes: usize,
     gate: &G,
-) -> Result<Vec<u8>, NoMemory>
+) -> Result<(Vec<u8>, Option<u32>), NoMemory>
     requires open { winner_of line.now.frame line.now.state ≡ None }
     requires state { IsWellFormedState line.now.frame line.now.state }
-    ensures { IfOk result (λ text. IsVerdict line.now options.limits options.total options.cert text.items) }
+    ensures { IfOk result (λ r. IsVerdictLeaving line.now options.limits options.total options.cert r.0.items r.1) }
 {
     if let Ok(Some(text)) = dfpn_verdict(alloc, line, options, bytes) {
-        return Ok(text);
+        return Ok((text, options.total));
     }
-    let answer = solve_problem(rt, alloc, line, options, bytes, gate)?;
-    verdict_text(
-        alloc,
-        line,
-        &options.limits,
-        options.total,
-        &answer,
-        options.cert,
-    )
+    let (answer, left) = solve_problem(rt, alloc, line, options, options.total, bytes, gate)?;
+    let text = verdict_text(alloc, line, &options.limits, &answer, options.cert)?;
+    Ok((text, left))
 }
 
 /// Which side wins at a line, by a proof of df-pn's.
@@ -218,61 +225,66 @@ fn value_by_dfpn(alloc: Global, line: &Line, options: Options) -> Result<Option<
     Ok(Some(proof.side()))
 }
 
-/// Which side wins at a line, or why that isn't known.
+/// Which side wins at a line, or why that isn't known; and what is left of the total.
 fn value_at<X: Threads + Wait + Sync>(
     rt: &X,
     alloc: Global,
     line: &Line,
     options: Options,
-) -> Result<Side, Reason>
+    total: Option<u32>,
+) -> (Result<Side, Reason>, Option<u32>)
     requires { IsWellFormedState line.now.frame line.now.state }
-    ensures { IsValueOrReason line.now options.limits options.total result }
+    ensures { IsValueLeaving line.now options.limits total result.0 result.1 }
 {
     if let Some(side) = line.winner() {
-        return Ok(side);
+        return (Ok(side), total);
     }
     if let Ok(Some(side)) = value_by_dfpn(alloc, line, options) {
-        return Ok(side);
+        return (Ok(side), total);
     }
-    match solve_problem(rt, alloc, line, options, 0, &NoGate) {
-        Ok(answer) => value_of_answer(line, &options.limits, options.total, &answer),
-        Err(NoMemory) => Err(Reason::Memory),
+    match solve_problem(rt, alloc, line, options, total, 0, &NoGate) {
+        Ok((answer, left)) => (value_of_answer(line, &options.limits, &answer), left),
+        Err(NoMemory) => (Err(Reason::Memory), total),
     }
 }
 
-/// Which side wins behind a legal turn, or why that isn't known.
+/// Which side wins behind a legal turn, or why that isn't known; and what is left of the total.
 fn value_after_turn<X: Threads + Wait + Sync>(
     rt: &X,
     alloc: Global,
     line: &Line,
     options: Options,
+    total: Option<u32>,
     turn: Turn,
-) -> Result<Side, Reason>
+) -> (Result<Side, Reason>, Option<u32>)
     requires state { IsWellFormedState line.now.frame line.now.state }
     requires legal { IsLegal line.now.frame line.now.state turn }
-    ensures { IsValueOrReason (problem_after_turn line.now turn) options.limits options.total result }
+    ensures { IsValueLeaving (problem_after_turn line.now turn) options.limits total result.0 result.1 }
 {
     match line.after(turn) {
-        Ok(next) => value_at(rt, alloc, &next, options),
-        Err(NoMemory) => Err(Reason::Memory),
+        Ok(next) => value_at(rt, alloc, &next, options, total),
+        Err(NoMemory) => (Err(Reason::Memory), total),
     }
 }
 
-/// The lines on the legal turns of the problem at a line.
+/// The lines on the legal turns of the problem at a line. Each turn has what those before it left of the total.
 fn turn_lines<X: Threads + Wait + Sync>(
     rt: &X,
     alloc: Global,
     line: &Line,
     options: Options,
+    total: Option<u32>,
 ) -> Result<Vec<u8>, NoMemory>
     requires { IsWellFormedState line.now.frame line.now.state }
-    ensures { IfOk result (λ lines. AreTurnLines line.now options.limits options.total (legal_turns line.now.frame line.now.state) lines.items) }
+    ensures { IfOk result (λ lines. (left : Option ℕ) × AreTurnLines line.now options.limits total left (legal_turns line.now.frame line.now.state) lines.items) }
 {
     let turns = line.turns();
     let mut lines = Vec::new(alloc);
+    let mut left = total;
     for turn in turns.as_slice() {
-        let value = value_after_turn(rt, alloc, line, options, *turn);
+        let (value, rest) = value_after_turn(rt, alloc, line, options, left, *turn);
         put_turn_value_line(&mut lines, line, *turn, value)?;
+        left = rest;
     }
     Ok(lines)
 }
@@ -283,18 +295,19 @@ fn turn_lines_if_asked<X: Threads + Wait + Sync>(
     alloc: Global,
     line: &Line,
     options: Options,
+    total: Option<u32>,
 ) -> Result<Vec<u8>, NoMemory>
     requires { IsWellFormedState line.now.frame line.now.state }
-    ensures { IfOk result (λ lines. TurnLinesFollowIfAsked line.now options.limits options.total options.turns lines.items) }
+    ensures { IfOk result (λ lines. TurnLinesFollowIfAsked line.now options.limits total options.turns lines.items) }
 {
     if options.turns {
-        turn_lines(rt, alloc, line, options)
+        turn_lines(rt, alloc, line, options, total)
     } else {
         Ok(Vec::new(alloc))
     }
 }
 
-/// What is said of the problem at a line: a verdict, and the lines on its turns where they are asked for.
+/// What is said of the problem at a line: a verdict, and the lines on its turns where they are asked for. They share the total.
 #[tactic(auto, using(crate::proofs::Turns::problem_text))]
 fn solve_to_text<X: Threads + Wait + Sync, G: Gate>(
     rt: &X,
@@ -308,8 +321,8 @@ fn solve_to_text<X: Threads + Wait + Sync, G: Gate>(
     requires state { IsWellFormedState line.now.frame line.now.state }
     ensures { IfOk result (λ text. IsAnswerText options line.now text) }
 {
-    let mut text = verdict_at(rt, alloc, line, options, bytes, gate)?;
-    let lines = turn_lines_if_asked(rt, alloc, line, options)?;
+    let (mut text, left) = verdict_at(rt, alloc, line, options, bytes, gate)?;
+    let lines = turn_lines_if_asked(rt, alloc, line, options, left)?;
     text.extend_from_slice(lines.as_slice())?;
     Ok(ItemList::from_vec(text))
 }

@@ -265,13 +265,12 @@ pub fn verdict_text(
     alloc: Global,
     line: &Line,
     limits: &Limits,
-    total: Option<u32>,
     answer: &Answer,
     cert: CertKind,
 ) -> Result<Vec<u8>, NoMemory>
     requires state { IsWellFormedState line.now.frame line.now.state }
-    requires answer { IsAnswer line.now limits.now total answer.now }
-    ensures { IfOk result (λ text. IsVerdict line.now limits.now total cert text.items) }
+    requires answer { (total : Option ℕ) × IsAnswer line.now limits.now total answer.now }
+    ensures { (total : Option ℕ) → IsAnswer line.now limits.now total answer.now → IfOk result (λ text. IsVerdict line.now limits.now total cert text.items) }
 {
     match answer {
         Answer::Settled { proof, first } => {
@@ -282,15 +281,9 @@ pub fn verdict_text(
 }
 
 /// The value that an answer tells, or why it tells none.
-pub fn value_of_answer(
-    line: &Line,
-    limits: &Limits,
-    total: Option<u32>,
-    answer: &Answer,
-) -> Result<Side, Reason>
-    requires state { IsWellFormedState line.now.frame line.now.state }
-    requires answer { IsAnswer line.now limits.now total answer.now }
-    ensures { IsValueOrReason line.now limits.now total result }
+pub fn value_of_answer(line: &Line, limits: &Limits, answer: &Answer) -> Result<Side, Reason>
+    requires { IsWellFormedState line.now.frame line.now.state }
+    ensures { (total : Option ℕ) → IsAnswer line.now limits.now total answer.now → IsValueOrReason line.now limits.now total result }
 {
     match answer {
         Answer::Settled { proof, first: _ } => Ok(proof.side()),

@@ -34,10 +34,13 @@ loop-turn-preserved g c =
     let is : turn ≡ get_or items n turn = search rules in
     record {
       all = c.loop-turn.invariant.all;
-      lines = next_line c.args.line.now c.args.options.limits c.args.options.total items n turn c.loop-turn.lines.items _ c.value_after_turn-value.result lt is
+      lines = next_line c.args.line.now c.args.options.limits c.args.total c.loop-turn.left _ items n turn c.loop-turn.lines.items _ c.value_after_turn-value.result.0 lt is
           c.loop-turn.invariant.lines c.value_after_turn-value.ensures c.in_ok-put_turn_value_line.ensures;
     }
 
 pub returns : goal.returns
-returns g c = all_lines c.args.line.now c.args.options.limits c.args.options.total c.as_slice-turn-items.result.now c.loop-turn.turn-index c.loop-turn.lines.items
-    c.loop-turn-test.false c.loop-turn.invariant.all c.loop-turn.invariant.lines
+returns g c = (
+  c.loop-turn.left,
+  all_lines c.args.line.now c.args.options.limits c.args.total c.loop-turn.left c.as_slice-turn-items.result.now c.loop-turn.turn-index c.loop-turn.lines.items
+      c.loop-turn-test.false c.loop-turn.invariant.all c.loop-turn.invariant.lines,
+)

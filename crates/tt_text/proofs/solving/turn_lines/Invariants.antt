@@ -6,5 +6,5 @@ use Rattle.tt_text.proofs.solving.turn_lines.Given as goal
 abbrev pub invariant-loop-turn : goal.invariant-loop-turn
 invariant-loop-turn g l = record {
   all : l.turn-items ≡ legal_turns l.line.frame l.line.state;
-  lines : AreTurnLines l.line l.options.limits l.options.total (take l.turn-index l.turn-items) l.lines.items;
+  lines : AreTurnLines l.line l.options.limits l.fn.total l.left (take l.turn-index l.turn-items) l.lines.items;
 }
