@@ -88,3 +88,14 @@ def test_an_open_wall_is_told(tmp_path: Path) -> None:
     ended = run(str(tmp_path / "out"), str(path))
     assert "the wall is open: is a stone missing at F19 A15," in ended.stdout
     assert trees_of((tmp_path / "out" / "marked.sgf").read_text())[0].nodes[0].values("AB")[-2:] == ["fa", "ae"]
+
+
+def test_names_of_files_stay_in_their_line(tmp_path: Path) -> None:
+    path = tmp_path / "a\tb\nc.sgf"
+    path.write_text("(;SZ[9]AB[aa]")
+    name = f'"{tmp_path}/a\\tb\\nc.sgf"'
+    ended = run(str(tmp_path / "out"), str(path))
+    assert ended.stdout.splitlines()[0] == f"{name}, problem 1: refused: line 1: the tree that begins in line 1 isn't closed"
+    table = [line.split("\t") for line in (tmp_path / "out" / "report.tsv").read_text().splitlines()]
+    assert [len(row) for row in table] == [9, 9] and table[1][0] == name
+    assert json.loads((tmp_path / "out" / "report.json").read_text())["file"] == str(path)

@@ -19,15 +19,15 @@ from typing import Any, Dict, Iterator, List, Optional, Tuple
 
 from . import __version__
 from .answers import REFUSED, UNSETTLED, Answer, Verdict
-from .ask import FAILED, STOPPED, Parser, seconds
 from .asking import SECONDS, answer
 from .checking import faults
+from .command import Parser, seconds, status_of
 from .inputs import Input, UsageError, read_file
 from .problems import asked_at
-from .programs import JOBS, ProgramError, in_parallel
+from .programs import JOBS, in_parallel
 from .report import card, page, pictures
 from .sgf import GameTree, Node, main_line, to_text, write_bytes
-from .words import as_data, heading, said
+from .words import as_data, heading, said, shown
 
 __all__ = ["main"]
 
@@ -35,14 +35,13 @@ KEPT = "answers.json"
 COLUMNS = ("file", "problem", "name", "verdict", "winning", "failing", "if_other_begins", "closings", "faults")
 
 
-def parser() -> argparse.ArgumentParser:
+def parser() -> Parser:
     usage = "tsumego-book FOLDER FILE.. [--seconds N] [--jobs N]"
-    made = Parser(prog="tsumego-book", usage=usage, description=__doc__, formatter_class=argparse.RawDescriptionHelpFormatter, allow_abbrev=False)
+    made = Parser("tsumego-book", usage, __doc__)
     made.add_argument("folder", help=argparse.SUPPRESS)
     made.add_argument("files", nargs="+", help=argparse.SUPPRESS)
     made.add_argument("--seconds", type=seconds, default=SECONDS, metavar="N", help=f"how long a problem may take, and its solution ({SECONDS:.0f})")
     made.add_argument("--jobs", type=int, default=JOBS, metavar="N", help=f"how many problems are asked at a time ({JOBS})")
-    made.add_argument("--version", action="version", version=f"tsumego-book {__version__}")
     return made
 
 
@@ -51,9 +50,9 @@ def asked(given: Input, limit: float) -> Dict[str, Any]:
     found = answer(given.tree, None, limit) if given.tree else Answer("", Verdict(REFUSED, None, "1"), why=given.fault)
     wrong = faults(given.tree, found, limit) if given.tree else [f"refused: {given.fault}"]
     name = heading(given.file, given.number, found.name)
-    shown = [f"Look: {each}." for each in wrong] + said(found)
+    lines = [f"Look: {each}." for each in wrong] + said(found)
     tree = to_text(with_marks(given.tree, found)) if given.tree else ""
-    return {**as_data(given.file, given.number, found), "faults": wrong, "card": card(name, shown, pictures(found), bool(wrong)), "tree": tree}
+    return {**as_data(given.file, given.number, found), "faults": wrong, "card": card(name, lines, pictures(found), bool(wrong)), "tree": tree}
 
 
 def with_marks(tree: GameTree, found: Answer) -> GameTree:
@@ -136,6 +135,7 @@ def cells(row: Dict[str, Any]) -> List[str]:
     """A row of the table, each cell without tabs and ends of lines."""
     texts = {
         **row,
+        "file": shown(row["file"]),
         "winning": " ".join(row["winning"]),
         "failing": " ".join(f"{each['turn']}:{each['refutation'] or '-'}" for each in row["failing"]),
         "closings": "; ".join(f"{' '.join(each['stones'])}: {each['verdict']}" for each in row["closings"]),
@@ -163,14 +163,7 @@ def run(args: argparse.Namespace) -> int:
 def main(words: Optional[List[str]] = None) -> int:
     """Runs the command; returns its status."""
     args = parser().parse_args(words)
-    try:
-        return run(args)
-    except KeyboardInterrupt:
-        print("tsumego-book: stopped; the report has what was asked until now, and a further run goes on", file=sys.stderr)
-        return STOPPED
-    except (UsageError, ProgramError, OSError) as fault:
-        print(f"tsumego-book: {fault}", file=sys.stderr)
-        return FAILED
+    return status_of("tsumego-book", lambda: run(args), "the report has what was asked until now, and a further run goes on")
 
 
 if __name__ == "__main__":

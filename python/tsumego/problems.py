@@ -140,7 +140,8 @@ def name_of(nodes: List[Node]) -> Tuple[str, str]:
     """The problem's name (GN), and the comment at its position."""
     charset = nodes[0].first("CA")
     comments = [node.first("C") for node in nodes if node.has("C")]
-    return " ".join(plain(nodes[0].first("GN"), charset).split()), plain(comments[-1], charset).strip() if comments else ""
+    name = " ".join(plain(nodes[0].first("GN"), charset).split())
+    return "".join(filter(str.isprintable, name)), plain(comments[-1], charset).strip() if comments else ""
 
 
 def problem_of(tree: GameTree) -> Problem:
