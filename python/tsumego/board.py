@@ -1,6 +1,6 @@
 """A board: stones by their points, plays that take stones. The rules are Tromp-Taylor, so suicide of several stones is legal."""
 import functools
-from typing import Dict, Iterable, List, Set, Tuple
+from typing import Dict, FrozenSet, Iterable, List, Set, Tuple
 
 from .points import PASS, place, sgf_name
 
@@ -76,6 +76,10 @@ class Board:
 
     def copy(self) -> "Board":
         return Board(self.columns, self.rows, self.stones)
+
+    def key(self) -> FrozenSet[Tuple[str, str]]:
+        """What is the same for equal positions alone."""
+        return frozenset(self.stones.items())
 
     def of(self, colour: str) -> List[str]:
         """The stones of a colour, row by row."""

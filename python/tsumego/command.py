@@ -3,6 +3,7 @@ import argparse
 import difflib
 import os
 import re
+import signal
 import sys
 from typing import Callable, NoReturn
 
@@ -38,7 +39,10 @@ def seconds(word: str) -> float:
 
 
 def status_of(name: str, run: Callable[[], int], stopped: str) -> int:
-    """Runs a command and returns its status. A fault gets a line on standard error, and so does Ctrl-C, with what stays then."""
+    """Runs a command and returns its status. A fault gets a line on standard error, and so does Ctrl-C, with what stays then. At SIGTERM
+    and SIGHUP the programs that run are ended too."""
+    for number in (signal.SIGTERM, signal.SIGHUP):
+        signal.signal(number, lambda given, _: sys.exit(128 + given))
     try:
         return run()
     except KeyboardInterrupt:
