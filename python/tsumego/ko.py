@@ -1,4 +1,6 @@
-"""Does a ko decide? The programs know no ko threats outside the region. So problems are made in which the loser has some.
+"""Does a ko decide? The programs know no ko threats outside the region. Where the winner's strategy answers each play of the loser that
+the board allows, also those that only the rule of repetition forbids, no ko decides, however many threats the loser has: the winner answers
+each threat, and goes on. Elsewhere problems are made in which the loser has threats.
 
 A threat of the attacker: in an empty corner a stone of the defender that counts as a target, with its two liberties in the region. A
 play on one of them threatens to take it.
@@ -6,8 +8,9 @@ play on one of them threatens to take it.
 A threat of the defender: a chain of the wall beside the targets gets just two liberties, both in the region. A play on one of them
 threatens to take the chain, and then the targets can't be taken any more. A play of the attacker on the other one saves it.
 
-If no such chain is there, the defender is asked as if it had a threat at a ko that the attacker takes: the position is set up anew, so
-that it may take back at once. Each turn of the attacker that kills has to be such a ko, or to let the defender reach one by a turn.
+If that changes nothing, since the attacker takes a target meanwhile, or if no such chain is there, the defender is asked as if it had a
+threat that is answered at a ko that the attacker takes: the position is set up anew, so that it may take back at once. Each turn of the
+attacker that kills has to be such a ko, or to let the defender reach one by a turn.
 
 What this can't see: a ko that needs more threats; without room for a threat, a ko that comes later.
 """
@@ -15,16 +18,19 @@ import itertools
 from dataclasses import replace
 from typing import Dict, List, Optional, Set, Tuple
 
-from .answers import KILLED, LIVES, Answer, Ko
+from .answers import KILLED, LIVES, Answer, Ko, Verdict
 from .board import OTHER, Board
-from .points import sgf_name
+from .points import PASS, sgf_name
 from .problems import Problem
 from .sgf import Node
-from .solving import Clock, first_turns, verdict
+from .solving import Clock, certificate, first_turns, verdict
+from .strategy import Strategy, read_certificate
 
-__all__ = ["ko_of", "with_attackers_threat", "with_defenders_threat"]
+__all__ = ["is_without_ko", "ko_of", "with_attackers_threat", "with_defenders_threat"]
 
 MOST_THREATS = 3
+# A longer certificate isn't looked through: that takes too long.
+LONGEST = 100_000
 # So many turns of the defender lead to a ko at most, and so many turns of the attacker are followed at each.
 DEEPEST, MOST_TURNS = 2, 3
 
@@ -35,23 +41,54 @@ def ko_of(answer: Answer, clock: Clock) -> Ko:
     problem = answer.problem
     assert problem
     clock = Clock(min(clock.left(), clock.seconds / 5))
-    add = with_attackers_threat if answer.verdict.word == LIVES else with_defenders_threat
+    line = certificate(problem, clock)
+    if line and len(line) <= LONGEST and is_without_ko(problem, read_certificate(line)):
+        return Ko(False, 0, ())
+    found = _with_threats(problem, answer.verdict, clock)
+    if found.decides or answer.verdict.word == LIVES:
+        return found
+    taking = _TakingBack(clock)
+    # (a defender that can do nothing passes, and the attacker begins)
+    begins = [problem] if problem.to_move == problem.attacker else [problem, problem.after(PASS)]
+    after = next(filter(None, (taking.living(each, depth) for depth in range(1, DEEPEST + 1) for each in begins)), [])
+    return Ko(True, 1, tuple(after)) if after else found
+
+
+def _with_threats(problem: Problem, verdict_without: Verdict, clock: Clock) -> Ko:
+    """What the problems with one, two and three threats of the loser say."""
+    add = with_attackers_threat if verdict_without.word == LIVES else with_defenders_threat
     tried: List[Problem] = []
     made = add(problem) if problem.region else None
     while made and len(tried) < MOST_THREATS:
         tried.append(made)
         found = verdict(made, clock)
-        if not found.is_settled:
-            return Ko(None, len(tried), tuple(tried))
-        if found.word != answer.verdict.word:
-            return Ko(True, len(tried), tuple(tried))
+        if not found.is_settled or found.word != verdict_without.word:
+            return Ko(True if found.is_settled else None, len(tried), tuple(tried))
         made = add(made)
-    if not tried and answer.verdict.word == KILLED:
-        taking = _TakingBack(clock)
-        for depth in range(1, DEEPEST + 1):
-            tried = tried or taking.living(problem, depth)
-        return Ko(True if tried else None, 1, tuple(tried))
     return Ko(False if tried else None, len(tried), tuple(tried))
+
+
+def is_without_ko(problem: Problem, strategy: Strategy) -> bool:
+    """Whether a strategy answers each play that the board allows. A suicide of one stone is none."""
+    board, to_move = problem.position()
+    seen: Set[int] = set()
+    waiting = [(board, to_move, strategy)]
+    while waiting:
+        board, colour, each = waiting.pop()
+        if id(each) in seen:
+            continue
+        seen.add(id(each))
+        if each.replies and any(not _is_single_suicide(board, colour, point) for point in problem.open_points(board) if point not in each.replies):
+            return False
+        for turn, then in each.branches():
+            after = board.copy()
+            after.play(colour, turn)
+            waiting.append((after, OTHER[colour], then))
+    return True
+
+
+def _is_single_suicide(board: Board, colour: str, point: str) -> bool:
+    return board.copy().play(colour, point) == {point}
 
 
 def with_attackers_threat(problem: Problem) -> Optional[Problem]:
@@ -139,6 +176,9 @@ class _TakingBack:
         if not all(target in board.stones for target in problem.targets):
             return []
         if to_move == problem.defender:
+            made = _anew(problem)
+            if problem.nodes[-1].has(problem.attacker) and verdict(made, self.clock).word == LIVES:
+                return [made]
             for turn in problem.open_points() if depth and self.clock.left() > 0 else []:
                 found = self.living(problem.after(turn), depth - 1)
                 if found:
@@ -153,8 +193,13 @@ class _TakingBack:
         board, colour = problem.position()
         taken = board.play(colour, turn)
         if len(taken) == 1 and board.liberties(turn) == taken and len(board.chain(turn)) == 1:
-            node = Node().add("AB", *board.of("B")).add("AW", *board.of("W")).add("PL", problem.defender)
-            made = replace(problem, nodes=(node,))
+            made = _anew(problem.after(turn))
             if verdict(made, self.clock).word == LIVES:
                 return [made]
         return self.living(problem.after(turn), depth)
+
+
+def _anew(problem: Problem) -> Problem:
+    """The position set up anew: what was there before may be repeated."""
+    board, to_move = problem.position()
+    return replace(problem, nodes=(Node().add("AB", *board.of("B")).add("AW", *board.of("W")).add("PL", to_move),))
