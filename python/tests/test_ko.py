@@ -8,7 +8,7 @@ import pytest
 
 import tsumego
 from tsumego import words
-from tsumego.ko import is_without_ko, with_attackers_threat, with_defenders_threat
+from tsumego.ko import leaning_on_repetition, with_attackers_threat, with_defenders_threat
 from tsumego.problems import problem_of
 from tsumego.sgf import trees_of
 from tsumego.strategy import read_certificate
@@ -54,13 +54,14 @@ def test_eye_spaces_without_a_ko(row: Tuple[str, ...]) -> None:
     assert answer.verdict.word == row[1] and answer.ko and answer.ko.decides is False
 
 
-def test_a_strategy_that_leans_on_no_ko() -> None:
+def test_a_strategy_that_leans_on_repetition() -> None:
     ko = problem_of(trees_of(kos.KOS[2].text())[0])
     # Black may not take back, so its take isn't among the turns that are answered: White takes the stone, and has two eyes.
-    assert not is_without_ko(ko, read_certificate("lives ?bd!gd.fd!gd.gd!dd.--!gd.;"))
-    assert is_without_ko(ko, read_certificate("lives ?bd.dd.gd.--.;"))
+    found = leaning_on_repetition(ko, read_certificate("lives ?gd!dd.--!gd.;"))
+    assert found and [each.position()[0].key() for each in found] == [ko.position()[0].key()] and found[0].legal_turns() == ["dd", "gd", "pass"]
+    assert leaning_on_repetition(ko, read_certificate("lives ?dd.gd.--.;")) == []
     cut = problem_of(trees_of(kos.NO_KOS[0].text())[0])
-    assert is_without_ko(cut, read_certificate("killed !aa."))
+    assert leaning_on_repetition(cut, read_certificate("killed !aa.")) == []
 
 
 def test_threats_have_room() -> None:

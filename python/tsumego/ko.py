@@ -1,6 +1,8 @@
-"""Does a ko decide? The programs know no ko threats outside the region. Where the winner's strategy answers each play of the loser that
-the board allows, also those that only the rule of repetition forbids, no ko decides, however many threats the loser has: the winner answers
-each threat, and goes on. Elsewhere problems are made in which the loser has threats.
+"""Does a ko decide? The programs know no ko threats outside the region.
+
+Where the winner's strategy answers each play of the loser that the board allows, no ko decides, however many threats the loser has: the
+winner answers each of them, and goes on. Where the strategy leans on it that a play would repeat a position, that position is set up anew,
+as it is after a threat: if the winner wins there too, one threat is of no use. Otherwise problems are made in which the loser has threats.
 
 A threat of the attacker: in an empty corner a stone of the defender that counts as a target, with its two liberties in the region. A
 play on one of them threatens to take it.
@@ -16,42 +18,45 @@ What this can't see: a ko that needs more threats; without room for a threat, a 
 """
 import itertools
 from dataclasses import replace
-from typing import Dict, List, Optional, Set, Tuple
+from typing import Dict, FrozenSet, List, Optional, Set, Tuple
 
 from .answers import KILLED, LIVES, Answer, Ko, Verdict
 from .board import OTHER, Board
 from .points import PASS, sgf_name
 from .problems import Problem
+from .programs import in_parallel
 from .sgf import Node
-from .solving import Clock, certificate, first_turns, verdict
-from .strategy import Strategy, read_certificate
+from .solving import Clock, first_turns, verdict
+from .strategy import Strategy
 
-__all__ = ["is_without_ko", "ko_of", "with_attackers_threat", "with_defenders_threat"]
+__all__ = ["ko_of", "leaning_on_repetition", "with_attackers_threat", "with_defenders_threat"]
 
 MOST_THREATS = 3
-# A longer certificate isn't looked through: that takes too long.
-LONGEST = 100_000
+# A strategy of more positions isn't looked through: that takes too long. And so many of them are asked about.
+LONGEST, MOST_LEANING = 5_000, 24
 # So many turns of the defender lead to a ko at most, and so many turns of the attacker are followed at each.
 DEEPEST, MOST_TURNS = 2, 3
 
 
-def ko_of(answer: Answer, clock: Clock) -> Ko:
-    """What made problems say of a settled answer: with how many threats of the loser it becomes another one, up to three. It takes a
-    fifth of the clock's seconds at most."""
+def ko_of(answer: Answer, ours: Optional[Strategy], clock: Clock) -> Ko:
+    """What made problems say of a settled answer: with how many threats of the loser it becomes another one, up to three. `ours` is the
+    winner's strategy, if it was found. It takes a tenth of the clock's seconds at most."""
     problem = answer.problem
     assert problem
-    clock = Clock(min(clock.left(), clock.seconds / 5))
-    line = certificate(problem, clock)
-    if line and len(line) <= LONGEST and is_without_ko(problem, read_certificate(line)):
-        return Ko(False, 0, ())
-    found = _with_threats(problem, answer.verdict, clock)
-    if found.decides or answer.verdict.word == LIVES:
-        return found
+    clock = Clock(min(clock.left(), clock.seconds / 10))
+    leaning = leaning_on_repetition(problem, ours) if ours else None
+    if leaning is not None:
+        found = in_parallel(lambda each: verdict(each, clock), leaning)
+        if all(each.word == answer.verdict.word for each in found):
+            return Ko(False, 1 if found else 0, tuple(leaning))
+    threats = _with_threats(problem, answer.verdict, clock)
+    if threats.decides or answer.verdict.word == LIVES:
+        return threats
     taking = _TakingBack(clock)
     # (a defender that can do nothing passes, and the attacker begins)
     begins = [problem] if problem.to_move == problem.attacker else [problem, problem.after(PASS)]
     after = next(filter(None, (taking.living(each, depth) for depth in range(1, DEEPEST + 1) for each in begins)), [])
-    return Ko(True, 1, tuple(after)) if after else found
+    return Ko(True, 1, tuple(after)) if after else threats
 
 
 def _with_threats(problem: Problem, verdict_without: Verdict, clock: Clock) -> Ko:
@@ -68,27 +73,25 @@ def _with_threats(problem: Problem, verdict_without: Verdict, clock: Clock) -> K
     return Ko(False if tried else None, len(tried), tuple(tried))
 
 
-def is_without_ko(problem: Problem, strategy: Strategy) -> bool:
-    """Whether a strategy answers each play that the board allows. A suicide of one stone is none."""
-    board, to_move = problem.position()
-    seen: Set[int] = set()
-    waiting = [(board, to_move, strategy)]
+def leaning_on_repetition(problem: Problem, ours: Strategy) -> Optional[List[Problem]]:
+    """The positions of a strategy, set up anew, at which the other side may not play where the board allows it, since that repeats a position;
+    None where there are many, or where the strategy is long. (A suicide of one stone changes no position.)"""
+    found: Dict[FrozenSet[Tuple[str, str]], Problem] = {}
+    region, seen = set(problem.region or problem.position()[0].points()), {id(ours)}
+    waiting = [(*problem.position(), ours)]
     while waiting:
         board, colour, each = waiting.pop()
-        if id(each) in seen:
-            continue
-        seen.add(id(each))
-        if each.replies and any(not _is_single_suicide(board, colour, point) for point in problem.open_points(board) if point not in each.replies):
-            return False
+        if each.replies and any(board.copy().play(colour, point) != {point} for point in region - board.stones.keys() - each.replies.keys()):
+            found[board.key()] = replace(problem, nodes=(_setup(board, colour),))
+        if len(found) > MOST_LEANING or len(seen) > LONGEST:
+            return None
         for turn, then in each.branches():
-            after = board.copy()
-            after.play(colour, turn)
-            waiting.append((after, OTHER[colour], then))
-    return True
-
-
-def _is_single_suicide(board: Board, colour: str, point: str) -> bool:
-    return board.copy().play(colour, point) == {point}
+            if id(then) not in seen and then.branches():
+                seen.add(id(then))
+                after = board.copy()
+                after.play(colour, turn)
+                waiting.append((after, OTHER[colour], then))
+    return list(found.values())
 
 
 def with_attackers_threat(problem: Problem) -> Optional[Problem]:
@@ -201,5 +204,8 @@ class _TakingBack:
 
 def _anew(problem: Problem) -> Problem:
     """The position set up anew: what was there before may be repeated."""
-    board, to_move = problem.position()
-    return replace(problem, nodes=(Node().add("AB", *board.of("B")).add("AW", *board.of("W")).add("PL", to_move),))
+    return replace(problem, nodes=(_setup(*problem.position()),))
+
+
+def _setup(board: Board, to_move: str) -> Node:
+    return Node().add("AB", *board.of("B")).add("AW", *board.of("W")).add("PL", to_move)
