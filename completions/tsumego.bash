@@ -1,4 +1,5 @@
-# Completion of tsumego for bash. Source this file, or copy it to /usr/share/bash-completion/completions/tsumego.
+# Completion of tsumego, tsumego-show, tsumego-ask and tsumego-book for bash. Source this file, or copy it to
+# /usr/share/bash-completion/completions under each of these names.
 _tsumego() {
     local word=${COMP_WORDS[COMP_CWORD]} words=''
     case $COMP_CWORD,${COMP_WORDS[1]},$word in
@@ -10,3 +11,5 @@ _tsumego() {
 }
 complete -o default -F _tsumego tsumego
 complete -o default -W '--mark --svg --sgf --depth' tsumego-show
+complete -o default -W '-o --html --json --seconds --help --version' tsumego-ask
+complete -o default -W '--seconds --jobs --machines --certificates --help --version' tsumego-book

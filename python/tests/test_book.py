@@ -1,7 +1,11 @@
 """The command tsumego-book: a book with planted errors."""
+import fcntl
 import json
+import os
+import signal
 import subprocess
 import sys
+import time
 from pathlib import Path
 from typing import Dict
 
@@ -42,8 +46,8 @@ def book(tmp_path: Path) -> Path:
     return path
 
 
-def run(*words: str) -> "subprocess.CompletedProcess[str]":
-    return subprocess.run([sys.executable, "-B", str(BOOK), "--seconds", "40", *words], capture_output=True, text=True, check=False)
+def run(*words: str, **more: Dict[str, str]) -> "subprocess.CompletedProcess[str]":
+    return subprocess.run([sys.executable, "-B", str(BOOK), "--seconds", "40", *words], capture_output=True, text=True, check=False, **more)
 
 
 def test_planted_errors_are_told_and_nothing_else(book: Path, tmp_path: Path) -> None:
@@ -60,7 +64,7 @@ def test_planted_errors_are_told_and_nothing_else(book: Path, tmp_path: Path) ->
     page = (out / "report.html").read_text()
     assert page.count("class=fault") == 4 and page.rindex("class=fault") < page.index(f"{book}, problem 1: one")
     table = [line.split("\t") for line in (out / "report.tsv").read_text().splitlines()]
-    assert len(table) == 9 and {len(row) for row in table} == {9} and table[1][2:5] == ["one", "killed", "F9"]
+    assert len(table) == 9 and {len(row) for row in table} == {10} and table[1][2:5] == ["one", "killed", "F9"]
     marked = trees_of((out / "marked.sgf").read_text())
     assert len(marked) == 8 and all(tree.nodes[0].has("TR") and tree.nodes[0].has("SQ") for tree in marked)
     assert marked[1].variations[0].nodes[0].first("C") == "Wrong."
@@ -77,6 +81,63 @@ def test_a_further_run_asks_only_what_is_new(book: Path, tmp_path: Path) -> None
     assert len((out / "report.json").read_text().splitlines()) == 9
 
 
+def test_changes_are_told(tmp_path: Path) -> None:
+    path, out = tmp_path / "book.sgf", str(tmp_path / "out")
+    one, two = problem("centre_straight_three_B", "one", ""), problem("centre_straight_three_W", "two", "")
+    path.write_text(one + two)
+    assert len(run(out, str(path)).stdout.splitlines()) == 1
+    # A stone on the vital point, and another problem in front.
+    path.write_text(problem("centre_two_B", "new", "") + one.replace("AB[", f"AW[{THREE}]AB[", 1))
+    told = run(out, str(path)).stdout.splitlines()
+    # (two is dead as it stands, whoever begins)
+    assert told[1:4] == [f"new: {path}: new: killed by D9, E9, F9, G9, pass", f"changed: {path}: one: killed by F9 -> lives", f"gone: {path}: two: lives by F9"]
+
+
+def test_certificates_are_checked(book: Path, tmp_path: Path) -> None:
+    out = tmp_path / "out"
+    run(str(out), str(book), "--certificates")
+    assert {json.loads(line)["certificate"] for line in (out / "report.json").read_text().splitlines()} == {"valid"}
+
+
+def test_a_certificate_that_is_none(tmp_path: Path) -> None:
+    # A program that says `killed`, and whose strategies are wrong.
+    liar, path = tmp_path / "liar", tmp_path / "book.sgf"
+    liar.write_text(f"#!/bin/sh\ncase $* in *--cert*) echo 1 killed; echo 'killed !aa.' ;; solve*) echo 1 killed fe ;; *) exec {os.environ['TSUMEGO']} $* ;; esac\n")
+    liar.chmod(0o755)
+    path.write_text(problem("centre_straight_three_B", "one", ""))
+    ended = run(str(tmp_path / "out"), str(path), "--certificates", env={**os.environ, "TSUMEGO": str(liar)})
+    assert "its certificate is invalid" in ended.stdout.splitlines()[0]
+
+
+def test_one_run_at_a_time(book: Path, tmp_path: Path) -> None:
+    out = tmp_path / "out"
+    out.mkdir()
+    with open(out / "answers.json", "w", encoding="utf-8") as kept:
+        fcntl.flock(kept, fcntl.LOCK_EX)
+        ended = run(str(out), str(book))
+    assert (ended.returncode, ended.stderr) == (2, f"tsumego-book: another run works in {out}\n")
+
+
+def test_a_run_that_is_ended_leaves_no_program(book: Path, tmp_path: Path) -> None:
+    slow, out = tmp_path / "slow", tmp_path / "out"
+    slow.write_text(f"#!/bin/sh\necho $$ >> {tmp_path}/pids\nexec sleep 600\n")
+    slow.chmod(0o755)
+    words = [sys.executable, "-B", str(BOOK), str(out), str(book), "--seconds", "600"]
+    with subprocess.Popen(words, env={**os.environ, "TSUMEGO": str(slow), "TSUMEGO_SHOW": str(slow)}) as process:
+        while not (tmp_path / "pids").exists():
+            time.sleep(0.05)
+        process.send_signal(signal.SIGTERM)
+        assert process.wait(60) == 143
+    time.sleep(0.2)
+    assert not any(os.path.exists(f"/proc/{pid}") for pid in (tmp_path / "pids").read_text().split()) and (out / "report.html").exists()
+
+
+def test_a_comment_that_swallows_a_problem(tmp_path: Path) -> None:
+    path = tmp_path / "book.sgf"
+    path.write_text(problem("centre_straight_three_B", "one", f";B[{THREE}]C[Correct.)\n(;SZ[9]AB[aa]"))
+    assert "C holds (;: is its ] missing" in run(str(tmp_path / "out"), str(path)).stdout
+
+
 def test_a_folder_of_others_is_left_alone(book: Path, tmp_path: Path) -> None:
     ended = run(str(tmp_path), str(book))
     assert ended.returncode == 2 and "names a new folder" in ended.stderr and ended.stdout == ""
@@ -88,3 +149,14 @@ def test_an_open_wall_is_told(tmp_path: Path) -> None:
     ended = run(str(tmp_path / "out"), str(path))
     assert "the wall is open: is a stone missing at F19 A15," in ended.stdout
     assert trees_of((tmp_path / "out" / "marked.sgf").read_text())[0].nodes[0].values("AB")[-2:] == ["fa", "ae"]
+
+
+def test_names_of_files_stay_in_their_line(tmp_path: Path) -> None:
+    path = tmp_path / "a\tb\nc.sgf"
+    path.write_text("(;SZ[9]AB[aa]")
+    name = f'"{tmp_path}/a\\tb\\nc.sgf"'
+    ended = run(str(tmp_path / "out"), str(path))
+    assert ended.stdout.splitlines()[0] == f"{name}, problem 1: refused: line 1: the tree that begins in line 1 isn't closed"
+    table = [line.split("\t") for line in (tmp_path / "out" / "report.tsv").read_text().splitlines()]
+    assert [len(row) for row in table] == [10, 10] and table[1][0] == name
+    assert json.loads((tmp_path / "out" / "report.json").read_text())["file"] == str(path)

@@ -3,13 +3,15 @@ from pathlib import Path
 from typing import Tuple
 
 import data
+import kos
 import pytest
 
 import tsumego
 from tsumego import words
-from tsumego.ko import with_attackers_threat, with_defenders_threat
+from tsumego.ko import leaning_on_repetition, with_attackers_threat, with_defenders_threat
 from tsumego.problems import problem_of
 from tsumego.sgf import trees_of
+from tsumego.strategy import read_certificate
 
 EXAMPLES = Path(__file__).resolve().parents[2] / "examples"
 SECONDS = 50
@@ -39,10 +41,27 @@ def test_a_ko_that_is_taken(name: str, verdict: str) -> None:
     assert {tsumego.solve(each.text()).verdict.word for each in answer.ko.tried} == {"killed", "lives"} - {verdict}
 
 
-@pytest.mark.parametrize("row", [row for row in data.SHAPES if "three" in row[0] or "two" in row[0] or "square" in row[0]], ids=lambda row: row[0])
-def test_shapes_without_a_ko(row: Tuple[str, ...]) -> None:
-    answer = tsumego.solve(row[3], None, SECONDS)
-    assert answer.verdict.word == row[1] and answer.ko and not answer.ko.decides
+@pytest.mark.parametrize("shape", kos.KOS + kos.NO_KOS, ids=lambda shape: shape.name)
+def test_kos_as_books_know_them(shape: kos.Shape) -> None:
+    answer = tsumego.solve(shape.text(), None, SECONDS)
+    assert answer.ko and (answer.verdict.word, bool(answer.ko.decides)) == (shape.verdict, shape.is_ko)
+    assert len({tsumego.solve(each.text(), None, SECONDS).verdict.word for each in answer.ko.tried}) <= 1 + shape.is_ko
+
+
+@pytest.mark.parametrize("row", [row for row in data.SHAPES if row[0].startswith("centre_")], ids=lambda row: row[0])
+def test_eye_spaces_without_a_ko(row: Tuple[str, ...]) -> None:
+    answer = tsumego.solve(row[3].replace("PL[", f"{row[2]}PL[", 1), None, SECONDS)
+    assert answer.verdict.word == row[1] and answer.ko and answer.ko.decides is False
+
+
+def test_a_strategy_that_leans_on_repetition() -> None:
+    ko = problem_of(trees_of(kos.KOS[2].text())[0])
+    # Black may not take back, so its take isn't among the turns that are answered: White takes the stone, and has two eyes.
+    found = leaning_on_repetition(ko, read_certificate("lives ?gd!dd.--!gd.;"))
+    assert found and [each.position()[0].key() for each in found] == [ko.position()[0].key()] and found[0].legal_turns() == ["dd", "gd", "pass"]
+    assert leaning_on_repetition(ko, read_certificate("lives ?dd.gd.--.;")) == []
+    cut = problem_of(trees_of(kos.NO_KOS[0].text())[0])
+    assert leaning_on_repetition(cut, read_certificate("killed !aa.")) == []
 
 
 def test_threats_have_room() -> None:

@@ -2,6 +2,7 @@
 import pytest
 
 from tsumego.board import Board
+from tsumego.dividing import after_pass, joined
 from tsumego.points import editor_name, read_point
 from tsumego.problems import chapter, problem_of
 from tsumego.sgf import to_text, trees_of
@@ -44,6 +45,9 @@ def test_a_problem_and_those_that_follow() -> None:
     assert found.after("ca").text() == "(;GM[1]FF[4]SZ[4:1]AW[ba]PL[B];B[ca]TR[ba]SQ[aa][ca])"
     assert found.after("ca").to_move == "W" and found.with_other_side().to_move == "W"
     assert found.with_other_side().with_other_side() == found
+    # Black is taken to have passed in front of White's pass.
+    implied = problem("(;SZ[1:5]AB[aa];W[]TR[aa])")
+    assert (implied.to_move, implied.with_other_side().to_move) == ("B", "W")
     assert found.with_stones("B", ["da"]).text() == "(;GM[1]FF[4]SZ[4:1]AW[ba]PL[B]AB[da]TR[ba]SQ[aa][ca])"
 
 
@@ -65,6 +69,25 @@ def test_chapters() -> None:
     assert [to_text(each) for each in chapter(tree)] == ["(;GN[x]SZ[9];AB[aa];B[bb])", "(;GN[x]SZ[19];AW[ab])"]
     solution = trees_of("(;AB[aa](;B[ab])(;AB[ac]))")[0]
     assert chapter(solution) == [solution]
+
+
+def test_legal_turns() -> None:
+    # Black takes the ko, and White may not take back.
+    found = problem("(;SZ[4:2]AB[aa][bb]AW[ba][da][cb]PL[B];B[ca]TR[da]SQ[ba][db])")
+    assert found.position()[0].key() == {("aa", "B"), ("bb", "B"), ("ca", "B"), ("da", "W"), ("cb", "W")}
+    assert found.legal_turns() == ["db", "pass"]
+    # A setup begins a new history.
+    assert problem("(;SZ[4:2]AB[aa][bb][ca]AW[da][cb]PL[W]TR[da]SQ[ba][db])").legal_turns() == ["ba", "db", "pass"]
+    # A suicide of one stone repeats the position, one of two stones doesn't.
+    assert problem("(;SZ[3:1]AW[ba]PL[B]TR[ba])").legal_turns() == ["pass"]
+    assert problem("(;SZ[3:2]AW[ba][ab]PL[B]TR[ba]SQ[aa])").legal_turns() == ["pass"]
+    assert problem("(;SZ[4:1]AB[ba]AW[ca]PL[B]TR[ba]SQ[aa])").legal_turns() == ["aa", "pass"]
+
+
+def test_certificates_that_are_joined() -> None:
+    assert after_pass("?aa=!ab.ba*0--!aa.;") == "?aa=!ab.ba*0--.;"
+    assert after_pass("?aa?ab.--.;ba!--?--.;--?;;") == "?aa?ab.--.;ba!--?--.;--.;"
+    assert joined([("aa", "=!ab=?--.;"), ("ba", "!aa=?ca*0;"), ("--", "*1")]) == "aa=!ab=?--.;ba!aa=?ca*2;--*4"
 
 
 def test_certificates() -> None:

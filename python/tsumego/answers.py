@@ -55,7 +55,7 @@ class Closing:
 @dataclass(frozen=True)
 class Ko:
     """Whether a ko decides: `decides` is None where that couldn't be tried or wasn't settled. With so many `threats` the loser wins, or
-    loses still. `tried` are the problems that say so."""
+    loses still; 0 where the winner's strategy shows that it loses with any number. `tried` are the problems that say so."""
 
     decides: Optional[bool]
     threats: int

@@ -9,54 +9,32 @@ FILE is a file in SGF, also of many problems, or - for standard input. STONE is 
 The status is 0 if each problem was settled, 1 if one is open or was refused, and 2 if nothing could be done.
 """
 import argparse
-import difflib
 import json
 import os
-import re
 import sys
-from typing import IO, List, NoReturn, Optional
+from typing import IO, List, Optional
 
-from . import __version__
 from .answers import REFUSED, Answer, Verdict
 from .asking import SECONDS, answer, with_strategies
+from .command import Parser, seconds, status_of
 from .inputs import Input, UsageError, files_and_stone, read_file
-from .programs import ProgramError
 from .report import answer_card, page
 from .sgf import to_text, write_bytes
 from .solution import solution
-from .words import as_data, heading, said
+from .words import as_data, heading, said, shown
 
 __all__ = ["main"]
-FAILED, STOPPED = 2, 130
-
-
-class Parser(argparse.ArgumentParser):
-    """Says which option a typo stands for."""
-
-    def error(self, message: str) -> NoReturn:
-        wrong = re.search(r"unrecognized arguments: (-[^\s=]*)", message)
-        options = [word for action in self._actions for word in action.option_strings]
-        near = difflib.get_close_matches(wrong[1], options, 1) if wrong else []
-        self.exit(2, f"{self.prog}: {message}{f'; is {near[0]} meant?' if near else ''} ({self.prog} --help explains the words)\n")
 
 
 def parser() -> Parser:
     usage = "tsumego-ask FILE.. [STONE] [-o OUT.sgf] [--html OUT] [--json] [--seconds N]"
-    made = Parser(prog="tsumego-ask", usage=usage, description=__doc__, formatter_class=argparse.RawDescriptionHelpFormatter, allow_abbrev=False)
+    made = Parser("tsumego-ask", usage, __doc__)
     made.add_argument("words", nargs="*", help=argparse.SUPPRESS)
     made.add_argument("-o", dest="out", metavar="OUT.sgf", help="write the answers as SGF too, each first move as a variation")
     made.add_argument("--html", metavar="OUT", help="write the answers as a page with pictures too")
     made.add_argument("--json", action="store_true", help="write a JSON object in a line for each problem")
     made.add_argument("--seconds", type=seconds, default=SECONDS, metavar="N", help=f"how long a problem may take ({SECONDS:.0f})")
-    made.add_argument("--version", action="version", version=f"tsumego-ask {__version__}")
     return made
-
-
-def seconds(word: str) -> float:
-    number = float(word)
-    if not 0 < number < 1e9:
-        raise argparse.ArgumentTypeError(f"{word} is no number of seconds")
-    return number
 
 
 class Asking:
@@ -99,7 +77,7 @@ def run(args: argparse.Namespace) -> int:
     files, stone = files_and_stone(args.words)
     for written in (each for each in (args.out, args.html) if each):
         if any(os.path.exists(written) and file != "-" and os.path.samefile(file, written) for file in files):
-            raise UsageError(f"{written} is one of the files to read: name another one to write")
+            raise UsageError(f"{shown(written)} is one of the files to read: name another one to write")
     given = [each for file in files for each in read_file(file)]
     with open(args.out or os.devnull, "wb") as out:
         asking = Asking(stone, args.seconds, args.json, out if args.out else None)
@@ -109,7 +87,7 @@ def run(args: argparse.Namespace) -> int:
         finally:
             if args.html:
                 with open(args.html, "w", encoding="utf-8") as html:
-                    html.write(page(" ".join(files), asking.cards))
+                    html.write(page(" ".join(map(shown, files)), asking.cards))
     return 0 if asking.is_settled else 1
 
 
@@ -118,17 +96,7 @@ def main(words: Optional[List[str]] = None) -> int:
     args = parser().parse_args(words)
     if not args.words and not sys.stdin.isatty():
         args.words = ["-"]
-    try:
-        return run(args)
-    except KeyboardInterrupt:
-        print("tsumego-ask: stopped; what was written until now stays", file=sys.stderr)
-        return STOPPED
-    except BrokenPipeError:
-        os.dup2(os.open(os.devnull, os.O_WRONLY), sys.stdout.fileno())
-        return FAILED
-    except (UsageError, ProgramError, OSError) as fault:
-        print(f"tsumego-ask: {fault}", file=sys.stderr)
-        return FAILED
+    return status_of("tsumego-ask", lambda: run(args), "what was written until now stays")
 
 
 if __name__ == "__main__":

@@ -1,6 +1,6 @@
 """One problem asked in full: who wins, which first turns win, why the others fail, and who wins if the other side begins."""
 from dataclasses import replace
-from typing import List, Optional, Tuple, Union
+from typing import Dict, List, Optional, Tuple, Union
 
 from .answers import LIVES, REFUSED, Answer, Closing, Turn, Verdict
 from .ko import ko_of
@@ -10,6 +10,7 @@ from .problems import Problem, name_of
 from .programs import in_parallel
 from .sgf import GameTree, SgfError, main_line, read_bytes, trees_of
 from .solving import Clock, strategy, verdict
+from .strategy import Strategy
 
 __all__ = ["SECONDS", "answer", "solve", "with_strategies"]
 
@@ -49,36 +50,60 @@ def _asked(found: Marked, clock: Clock) -> Answer:
     """The verdicts of each closing with either side to begin, and the first turns of the widest."""
     problems = [problem for _, problem in found.ways]
     verdicts = in_parallel(lambda problem: verdict(problem, clock), problems)
-    others = _others(problems, verdicts, clock)
-    closings = tuple(Closing(stones, *each) for (stones, _), each in zip(found.ways, zip(problems, verdicts, others)))
-    result = Answer("", verdicts[0], problems[0], (), others[0], closings)
-    result = replace(result, turns=_turns(result, clock))
-    return replace(result, ko=ko_of(result, clock) if result.verdict.is_settled else None)
+    result, problem = Answer("", verdicts[0], problems[0]), problems[0]
+    part, ours = Clock(clock.seconds / 5), None
+    if result.verdict.is_settled and not result.is_mover_winner:
+        # The winner's strategy has an answer to each turn.
+        ours = strategy(problem, part)
+    asked = _turns_to_ask(result) if result.verdict.is_settled and not ours else []
+
+    def ask_rest() -> Tuple[List[Verdict], List[Verdict]]:
+        others = [each.with_other_side() for each, word in zip(problems, verdicts) if _is_other_open(each, word)]
+        rest = in_parallel(lambda each: verdict(each, clock), others + [problem.after(turn) for turn in asked])
+        return rest[: len(others)], rest[len(others) :]
+
+    def ask_strategy() -> Optional[Strategy]:
+        return strategy(problem, part) if result.is_mover_winner else ours
+
+    (others, after), ours = in_parallel(lambda ask: ask(), [ask_rest, ask_strategy])
+    each_other = [others.pop(0) if _is_other_open(each, word) else Verdict(word.word) for each, word in zip(problems, verdicts)]
+    closings = tuple(Closing(stones, *each) for (stones, _), each in zip(found.ways, zip(problems, verdicts, each_other)))
+    result = replace(result, other=each_other[0], closings=closings)
+    if not result.verdict.is_settled:
+        return result
+    turns = _turns(result, dict(zip(asked, after))) if asked or not ours else _answered(problem, ours)
+    return replace(result, turns=turns, ko=ko_of(result, ours, clock))
 
 
-def _others(problems: List[Problem], verdicts: List[Verdict], clock: Clock) -> List[Verdict]:
-    """The verdicts where the other side begins. If the side to move loses, it loses too if the other begins: so says its pass."""
-    asked = [not each.is_settled or (each.word == LIVES) == (problem.to_move == problem.defender) for problem, each in zip(problems, verdicts)]
-    others = [problem.with_other_side() for problem, is_asked in zip(problems, asked) if is_asked]
-    found = iter(in_parallel(lambda problem: verdict(problem, clock), others))
-    return [next(found) if is_asked else Verdict(each.word) for each, is_asked in zip(verdicts, asked)]
+def _is_other_open(problem: Problem, found: Verdict) -> bool:
+    """Whether it isn't known who wins if the other side begins. If the side to move loses, it loses then too: so says its pass."""
+    return not found.is_settled or (found.word == LIVES) == (problem.to_move == problem.defender)
 
 
-def _turns(result: Answer, clock: Clock) -> Tuple[Turn, ...]:
+def _turns_to_ask(result: Answer) -> List[str]:
+    """The plays of the side to move of which the verdict doesn't say that they win."""
+    assert result.problem
+    return [turn for turn in result.problem.open_points() if turn != result.verdict.turn]
+
+
+def _turns(result: Answer, found: Dict[str, Verdict]) -> Tuple[Turn, ...]:
     """The first turns of the side to move, row by row, each with what is known of it. A pass counts where it wins for the defender."""
     problem, first = result.problem, result.verdict.turn
     assert problem
-    if not result.verdict.is_settled:
-        return ()
-    asked = [turn for turn in problem.open_points() if turn != first]
-    after = [problem.after(turn) for turn in asked]
-    found = dict(zip(asked, in_parallel(lambda each: verdict(each, clock), after)))
     turns = {turn: _turn(problem, turn, each) for turn, each in found.items() if (each.word, each.detail) != (REFUSED, REPEATS)}
     if first and first != PASS:
         turns[first] = Turn(first, True)
     if first == PASS or (problem.to_move == problem.defender and result.other and result.other.word == LIVES):
         turns[PASS] = Turn(PASS, True)
     return tuple(turns[turn] for turn in problem.open_points() + [PASS] if turn in turns)
+
+
+def _answered(problem: Problem, ours: Strategy) -> Tuple[Turn, ...]:
+    """The plays of a side that loses, with the answers of the other side's strategy. A group that is alive needs none."""
+    turns = [turn for turn in problem.legal_turns() if turn != PASS]
+    if not ours.replies:
+        return tuple(Turn(turn, False, PASS) for turn in turns)
+    return tuple(Turn(turn, False, ours.replies[turn].pick, ours.replies[turn]) for turn in turns)
 
 
 def _turn(problem: Problem, turn: str, after: Verdict) -> Turn:
@@ -97,8 +122,8 @@ def with_strategies(result: Answer, seconds: float = SECONDS) -> Answer:
     problem = result.problem
     if problem is None:
         return result
-    known, clock = [each for each in result.turns if each.wins is not None], Clock(seconds)
-    after = [problem.after(each.turn) for each in known]
+    asked, clock = [each for each in result.turns if each.wins is not None and not each.strategy], Clock(seconds)
+    after = [problem.after(each.turn) for each in asked]
     found = in_parallel(lambda each: strategy(each, clock), after)
-    strategies = {each.turn: then for each, then in zip(known, found)}
-    return replace(result, turns=tuple(replace(each, strategy=strategies.get(each.turn)) for each in result.turns))
+    strategies = {each.turn: then for each, then in zip(asked, found)}
+    return replace(result, turns=tuple(replace(each, strategy=each.strategy or strategies.get(each.turn)) for each in result.turns))

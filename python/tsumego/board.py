@@ -1,5 +1,6 @@
 """A board: stones by their points, plays that take stones. The rules are Tromp-Taylor, so suicide of several stones is legal."""
-from typing import Dict, Iterable, List, Set
+import functools
+from typing import Dict, FrozenSet, Iterable, List, Set, Tuple
 
 from .points import PASS, place, sgf_name
 
@@ -8,17 +9,30 @@ OTHER = {BLACK: WHITE, WHITE: BLACK}
 NAMES = {BLACK: "Black", WHITE: "White"}
 
 
+@functools.lru_cache(None)
+def _near(columns: int, rows: int) -> Dict[str, Tuple[str, ...]]:
+    """Of each point of a board, row by row, the points beside it."""
+
+    def beside(x: int, y: int) -> Tuple[str, ...]:
+        near = [(x - 1, y), (x, y - 1), (x + 1, y), (x, y + 1)]
+        return tuple(sgf_name(*each) for each in near if 0 <= each[0] < columns and 0 <= each[1] < rows)
+
+    return {sgf_name(x, y): beside(x, y) for y in range(rows) for x in range(columns)}
+
+
 class Board:
     """Stones on a board of so many columns and rows: `stones` maps points in SGF's letters to `B` or `W`."""
 
     def __init__(self, columns: int, rows: int, stones: Dict[str, str]) -> None:
         self.columns, self.rows, self.stones = columns, rows, dict(stones)
 
-    def beside(self, point: str) -> List[str]:
+    def points(self) -> Iterable[str]:
+        """All points, row by row."""
+        return _near(self.columns, self.rows)
+
+    def beside(self, point: str) -> Tuple[str, ...]:
         """The points beside a point."""
-        column, row = place(point)
-        near = [(column - 1, row), (column, row - 1), (column + 1, row), (column, row + 1)]
-        return [sgf_name(x, y) for x, y in near if 0 <= x < self.columns and 0 <= y < self.rows]
+        return _near(self.columns, self.rows)[point]
 
     def chain(self, point: str) -> Set[str]:
         """The stones of the chain at a point."""
@@ -62,6 +76,10 @@ class Board:
 
     def copy(self) -> "Board":
         return Board(self.columns, self.rows, self.stones)
+
+    def key(self) -> FrozenSet[Tuple[str, str]]:
+        """What is the same for equal positions alone."""
+        return frozenset(self.stones.items())
 
     def of(self, colour: str) -> List[str]:
         """The stones of a colour, row by row."""

@@ -118,9 +118,10 @@ class _Solution:
 def faults(tree: GameTree, answer: Answer, seconds: float) -> List[str]:
     """What is wrong with a problem and its solution, in words: nothing where all is well."""
     problem = answer.problem
+    swallowed = [f"{name} holds (;: is its ] missing, so that a problem was swallowed?" for name in _swallowing(tree)]
     if problem is None:
-        return [f"refused: {answer.why}"]
-    found = []
+        return [f"refused: {answer.why}"] + swallowed
+    found = swallowed
     if answer.closings[0].stones:
         closed = listed((" ".join(map(problem.point, each.stones)) for each in answer.closings), "or")
         found.append(f"the wall is open: is a stone missing at {closed}?")
@@ -136,6 +137,11 @@ def faults(tree: GameTree, answer: Answer, seconds: float) -> List[str]:
     if not (STATUS.search(answer.name) or STATUS.search(problem.comment)):
         found += _first_moves(problem, answer, [line for line in lines if line.is_right or wrong[line]])
     return found
+
+
+def _swallowing(tree: GameTree) -> List[str]:
+    """The names of properties with a value that seems to hold the beginning of another tree."""
+    return list(dict.fromkeys(name for node in tree.all_nodes() for name, values in node.properties if any("(;" in value for value in values)))
 
 
 def _first_moves(problem: Problem, answer: Answer, lines: List[Line]) -> List[str]:

@@ -7,6 +7,7 @@ from typing import List, Optional, Tuple
 
 from .problems import chapter
 from .sgf import GameTree, SgfError, read_bytes, trees_of
+from .words import shown
 
 __all__ = ["Input", "UsageError", "files_and_stone", "read_file"]
 
@@ -34,7 +35,7 @@ def files_and_stone(words: List[str]) -> Tuple[List[str], Optional[str]]:
     others = [word for word in words if word not in files]
     wrong = [word for word in others if not _POINT.fullmatch(word)]
     if wrong:
-        raise UsageError(f"there is no file {wrong[0]}")
+        raise UsageError(f"there is no file {shown(wrong[0])}")
     if len(others) > 1:
         raise UsageError(f"several stones are named: {' '.join(others)}; one names the group")
     if not files:
@@ -51,7 +52,7 @@ def read_file(file: str) -> List[Input]:
             with open(file, "rb") as opened:
                 data = opened.read()
     except OSError as fault:
-        raise UsageError(f"{file}: {fault.strerror}") from fault
+        raise UsageError(f"{shown(file)}: {fault.strerror}") from fault
     wrong: Optional[SgfError] = None
     try:
         trees = trees_of(read_bytes(data))

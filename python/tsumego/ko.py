@@ -1,4 +1,8 @@
-"""Does a ko decide? The programs know no ko threats outside the region. So problems are made in which the loser has some.
+"""Does a ko decide? The programs know no ko threats outside the region.
+
+Where the winner's strategy answers each play of the loser that the board allows, no ko decides, however many threats the loser has: the
+winner answers each of them, and goes on. Where the strategy leans on it that a play would repeat a position, that position is set up anew,
+as it is after a threat: if the winner wins there too, one threat is of no use. Otherwise problems are made in which the loser has threats.
 
 A threat of the attacker: in an empty corner a stone of the defender that counts as a target, with its two liberties in the region. A
 play on one of them threatens to take it.
@@ -6,52 +10,88 @@ play on one of them threatens to take it.
 A threat of the defender: a chain of the wall beside the targets gets just two liberties, both in the region. A play on one of them
 threatens to take the chain, and then the targets can't be taken any more. A play of the attacker on the other one saves it.
 
-If no such chain is there, the defender is asked as if it had a threat at a ko that the attacker takes: the position is set up anew, so
-that it may take back at once. Each turn of the attacker that kills has to be such a ko, or to let the defender reach one by a turn.
+If that changes nothing, since the attacker takes a target meanwhile, or if no such chain is there, the defender is asked as if it had a
+threat that is answered at a ko that the attacker takes: the position is set up anew, so that it may take back at once. Each turn of the
+attacker that kills has to be such a ko, or to let the defender reach one by a turn.
 
 What this can't see: a ko that needs more threats; without room for a threat, a ko that comes later.
 """
 import itertools
 from dataclasses import replace
-from typing import Dict, List, Optional, Set, Tuple
+from typing import Dict, FrozenSet, List, Optional, Set, Tuple
 
-from .answers import KILLED, LIVES, Answer, Ko
+from .answers import KILLED, LIVES, Answer, Ko, Verdict
 from .board import OTHER, Board
-from .points import sgf_name
+from .points import PASS, sgf_name
 from .problems import Problem
+from .programs import in_parallel
 from .sgf import Node
 from .solving import Clock, first_turns, verdict
+from .strategy import Strategy
 
-__all__ = ["ko_of", "with_attackers_threat", "with_defenders_threat"]
+__all__ = ["ko_of", "leaning_on_repetition", "with_attackers_threat", "with_defenders_threat"]
 
 MOST_THREATS = 3
+# A strategy of more positions isn't looked through: that takes too long. And so many of them are asked about.
+LONGEST, MOST_LEANING = 5_000, 24
 # So many turns of the defender lead to a ko at most, and so many turns of the attacker are followed at each.
 DEEPEST, MOST_TURNS = 2, 3
 
 
-def ko_of(answer: Answer, clock: Clock) -> Ko:
-    """What made problems say of a settled answer: with how many threats of the loser it becomes another one, up to three. It takes a
-    fifth of the clock's seconds at most."""
+def ko_of(answer: Answer, ours: Optional[Strategy], clock: Clock) -> Ko:
+    """What made problems say of a settled answer: with how many threats of the loser it becomes another one, up to three. `ours` is the
+    winner's strategy, if it was found. It takes a tenth of the clock's seconds at most."""
     problem = answer.problem
     assert problem
-    clock = Clock(min(clock.left(), clock.seconds / 5))
-    add = with_attackers_threat if answer.verdict.word == LIVES else with_defenders_threat
+    clock = Clock(min(clock.left(), clock.seconds / 10))
+    leaning = leaning_on_repetition(problem, ours) if ours else None
+    if leaning is not None:
+        found = in_parallel(lambda each: verdict(each, clock), leaning)
+        if all(each.word == answer.verdict.word for each in found):
+            return Ko(False, 1 if found else 0, tuple(leaning))
+    threats = _with_threats(problem, answer.verdict, clock)
+    if threats.decides or answer.verdict.word == LIVES:
+        return threats
+    taking = _TakingBack(clock)
+    # (a defender that can do nothing passes, and the attacker begins)
+    begins = [problem] if problem.to_move == problem.attacker else [problem, problem.after(PASS)]
+    after = next(filter(None, (taking.living(each, depth) for depth in range(1, DEEPEST + 1) for each in begins)), [])
+    return Ko(True, 1, tuple(after)) if after else threats
+
+
+def _with_threats(problem: Problem, verdict_without: Verdict, clock: Clock) -> Ko:
+    """What the problems with one, two and three threats of the loser say."""
+    add = with_attackers_threat if verdict_without.word == LIVES else with_defenders_threat
     tried: List[Problem] = []
     made = add(problem) if problem.region else None
     while made and len(tried) < MOST_THREATS:
         tried.append(made)
         found = verdict(made, clock)
-        if not found.is_settled:
-            return Ko(None, len(tried), tuple(tried))
-        if found.word != answer.verdict.word:
-            return Ko(True, len(tried), tuple(tried))
+        if not found.is_settled or found.word != verdict_without.word:
+            return Ko(True if found.is_settled else None, len(tried), tuple(tried))
         made = add(made)
-    if not tried and answer.verdict.word == KILLED:
-        taking = _TakingBack(clock)
-        for depth in range(1, DEEPEST + 1):
-            tried = tried or taking.living(problem, depth)
-        return Ko(True if tried else None, 1, tuple(tried))
     return Ko(False if tried else None, len(tried), tuple(tried))
+
+
+def leaning_on_repetition(problem: Problem, ours: Strategy) -> Optional[List[Problem]]:
+    """The positions of a strategy, set up anew, at which the other side may not play where the board allows it, since that repeats a position;
+    None where there are many, or where the strategy is long. (A suicide of one stone changes no position.)"""
+    found: Dict[FrozenSet[Tuple[str, str]], Problem] = {}
+    region, seen = set(problem.region or problem.position()[0].points()), {id(ours)}
+    waiting = [(*problem.position(), ours)]
+    while waiting:
+        board, colour, each = waiting.pop()
+        if each.replies and any(board.copy().play(colour, point) != {point} for point in region - board.stones.keys() - each.replies.keys()):
+            found[board.key()] = replace(problem, nodes=(_setup(board, colour),))
+        if len(found) > MOST_LEANING or len(seen) > LONGEST:
+            return None
+        for turn, then in each.branches():
+            if id(then) not in seen and then.branches():
+                seen.add(id(then))
+                after = board.copy()
+                after.play(colour, turn)
+                waiting.append((after, OTHER[colour], then))
+    return list(found.values())
 
 
 def with_attackers_threat(problem: Problem) -> Optional[Problem]:
@@ -139,6 +179,9 @@ class _TakingBack:
         if not all(target in board.stones for target in problem.targets):
             return []
         if to_move == problem.defender:
+            made = _anew(problem)
+            if problem.nodes[-1].has(problem.attacker) and verdict(made, self.clock).word == LIVES:
+                return [made]
             for turn in problem.open_points() if depth and self.clock.left() > 0 else []:
                 found = self.living(problem.after(turn), depth - 1)
                 if found:
@@ -153,8 +196,16 @@ class _TakingBack:
         board, colour = problem.position()
         taken = board.play(colour, turn)
         if len(taken) == 1 and board.liberties(turn) == taken and len(board.chain(turn)) == 1:
-            node = Node().add("AB", *board.of("B")).add("AW", *board.of("W")).add("PL", problem.defender)
-            made = replace(problem, nodes=(node,))
+            made = _anew(problem.after(turn))
             if verdict(made, self.clock).word == LIVES:
                 return [made]
         return self.living(problem.after(turn), depth)
+
+
+def _anew(problem: Problem) -> Problem:
+    """The position set up anew: what was there before may be repeated."""
+    return replace(problem, nodes=(_setup(*problem.position()),))
+
+
+def _setup(board: Board, to_move: str) -> Node:
+    return Node().add("AB", *board.of("B")).add("AW", *board.of("W")).add("PL", to_move)

@@ -11,7 +11,7 @@ from .problems import Problem, asked_at, problem_of
 from .programs import in_parallel, run
 from .sgf import GameTree, main_line, to_text, trees_of, write_bytes
 
-__all__ = ["Marked", "Refused", "marked"]
+__all__ = ["Marked", "NO_TRIANGLE", "Refused", "marked", "refusal_of"]
 
 # `W` in front of the points where stones of the wall close it, with `a` or `two`.
 _CLOSES = re.compile(r"(a|two) (Black|White) stones? on (?:one|some) of these encloses? it: (.*)")
@@ -39,9 +39,7 @@ def marked(tree: GameTree, stone: Optional[str] = None) -> Marked:
     """The problem of a tree: around the stone that is named (a point in either spelling), or with its own marks, or around the group
     that the program takes. Raises Refused where the tree is no problem.
     """
-    line = main_line(tree)
-    # What is behind the problem's node, a solution, is no matter here.
-    lines, _ = _show(to_text(GameTree(line[: asked_at(line) + 1])), [])
+    lines = _lines_of(tree)
     fault = _refusal(lines)
     if fault and fault.number != NO_TRIANGLE:
         raise fault
@@ -58,6 +56,17 @@ def marked(tree: GameTree, stone: Optional[str] = None) -> Marked:
         ways = tuple((stones, replace(each, targets=problem.targets)) for stones, each in found.ways)
         return Marked(ways, found.hints)
     return _closed(bare, named) if named else _proposed(bare)
+
+
+def refusal_of(tree: GameTree) -> Optional[Refused]:
+    """Why a tree is no problem with marks; None where it is one."""
+    return _refusal(_lines_of(tree))
+
+
+def _lines_of(tree: GameTree) -> List[str]:
+    """What `tsumego-show` says of a tree. What is behind the problem's node, a solution, is no matter."""
+    line = main_line(tree)
+    return _show(to_text(GameTree(line[: asked_at(line) + 1])), [])[0]
 
 
 def _show(text: str, words: List[str]) -> Tuple[List[str], str]:

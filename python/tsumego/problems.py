@@ -1,8 +1,9 @@
 """Problems: what `tsumego solve` reads of a game tree, and the problems that follow from one: after a turn, with the other side to
 begin, with more stones. A problem is never changed: each method makes a new one."""
+import functools
 import re
 from dataclasses import dataclass, replace
-from typing import Iterable, List, Tuple
+from typing import FrozenSet, Iterable, List, Optional, Set, Tuple
 
 from .board import BLACK, NAMES, OTHER, Board
 from .points import PASS, editor_name, read_point, sgf_name
@@ -65,7 +66,14 @@ class Problem:
 
     def position(self) -> Tuple[Board, str]:
         """The position, and who is to move."""
+        board, to_move, _ = self._history
+        return board.copy(), to_move
+
+    @functools.cached_property
+    def _history(self) -> Tuple[Board, str, Set[FrozenSet[Tuple[str, str]]]]:
+        """The position, who is to move, and the positions since the last setup, which no play may repeat."""
         board, to_move = Board(self.columns, self.rows, {}), BLACK
+        seen = {board.key()}
         for node in self.nodes:
             moves = [colour for colour in MOVES if node.has(colour)]
             if not moves:
@@ -75,10 +83,24 @@ class Problem:
                 board.remove(points)
                 if name != "AE":
                     board.stones.update((point, name[1]) for point in points)
+            if not moves:
+                seen.clear()
             for colour in moves:
                 board.play(colour, turn_of(node.first(colour)))
                 to_move = OTHER[colour]
-        return board, to_move
+            seen.add(board.key())
+        return board, to_move, seen
+
+    def legal_turns(self) -> List[str]:
+        """The plays of the side to move that repeat no position, row by row, and the pass."""
+        board, to_move, seen = self._history
+
+        def is_new(turn: str) -> bool:
+            after = board.copy()
+            after.play(to_move, turn)
+            return after.key() not in seen
+
+        return list(filter(is_new, self.open_points())) + [PASS]
 
     @property
     def to_move(self) -> str:
@@ -93,19 +115,20 @@ class Problem:
     def attacker(self) -> str:
         return OTHER[self.defender]
 
-    def open_points(self) -> List[str]:
-        """The empty points of the region, row by row from the upper left."""
-        board, _ = self.position()
-        region = self.region or [sgf_name(x, y) for y in range(self.rows) for x in range(self.columns)]
-        return sorted((point for point in region if point not in board.stones), key=lambda point: point[::-1])
+    def open_points(self, board: Optional[Board] = None) -> List[str]:
+        """The empty points of the region, row by row from the upper left, in the problem's position or in another one."""
+        board = board or self.position()[0]
+        return sorted((point for point in self.region or board.points() if point not in board.stones), key=lambda point: point[::-1])
 
     def after(self, turn: str) -> "Problem":
         """The problem after a turn of the side that is to move. Two passes in a row would end a record, so the second takes the first out."""
-        colour = self.to_move
-        last = self.nodes[-1] if self.nodes else Node()
-        if turn == PASS and last.has(OTHER[colour]) and turn_of(last.first(OTHER[colour])) == PASS:
-            return replace(self, nodes=self.nodes[:-1])
-        return replace(self, nodes=self.nodes + (Node([(colour, ["" if turn == PASS else turn])]),))
+        colour, last = self.to_move, self.nodes[-1] if self.nodes else Node()
+        made = replace(self, nodes=self.nodes + (Node([(colour, ["" if turn == PASS else turn])]),))
+        if turn != PASS or not last.has(OTHER[colour]) or turn_of(last.first(OTHER[colour])) != PASS:
+            return made
+        before = replace(self, nodes=self.nodes[:-1])
+        # (the same side was to move in front of that pass, if it is taken to have passed there)
+        return before if before.to_move != colour else replace(made, nodes=self.nodes[:-1] + made.nodes[-1:])
 
     def with_other_side(self) -> "Problem":
         """The problem in which the other side begins."""
@@ -140,7 +163,8 @@ def name_of(nodes: List[Node]) -> Tuple[str, str]:
     """The problem's name (GN), and the comment at its position."""
     charset = nodes[0].first("CA")
     comments = [node.first("C") for node in nodes if node.has("C")]
-    return " ".join(plain(nodes[0].first("GN"), charset).split()), plain(comments[-1], charset).strip() if comments else ""
+    name = " ".join(plain(nodes[0].first("GN"), charset).split())
+    return "".join(filter(str.isprintable, name)), plain(comments[-1], charset).strip() if comments else ""
 
 
 def problem_of(tree: GameTree) -> Problem:

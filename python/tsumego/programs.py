@@ -1,27 +1,35 @@
-"""The proved programs, `tsumego` and `tsumego-show`: where they are, and a process of each with a limit in seconds.
+"""The proved programs, `tsumego` and `tsumego-show`: where they are, and a process of each with a limit in seconds, here or on other
+machines.
 
 A program is looked for in this order: the environment's TSUMEGO or TSUMEGO_SHOW (a path), the repository or the archive that this
 package lies in, the PATH. In a repository its first use may build the programs; the wrapper then says so on standard error.
 """
 import functools
 import os
+import queue
+import shlex
 import shutil
 import subprocess
 from concurrent.futures import ThreadPoolExecutor
 from dataclasses import dataclass
 from pathlib import Path
-from typing import Callable, Iterable, List, Optional, Set, TypeVar
+from typing import Callable, Iterable, List, Optional, Sequence, Set, TypeVar
 
-__all__ = ["Ended", "JOBS", "MAX_BYTES", "ProgramError", "in_parallel", "program", "run"]
+__all__ = ["Ended", "HOME", "JOBS", "MAX_BYTES", "ProgramError", "in_parallel", "program", "run", "stop", "use_machines"]
 
 HOME = Path(__file__).resolve().parents[2]
 # An input may have so many bytes.
 MAX_BYTES = 1_048_576
+# The status of coreutils' timeout, which other machines run the program under.
+TIMED_OUT = 124
 JOBS = len(os.sched_getaffinity(0)) if hasattr(os, "sched_getaffinity") else os.cpu_count() or 1
 
 Given = TypeVar("Given")
 Found = TypeVar("Found")
 _running: Set["subprocess.Popen[bytes]"] = set()
+# One queue of free places where machines are named: the name of a machine for each program that it may begin.
+_places: List["queue.Queue[str]"] = []
+_stops: List[bool] = []
 
 
 class ProgramError(RuntimeError):
@@ -65,12 +73,42 @@ def _see_to_it(wrapper: Path) -> None:
         raise ProgramError(f"{wrapper} can't be built or run, for the reason above")
 
 
-def run(name: str, words: List[str], text: bytes, seconds: Optional[float] = None) -> Ended:
-    """Runs a program to its end, or ends it when the seconds are over.
+def use_machines(machines: Sequence[str], jobs: int) -> None:
+    """From now on `tsumego` runs on these machines, so many times at once on each. Another machine is named as ssh takes it, and has
+    `tsumego` on its PATH; `:` is this one. Without machines it runs here, as often as it is asked for."""
+    _places[:] = [queue.Queue()] if machines else []
+    for machine in list(machines) * jobs:
+        _places[0].put(machine)
+
+
+def run(name: str, words: List[str], text: bytes, seconds: Optional[float] = None, is_here: bool = False) -> Ended:
+    """Runs a program to its end, or ends it when the seconds are over. `is_here`: on this machine, whatever others are named.
 
     Raises ProgramError where the program isn't there, refuses its words, or is ended by a signal.
     """
-    command = [program(name), *words]
+    if is_here or not _places or name != "tsumego":
+        return _run([program(name), *words], name, text, seconds)
+    places, stops = _places[0], len(_stops)
+    machine = places.get()
+    try:
+        if len(_stops) > stops:
+            raise ProgramError("stopped")
+        if machine == ":":
+            return _run([program(name), *words], name, text, seconds)
+        limited = ["timeout", f"{seconds:.2f}"] if seconds is not None else []
+        return _run(["ssh", "-o", "BatchMode=yes", machine, shlex.join([*limited, name, *words])], f"{name} on {machine}", text, seconds)
+    finally:
+        places.put(machine)
+
+
+def stop() -> None:
+    """Ends the programs that run, and begins none that waits for its place."""
+    _stops.append(True)
+    for process in list(_running):
+        process.kill()
+
+
+def _run(command: List[str], name: str, text: bytes, seconds: Optional[float]) -> Ended:
     try:
         process = subprocess.Popen(command, stdin=subprocess.PIPE, stdout=subprocess.PIPE, stderr=subprocess.PIPE)
     except OSError as fault:
@@ -82,16 +120,18 @@ def run(name: str, words: List[str], text: bytes, seconds: Optional[float] = Non
     except subprocess.TimeoutExpired:
         process.kill()
         out, errors = process.communicate()
-        status, out = None, out[: out.rfind(b"\n") + 1]
+        status = TIMED_OUT
     except BaseException:
         process.kill()
         process.wait()
         raise
     finally:
         _running.discard(process)
+    if status == TIMED_OUT:
+        status, out = None, out[: out.rfind(b"\n") + 1]
     if status not in (None, 0, 1):
         said = errors.decode("utf-8", "replace").strip().partition("\n")[0]
-        raise ProgramError(f"{name} {' '.join(words)}: {said or f'ended by signal {-status}' if status and status < 0 else said}")
+        raise ProgramError(f"{name}: {said or f'ended by signal {-status}' if status and status < 0 else said}")
     return Ended(out.decode("ascii", "surrogateescape"), errors.decode("utf-8", "replace"), status)
 
 
@@ -105,6 +145,5 @@ def in_parallel(ask: Callable[[Given], Found], given: Iterable[Given], jobs: int
             for future in futures:
                 future.cancel()
             if not isinstance(fault, Exception):
-                for process in list(_running):
-                    process.kill()
+                stop()
             raise

@@ -3,6 +3,7 @@ from typing import Dict, List, Tuple
 
 from .answers import Answer, Turn
 from .board import NAMES, OTHER, Board
+from .life import life
 from .points import PASS
 from .problems import Problem
 from .sgf import GameTree, Node, escaped
@@ -37,7 +38,10 @@ def _first(problem: Problem, turn: Turn, share: int) -> GameTree:
     depth = max((each for each in range(DEEPEST + 1) if size(strategy, each) <= share), default=0)
     tree = _Writer(problem, colour if turn.wins else OTHER[colour]).tree(board, colour, turn.turn, strategy, depth)
     words = "Wins." if turn.wins else f"Fails: {refutation(problem, turn, NAMES[OTHER[colour]])}."
-    tree.nodes[0] = Node([(colour, [value(turn.turn)]), ("TE" if turn.wins else "BM", ["1"]), ("C", [escaped(words)])])
+    if turn.strategy and not strategy.branches():
+        words += " " + tree.nodes[0].first("C")
+    properties = [(colour, [value(turn.turn)]), ("TE" if turn.wins else "BM", ["1"]), ("C", [escaped(words)])]
+    tree.nodes[0] = Node(properties + tree.nodes[0].without(colour, "C").properties)
     if turn.answer and not turn.strategy:
         tree.nodes.append(Node([(OTHER[colour], [value(turn.answer)])]))
     return tree
@@ -52,9 +56,7 @@ class _Writer:
     """Writes the strategy of one side as variations."""
 
     def __init__(self, problem: Problem, winner: str) -> None:
-        defender = problem.defender
-        self.end = f"{NAMES[winner]} lives." if winner == defender else f"{NAMES[defender]}'s stones are captured."
-        self.cut = f"{NAMES[winner]} wins."
+        self.problem, self.winner, self.defender = problem, winner, problem.defender
         self.depths: Dict[int, int] = {}
 
     def tree(self, board: Board, colour: str, turn: str, strategy: Strategy, depth: int) -> GameTree:
@@ -62,12 +64,24 @@ class _Writer:
         board, node = board.copy(), Node([(colour, [value(turn)])])
         board.play(colour, turn)
         branches = self.in_order(board, OTHER[colour], strategy)
-        if not branches or not depth:
-            return GameTree([node.add("C", self.cut if branches else self.end)])
+        if not branches:
+            return GameTree([self.with_end(node, board)])
+        if not depth:
+            return GameTree([node.add("C", f"{NAMES[self.winner]} wins.")])
         trees = [self.tree(board, OTHER[colour], each, then, depth - 1) for each, then in branches]
         if len(trees) > 1:
             return GameTree([node], trees)
         return GameTree([node] + trees[0].nodes, trees[0].variations)
+
+    def with_end(self, node: Node, board: Board) -> Node:
+        """The node with words on how the strategy has won: a target is taken, or all are alive, or else there were two passes."""
+        if self.winner != self.defender:
+            return node.add("C", f"{NAMES[self.defender]}'s stones are captured.")
+        alive, eyes = life(board, self.defender, self.problem.region)
+        if not alive.issuperset(self.problem.targets):
+            return node.add("C", f"{NAMES[self.winner]} lives.")
+        other = NAMES[OTHER[self.defender]]
+        return node.add("C", f"{NAMES[self.winner]} is alive. {other} can't take these stones any more.").add("T" + self.defender, *sorted(eyes))
 
     def in_order(self, board: Board, colour: str, strategy: Strategy) -> List[Tuple[str, Strategy]]:
         """What a strategy goes on with: the longest resistance first, suicides and the pass last."""

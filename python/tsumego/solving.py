@@ -8,7 +8,7 @@ from .programs import run
 from .sgf import write_bytes
 from .strategy import Strategy, read_certificate
 
-__all__ = ["Clock", "OUT_OF_TIME", "POSITIONS", "first_turns", "strategy", "verdict"]
+__all__ = ["Clock", "OUT_OF_TIME", "POSITIONS", "certificate", "certified", "first_turns", "strategy", "verdict"]
 
 OUT_OF_TIME = Verdict(UNSETTLED, None, "time")
 
@@ -47,10 +47,28 @@ def first_turns(problem: Problem, clock: Clock) -> Dict[str, str]:
     return {turn: word for turn, word in (line.split()[:2] for line in lines[1:])}
 
 
-def strategy(problem: Problem, clock: Clock) -> Optional[Strategy]:
-    """The winner's strategy; None where it isn't found in time or is too long to be checked."""
+def certificate(problem: Problem, clock: Clock) -> Optional[str]:
+    """The certificate of the answer, with shared parts; None where it isn't found in time or is too long to be checked."""
     lines = _solve(problem, clock, ["--dfpn", str(MOST_POSITIONS), "--cert", "--parts"]) if clock.left() > 0 else []
-    return read_certificate(lines[1]) if len(lines) > 1 else None
+    return lines[1] if len(lines) > 1 else None
+
+
+def strategy(problem: Problem, clock: Clock) -> Optional[Strategy]:
+    """The winner's strategy, if its certificate is found."""
+    line = certificate(problem, clock)
+    return read_certificate(line) if line else None
+
+
+def certified(problem: Problem, found: Verdict, seconds: float) -> str:
+    """What `check` says on this machine of a certificate for a verdict: `valid`, `invalid`, `refused 31` and the like. `too long` is one that is
+    too long for it, or for the seconds."""
+    line = certificate(problem, Clock(seconds))
+    if line is None:
+        return "too long"
+    if line.partition(" ")[0] != found.word:
+        return "one for the other side"
+    said = run("tsumego", ["check", "--parts"], write_bytes(f"{problem.text()}\n{line}\n"), is_here=True).text.strip()
+    return "too long" if said == "refused 2" else said
 
 
 def _solve(problem: Problem, clock: Clock, options: List[str]) -> List[str]:

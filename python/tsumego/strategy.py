@@ -11,7 +11,8 @@ __all__ = ["Strategy", "read_certificate", "size"]
 @dataclass(eq=False)
 class Strategy:
     """`pick` is the turn of the strategy's side, and `then` what follows it; or `replies` has what follows each turn of the other
-    side. Where neither stands, the strategy's side has won."""
+    side. Where neither stands, the strategy's side has won: a target is taken, or two passes were made, or it is the attacker's turn
+    and the targets are unconditionally alive."""
 
     pick: Optional[str] = None
     then: Optional["Strategy"] = None

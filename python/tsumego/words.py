@@ -1,4 +1,5 @@
 """An answer in words, with points as editors name them."""
+import json
 from typing import Any, Dict, Iterable, List
 
 from .answers import LIVES, UNSETTLED, Answer, Turn
@@ -6,7 +7,7 @@ from .board import NAMES, OTHER
 from .points import PASS
 from .problems import Problem
 
-__all__ = ["as_data", "heading", "said"]
+__all__ = ["as_data", "heading", "listed", "refutation", "said", "shown"]
 
 
 def listed(words: Iterable[str], last: str = "and") -> str:
@@ -15,9 +16,14 @@ def listed(words: Iterable[str], last: str = "and") -> str:
     return f" {last} ".join([", ".join(found[:-1]), found[-1]]) if len(found) > 1 else "".join(found)
 
 
+def shown(file: str) -> str:
+    """A file's name in a line: quoted as JSON does where it has a newline, a tab or bytes that are no text."""
+    return file if file.isprintable() else json.dumps(file)
+
+
 def heading(file: str, number: int, name: str) -> str:
     """Which problem it is: its number is 0 where the file has no other."""
-    return ("standard input" if file == "-" else file) + (f", problem {number}" if number else "") + (f": {name}" if name else "")
+    return ("standard input" if file == "-" else shown(file)) + (f", problem {number}" if number else "") + (f": {name}" if name else "")
 
 
 def said(answer: Answer) -> List[str]:
