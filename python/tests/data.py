@@ -19,3 +19,5 @@ def rows(name: str) -> List[List[str]]:
 SHAPES = rows("unmarked.tsv")
 # name, verdict, text
 SUITE = rows("life_and_death.tsv")
+# A lone stone on an empty board: nobody settles it soon.
+OPEN = "(;GM[1]FF[4]SZ[19]PL[B]AW[jj]TR[jj]SQ[aa:ss])"

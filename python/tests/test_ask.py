@@ -142,7 +142,7 @@ def _heed_ctrl_c() -> None:
 
 def test_ctrl_c_leaves_what_is_done(tmp_path: Path) -> None:
     path, out = tmp_path / "book.sgf", tmp_path / "out.sgf"
-    path.write_text(THREE + next(row[2] for row in data.SUITE if row[0] == "ld103_W"))
+    path.write_text(THREE + data.OPEN)
     words = [sys.executable, "-B", str(ASK), "--seconds", "100", str(path), "-o", str(out)]
     with subprocess.Popen(words, stdout=subprocess.PIPE, stderr=subprocess.PIPE, text=True, preexec_fn=_heed_ctrl_c) as process:
         assert process.stdout and process.stdout.readline() == f"{path}, problem 1: centre_straight_three_B\n"

@@ -71,6 +71,13 @@ def test_shapes_with_a_hole_in_the_wall(name: str, verdict: str, marks: str, tex
     assert all(each.stones for each in answer.closings)
 
 
+@pytest.mark.parametrize("name, verdict, text", data.SUITE[::12], ids=[row[0] for row in data.SUITE[::12]])
+def test_problems_of_the_suite(name: str, verdict: str, text: str) -> None:
+    answer = tsumego.solve(text, None, SECONDS)
+    assert answer.verdict.word == verdict and not answer.unknown
+    assert all(each.answer for each in answer.failing)
+
+
 def test_both_sides_of_a_shape_agree_about_the_other() -> None:
     by_name = {row[0]: tsumego.solve(row[3], None, SECONDS) for row in data.SHAPES if row[0].startswith("side_")}
     for name, answer in by_name.items():
@@ -109,7 +116,7 @@ def test_triangles_without_squares_get_squares() -> None:
 
 
 def test_time_runs_out() -> None:
-    answer = tsumego.solve(next(row[2] for row in data.SUITE if row[0] == "ld103_W"), seconds=0.05)
+    answer = tsumego.solve(data.OPEN, seconds=0.5)
     assert (answer.verdict.word, answer.verdict.detail) == ("unsettled", "time")
     assert "Try --seconds" in " ".join(words.said(answer))
 

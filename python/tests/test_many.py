@@ -38,5 +38,4 @@ def test_what_ends_early_is_asked_anew(monkeypatch: pytest.MonkeyPatch) -> None:
 
 
 def test_time_runs_out() -> None:
-    hard = next(row[2] for row in data.SUITE if row[0] == "ld103_W")
-    assert [each.word for each in tsumego.verdicts([hard], 0.05)] == ["unsettled"]
+    assert [each.word for each in tsumego.verdicts([data.OPEN], 0.5)] == ["unsettled"]

@@ -1,5 +1,6 @@
 """Many problems at a time: who wins each, as fast as one input through the program."""
-from typing import Iterable, Iterator, List, Sequence, Tuple, Union
+import re
+from typing import Iterable, Iterator, List, Optional, Sequence, Tuple, Union
 
 from .answers import REFUSED, Verdict, verdict_of
 from .programs import JOBS, MAX_BYTES, ProgramError, in_parallel, run
@@ -9,7 +10,9 @@ from .solving import OUT_OF_TIME, POSITIONS
 __all__ = ["verdicts"]
 
 # So many problems share a process.
-BATCH = 50
+BATCH = 250
+# A text that is one tree without variations is passed on as it is.
+_PLAIN = re.compile(rb"[\t-\r ]*\([\t-\r ]*(?:;[\t-\r ]*(?:[A-Z]+[\t-\r ]*(?:\[(?:[^]\\]|\\.)*\][\t-\r ]*)+)*)+\)[\t-\r ]*", re.DOTALL)
 Indexed = Tuple[int, bytes]
 
 
@@ -22,16 +25,26 @@ def verdicts(problems: Iterable[Union[str, bytes, GameTree]], seconds: float = 1
     found: List[Verdict] = []
     waiting: List[Indexed] = []
     for number, problem in enumerate(problems):
-        try:
-            tree = problem if isinstance(problem, GameTree) else trees_of(read_bytes(problem) if isinstance(problem, bytes) else problem)[0]
-            waiting.append((number, write_bytes(to_text(tree)) + b"\n"))
-        except SgfError as fault:
-            waiting += [(number, write_bytes(to_text(fault.trees[0])) + b"\n")] if fault.trees else []
+        text = _first_tree(problem)
+        waiting += [(number, text + b"\n")] if text else []
         found.append(Verdict(REFUSED, None, "1"))
     for rows in in_parallel(lambda batch: _asked(batch, seconds, positions), _batches(waiting), jobs):
         for number, verdict in rows:
             found[number] = verdict
     return found
+
+
+def _first_tree(problem: Union[str, bytes, GameTree]) -> Optional[bytes]:
+    """The first tree of a text; None where it breaks the grammar."""
+    if isinstance(problem, GameTree):
+        return write_bytes(to_text(problem))
+    data = write_bytes(problem) if isinstance(problem, str) else problem
+    if _PLAIN.fullmatch(data):
+        return data
+    try:
+        return write_bytes(to_text(trees_of(read_bytes(data))[0]))
+    except SgfError as fault:
+        return write_bytes(to_text(fault.trees[0])) if fault.trees else None
 
 
 def _batches(problems: Sequence[Indexed]) -> Iterator[List[Indexed]]:
