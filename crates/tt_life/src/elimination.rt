@@ -24,7 +24,7 @@ pub(crate) struct Ground {
 }
 
 /// What is linked to a point over points of its set.
-fn linked_to(size: Size, own: &Bits, p: usize) -> Bits
+pub(crate) fn linked_to(size: Size, own: &Bits, p: usize) -> Bits
     requires mine { IsTrue (points_in size own.now.words p) }
     requires on_board { AreOn size own.now.words }
     ensures linked { IsLinkedSet size (points_in size own.now.words) p (points_in size result.words) }
@@ -54,7 +54,13 @@ fn is_touched_eye(size: Size, first: &Bits, eye: &Bits, stones: &Bits, near: &Bi
 }
 
 /// The empty points of the eyes that are walled in by the stones and all near.
-fn touched_eyes(size: Size, ground: &Ground, first: &Bits, stones: &Bits, near: &Bits) -> Bits
+pub(crate) fn touched_eyes(
+    size: Size,
+    ground: &Ground,
+    first: &Bits,
+    stones: &Bits,
+    near: &Bits,
+) -> Bits
     requires first { AreFirstColumn size first.now.words }
     requires sound { IsSoundGround size ground.now }
     ensures { (q : ℕ) → q < BITS → (bit_in result.words q ≡ true)
@@ -129,12 +135,13 @@ fn survivors(frame: &Frame, ground: &Ground, first: &Bits, stones: &Bits) -> Bit
 }
 
 /// The stones that are left when all go that aren't alive among what is left.
-fn eliminate(frame: &Frame, ground: &Ground, first: &Bits, stones: &Bits) -> Bits
+pub(crate) fn eliminate(frame: &Frame, ground: &Ground, first: &Bits, stones: &Bits) -> Bits
     requires first { AreFirstColumn frame.now.size first.now.words }
     requires sound { IsSoundGround frame.now.size ground.now }
     requires on_board { AreOn frame.now.size stones.now.words }
-    ensures { (c : Colouring) → IsGroundOf frame.now c ground.now → AreDefenders frame.now c (points_in frame.now.size stones.now.words)
+    ensures most { (c : Colouring) → IsGroundOf frame.now c ground.now → AreDefenders frame.now c (points_in frame.now.size stones.now.words)
         → AreMostAlive frame.now c (points_in frame.now.size stones.now.words) (points_in frame.now.size result.words) }
+    ensures still_on_board { AreOn frame.now.size result.words }
 {
     let mut left = *stones;
     loop {
@@ -147,27 +154,37 @@ fn eliminate(frame: &Frame, ground: &Ground, first: &Bits, stones: &Bits) -> Bit
     }
 }
 
+/// The points of a board as the test asks for them.
+pub(crate) fn ground_of(frame: &Frame, board: &Board) -> Ground
+    requires same_size { board.now.size ≡ frame.now.size }
+    ensures sound { IsSoundGround frame.now.size result }
+    ensures ground { IsGroundOf frame.now board.now.points result }
+{
+    let stones = board.bits(frame.defender);
+    let theirs = board.bits(frame.defender.other());
+    let region = frame.region.bits();
+    let points = PointSet::whole(frame.size);
+    let whole = points.bits();
+    let space = whole.minus(stones);
+    let empty = space.minus(theirs);
+    let outside = empty.minus(region);
+    Ground {
+        space,
+        empty,
+        outside,
+    }
+}
+
 /// Whether all targets are unconditionally alive: no play of the attacker takes one, even if the defender always passes.
 fn is_unconditionally_alive(frame: &Frame, board: &Board) -> bool
     requires same_size { board.now.size ≡ frame.now.size }
     requires targets_on_board { IsSetOnBoard frame.now.size frame.now.targets }
     ensures { IsTrue result ↔ IsUnconditionallyAlive frame.now board.now.points }
 {
-    let stones = board.bits(frame.defender);
-    let theirs = board.bits(frame.defender.other());
-    let region = frame.region.bits();
+    let defenders = board.bits(frame.defender);
     let targets = frame.targets.bits();
-    let points = PointSet::whole(frame.size);
-    let whole = points.bits();
-    let space = whole.minus(stones);
-    let empty = space.minus(theirs);
-    let outside = empty.minus(region);
-    let ground = Ground {
-        space,
-        empty,
-        outside,
-    };
-    let left = eliminate(frame, &ground, &first_column(frame.size), stones);
+    let ground = ground_of(frame, board);
+    let left = eliminate(frame, &ground, &first_column(frame.size), defenders);
     targets.is_within_union(&left, &left)
 }
 

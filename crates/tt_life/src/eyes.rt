@@ -1,0 +1,36 @@
+//! Two eyes of a target, for those who tell people why it lives.
+
+ghost use Rattle.std.specs.Prelude.{◌<◌, IfSome};
+ghost use Rattle.tt_sgf.specs.Sizes.{point_count};
+
+use crate::elimination::{eliminate, ground_of, linked_to, touched_eyes};
+use tt_board::{adjacent_points, first_column};
+use tt_game::Line;
+use tt_sgf::Point;
+
+/// Two eyes of the first target, by their least empty points. Stones that are unconditionally alive wall them in, and the target touches
+/// each of their points. None where the target is no such stone, and where it has no two eyes.
+pub fn two_eyes(line: &Line) -> Option<(Point, Point)>
+    ensures { IfSome result (λ eyes. (eyes.0 < point_count line.now.frame.size) × (eyes.1 < point_count line.now.frame.size)) }
+{
+    let frame = line.frame();
+    let size = frame.size;
+    let board = line.present();
+    let first = first_column(size);
+    let ground = ground_of(frame, board);
+    let stones = eliminate(frame, &ground, &first, board.bits(frame.defender));
+    let target = frame.targets.bits().first_from(0);
+    if target >= size.point_count() || !stones.has(target) {
+        return None;
+    }
+    let chain = linked_to(size, &stones, target);
+    let near = adjacent_points(size, &first, &chain);
+    let eyes = touched_eyes(size, &ground, &first, &stones, &near);
+    let one = eyes.first_from(0);
+    if one >= size.point_count() {
+        return None;
+    }
+    let eye = linked_to(size, &ground.space, one);
+    let other = eyes.minus(&eye).first_from(0);
+    Some((size.point(one as u16)?, size.point(other as u16)?))
+}
