@@ -2,6 +2,7 @@
 ghost use Rattle.std.specs.Prelude.{◌<◌, ◌≤◌, length};
 ghost use Rattle.tt_sgf.specs.Sizes.{point_count};
 
+use crate::endings::put_life;
 use crate::hints::put_editor_point_name;
 use crate::picture::{colour_name, editor_column_letter, point_of_coordinates, side_colour};
 use crate::windows::{Window, window_of};
@@ -10,6 +11,9 @@ use std::io::Write;
 use tt_board::Colour;
 use tt_game::{Line, Side};
 use tt_sgf::{NoMemory, Point, Size};
+
+/// How far a note stands below the one above.
+const NOTE_HEIGHT: usize = 14;
 
 /// The word for a colour.
 fn fill_colour(colour: Colour) -> &'static str {
@@ -277,29 +281,46 @@ fn put_note(
     }
 }
 
-/// Writes the notes behind the text, one below the other, below y.
+/// Writes the notes behind the text, one below the other, below y. The answer is where the last one stands.
 fn put_notes(
     out: &mut Vec<u8>,
     line: &Line,
     plays: &[Point],
     x: usize,
     y: usize,
-) -> Result<(), NoMemory> {
+) -> Result<usize, NoMemory> {
     let mut y = y;
     for index in 0..plays.len() {
         if has_note(line, plays, index) && line.frame().size.holds(plays[index]) {
-            y = y.saturating_add(14);
+            y = y.saturating_add(NOTE_HEIGHT);
             written(write!(out, "<text x='{x}' y='{y}'>"))?;
             put_note(out, line, plays, plays[index], index + 1)?;
             out.extend_from_slice(b"</text>\n")?;
         }
     }
-    Ok(())
+    Ok(y)
+}
+
+/// Writes that the targets are alive behind the text, below y, where a line is at life.
+fn put_life_note(
+    out: &mut Vec<u8>,
+    end: Option<&Line>,
+    x: usize,
+    y: usize,
+) -> Result<(), NoMemory> {
+    let Some(line) = end else {
+        return Ok(());
+    };
+    let below = y.saturating_add(NOTE_HEIGHT);
+    written(write!(out, "<text x='{x}' y='{below}'>"))?;
+    put_life(out, line)?;
+    Ok(out.extend_from_slice(b"</text>\n")?)
 }
 
 /// Writes the diagram of the problem at a line as SVG behind the text: what matters of the board, with the coordinates of editors,
 /// the targets marked, and the region or these plays, as stones with the numbers 1, 2, 3 and so on; below, who moves, and
-/// who wins, where that is said, with these words, and which plays are on the point of an earlier play or of a stone.
+/// who wins, where that is said, with these words, which plays are on the point of an earlier play or of a stone, and that the
+/// targets are alive, where the plays lead to a line at life.
 /// `NoMemory` where memory was refused; a part may stand there then.
 pub fn put_svg(
     out: &mut Vec<u8>,
@@ -307,13 +328,15 @@ pub fn put_svg(
     plays: &[Point],
     winner: Option<Side>,
     words: &str,
+    end: Option<&Line>,
 ) -> Result<(), NoMemory> {
     let w = window_of(line);
     let x = (12 * span(w.left, w.right) + 18).max(80);
     let y = 24 * span(w.top, w.bottom) + 48;
     let width = 2 * x;
     let height = note_count(line, plays)
-        .saturating_mul(14)
+        .saturating_add(if end.is_some() { 1 } else { 0 })
+        .saturating_mul(NOTE_HEIGHT)
         .saturating_add(y + 12);
     written(writeln!(
         out,
@@ -323,6 +346,7 @@ pub fn put_svg(
     put_rows(out, line.frame().size, w)?;
     put_points(out, line, plays, w)?;
     put_caption(out, line, winner, words, x, y)?;
-    put_notes(out, line, plays, x, y)?;
+    let below = put_notes(out, line, plays, x, y)?;
+    put_life_note(out, end, x, below)?;
     Ok(out.extend_from_slice(b"</svg>\n")?)
 }

@@ -5,6 +5,7 @@ mod arguments;
 mod certificates;
 mod depths;
 mod diagram;
+mod endings;
 mod hints;
 mod mark_proposals;
 mod marking;

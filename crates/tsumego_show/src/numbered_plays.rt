@@ -4,6 +4,7 @@ ghost use Rattle.tt_game.specs.Game.{IsLegal};
 
 use crate::certificates::is_for_mover;
 use crate::depths::shown_depth;
+use crate::endings::is_end_at_life;
 use std::alloc::Global;
 use tt_game::{Line, Side, Turn};
 use tt_proof::Tree;
@@ -128,4 +129,51 @@ pub fn numbered_plays(
             longest_plays(alloc, tree, &mut played, shown_depth(tree, MOST_NUMBERS))
         }
     }
+}
+
+/// The tree behind a turn of a list.
+fn tree_in_list(list: &[(Turn, Tree)], turn: Turn) -> Option<&Tree> {
+    for (other, child) in list {
+        if *other == turn {
+            return Some(child);
+        }
+    }
+    None
+}
+
+/// The tree behind a turn of a strategy.
+fn tree_behind(tree: &Tree, turn: Turn) -> Option<&Tree> {
+    match tree {
+        Tree::Done => None,
+        Tree::Pick(own, child) => {
+            let behind: &Tree = child;
+            if *own == turn { Some(behind) } else { None }
+        }
+        Tree::Reply(list) => tree_in_list(list, turn),
+    }
+}
+
+/// The line behind these plays of a strategy, where the strategy ends there at life.
+pub fn life_behind_plays(
+    line: &Line,
+    tree: &Tree,
+    plays: &[Point],
+) -> Result<Option<Line>, NoMemory> {
+    let mut played = line.try_clone()?;
+    let mut rest = tree;
+    for point in plays {
+        let turn = Turn::Play(*point);
+        let Some(behind) = tree_behind(rest, turn) else {
+            return Ok(None);
+        };
+        if !is_legal(&played, &turn) {
+            return Ok(None);
+        }
+        played.push_legal(turn)?;
+        rest = behind;
+    }
+    if matches!(rest, Tree::Done) && is_end_at_life(&played) {
+        return Ok(Some(played));
+    }
+    Ok(None)
 }

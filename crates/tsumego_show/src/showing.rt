@@ -9,7 +9,7 @@ use crate::diagram::put_svg;
 use crate::hints::{put_hints, put_missing_mover_line, put_unclosed_comment_lines};
 use crate::marking::{put_kept_problem, put_tree_marked_or_kept, unsquared_triangle_node};
 use crate::mode::Mode;
-use crate::numbered_plays::numbered_plays;
+use crate::numbered_plays::{life_behind_plays, numbered_plays};
 use crate::picture::{put_picture, put_unmarked_board};
 use crate::refusals::{is_no_target_fault, put_no_tree, put_refusal_and_why, put_too_long};
 use crate::strategy_listing::put_certificate_listing;
@@ -69,8 +69,12 @@ fn put_diagram(
     } else {
         ""
     };
+    let end = match &found {
+        Some((_, tree)) => life_behind_plays(line, tree, plays.as_slice())?,
+        None => None,
+    };
     let winner = claimed_winner(line, &found);
-    put_svg(out, line, plays.as_slice(), winner, words)
+    put_svg(out, line, plays.as_slice(), winner, words, end.as_ref())
 }
 
 /// Writes the problem of these nodes, with the strategy behind it as variations to so many turns, as a game tree behind the text.

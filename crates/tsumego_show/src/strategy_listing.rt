@@ -1,7 +1,9 @@
 //! Draws what follows a problem: the first turn and the strategy of a certificate.
+ghost use Rattle.std.specs.Prelude.{◌≡◌};
 ghost use Rattle.tt_game.specs.Game.{IsLegal};
 
 use crate::certificates::read_plain_or_shared;
+use crate::endings::{is_end_at_life, put_life};
 use crate::hints::put_both_point_names;
 use crate::numbered_plays::is_legal;
 use crate::picture::{colour_name, put_board, side_colour};
@@ -32,6 +34,14 @@ fn put_both_turn_names(out: &mut Vec<u8>, size: Size, turn: Turn) -> Result<(), 
     }
 }
 
+/// Writes the blanks in front of a line of this level behind the text.
+fn put_blanks(out: &mut Vec<u8>, level: usize) -> Result<(), NoMemory> {
+    for _blank in 0..level.min(MOST_BLANKS) {
+        out.push(b' ')?;
+    }
+    Ok(())
+}
+
 /// Writes the line of a turn behind the text.
 fn put_turn_line(
     out: &mut Vec<u8>,
@@ -40,73 +50,115 @@ fn put_turn_line(
     colour: Colour,
     level: usize,
 ) -> Result<(), NoMemory> {
-    for _blank in 0..level.min(MOST_BLANKS) {
-        out.push(b' ')?;
-    }
+    put_blanks(out, level)?;
     let name = colour_name(colour);
     written(write!(out, "{name} "))?;
     put_both_turn_names(out, size, turn)?;
     Ok(out.push(b'\n')?)
 }
 
-/// The board that a strategy is listed for, and the colour whose strategy it is.
+/// Writes three dots, where no line is left, behind the text.
+fn put_dots(out: &mut Vec<u8>) -> Result<Option<usize>, NoMemory> {
+    out.extend_from_slice(b"...\n")?;
+    Ok(None)
+}
+
+/// Writes the line on how a strategy ends at life behind the text. The answer is how many lines are left; none behind the dots.
+fn put_life_line(
+    out: &mut Vec<u8>,
+    line: &Line,
+    level: usize,
+    left: usize,
+) -> Result<Option<usize>, NoMemory> {
+    if left == 0 {
+        return put_dots(out);
+    }
+    put_blanks(out, level)?;
+    put_life(out, line)?;
+    out.push(b'\n')?;
+    Ok(Some(left - 1))
+}
+
+/// Where in a strategy a tree stands: whose strategy it is, how far in its lines begin, and whether the line that is replayed stands
+/// there, since all turns up to it are legal.
 #[derive(Clone, Copy)]
-struct Listing {
-    size: Size,
+struct Spot {
     own: Colour,
+    level: usize,
+    is_reached: bool,
 }
 
 /// Writes the lines of a tree behind the text, as many as are left, and three dots where that isn't all. The answer is how many
 /// lines are left; none behind the dots.
 #[cycle(draw)]
 fn put_tree_lines(
-    listing: Listing,
     out: &mut Vec<u8>,
     tree: &Tree,
-    level: usize,
+    line: &mut Line,
+    spot: Spot,
     left: usize,
-) -> Result<Option<usize>, NoMemory> {
+) -> Result<Option<usize>, NoMemory>
+    ensures { line.new ≡ line.old }
+{
     match tree {
-        Tree::Done => Ok(Some(left)),
-        Tree::Pick(turn, child) => {
-            put_turn_and_subtree(listing, out, *turn, listing.own, child, level, left)
+        Tree::Done => {
+            if spot.is_reached && is_end_at_life(line) {
+                return put_life_line(out, line, spot.level, left);
+            }
+            Ok(Some(left))
         }
-        Tree::Reply(list) => put_entries(listing, out, list, level, left),
+        Tree::Pick(turn, child) => {
+            put_turn_and_subtree(out, turn, spot.own, child, line, spot, left)
+        }
+        Tree::Reply(list) => put_entries(out, list, line, spot, left),
     }
 }
 
 /// Writes the lines of a turn and of what follows it.
 #[cycle(draw)]
 fn put_turn_and_subtree(
-    listing: Listing,
     out: &mut Vec<u8>,
-    turn: Turn,
+    turn: &Turn,
     colour: Colour,
     child: &Tree,
-    level: usize,
+    line: &mut Line,
+    spot: Spot,
     left: usize,
-) -> Result<Option<usize>, NoMemory> {
+) -> Result<Option<usize>, NoMemory>
+    ensures { line.new ≡ line.old }
+{
     if left == 0 {
-        out.extend_from_slice(b"...\n")?;
-        return Ok(None);
+        return put_dots(out);
     }
-    put_turn_line(out, turn, listing.size, colour, level)?;
-    put_tree_lines(listing, out, child, level.saturating_add(1), left - 1)
+    put_turn_line(out, *turn, line.frame().size, colour, spot.level)?;
+    let below = Spot {
+        own: spot.own,
+        level: spot.level.saturating_add(1),
+        is_reached: spot.is_reached && is_legal(line, turn),
+    };
+    if !below.is_reached {
+        return put_tree_lines(out, child, line, below, left - 1);
+    }
+    line.push_legal(*turn)?;
+    let put = put_tree_lines(out, child, line, below, left - 1);
+    line.pop();
+    put
 }
 
 /// Writes those of the turns of the other side.
 #[cycle(draw)]
 fn put_entries(
-    listing: Listing,
     out: &mut Vec<u8>,
     list: &[(Turn, Tree)],
-    level: usize,
+    line: &mut Line,
+    spot: Spot,
     left: usize,
-) -> Result<Option<usize>, NoMemory> {
+) -> Result<Option<usize>, NoMemory>
+    ensures { line.new ≡ line.old }
+{
     let mut more = left;
-    let colour = listing.own.other();
     for (turn, child) in list {
-        match put_turn_and_subtree(listing, out, *turn, colour, child, level, more)? {
+        match put_turn_and_subtree(out, turn, spot.own.other(), child, line, spot, more)? {
             Some(rest) => more = rest,
             None => return Ok(None),
         }
@@ -137,11 +189,12 @@ fn put_strategy(out: &mut Vec<u8>, line: &Line, side: Side, tree: &Tree) -> Resu
     let own = side_colour(line, side);
     let name = colour_name(own);
     written(writeln!(out, "{name}'s strategy:"))?;
-    let listing = Listing {
-        size: line.frame().size,
+    let spot = Spot {
         own,
+        level: 1,
+        is_reached: true,
     };
-    put_tree_lines(listing, out, tree, 1, MOST_LINES)?;
+    put_tree_lines(out, tree, &mut line.try_clone()?, spot, MOST_LINES)?;
     Ok(())
 }
 

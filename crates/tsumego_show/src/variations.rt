@@ -3,6 +3,7 @@ ghost use Rattle.std.specs.Prelude.{◌≡◌};
 
 use crate::depths::shown_depth;
 use crate::diagram::has_squares;
+use crate::endings::{is_end_at_life, put_life};
 use crate::numbered_plays::is_legal;
 use crate::picture::{colour_name, put_earlier_position_count, side_colour};
 use crate::points::point_numbered;
@@ -97,8 +98,13 @@ fn put_kept_property(out: &mut Vec<u8>, name: &[u8], nodes: &[Node]) -> Result<(
     Ok(())
 }
 
-/// Writes who has won and why behind the text, or that nobody has.
+/// Writes who has won and why, or that the targets are alive, or that nobody has won, behind the text.
 fn put_ending(out: &mut Vec<u8>, line: &Line) -> Result<(), NoMemory> {
+    if is_end_at_life(line) {
+        out.extend_from_slice(b"C[")?;
+        put_life(out, line)?;
+        return Ok(out.extend_from_slice(b".]")?);
+    }
     let Some(side) = line.winner() else {
         return Ok(out.extend_from_slice(b"C[The strategy ends, and nobody has won.]")?);
     };
