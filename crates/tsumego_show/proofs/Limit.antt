@@ -11,27 +11,27 @@ use Rattle.devices.specs.Faults.{is_output_fault}
 use Rattle.devices.specs.Watching.{IsReadInput}
 use Rattle.devices.specs.Writing.{WritesUntilFault, HoldsForInput}
 use Rattle.tsumego_show.specs.declared.mode.Mode.{Mode}
-use Rattle.tsumego_show.specs.Shown.{IsShown, IsInputText, too_long, trees}
+use Rattle.tsumego_show.specs.Shown.{HasStatus, IsInputRefused, too_long, trees}
 use Rattle.tsumego_show.specs.Writing.{WritesShown}
 
--- what is written for a part that is too long is written for the input
-long_told : (mode : Mode) (input part text : List ℕ) (refused : Bool) → length part ≡ MAX_BYTES + 1 → MAX_BYTES + 1 ≤ length input → IsInputText mode part text refused
-    → IsInputText mode input text refused
-long_told mode input part text refused e le (too_long long) = too_long (omega arith)
-long_told mode input part text refused e le (trees text' refused' small h) = absurd (omega arith)
+-- where a part that is too long is refused, the input is
+long_refused : (mode : Mode) (input part : List ℕ) (refused : Bool) → length part ≡ MAX_BYTES + 1 → MAX_BYTES + 1 ≤ length input → IsInputRefused mode part refused
+    → IsInputRefused mode input refused
+long_refused mode input part refused e le (too_long long) = too_long (omega arith)
+long_refused mode input part refused e le (trees refused' small h) = absurd (omega arith)
 
--- what is shown of the part up to the limit is shown of the input
-shown_whole : (mode : Mode) (input text : List ℕ) (status : ℕ) → IsShown mode (take (MAX_BYTES + 1) input) text status → IsShown mode input text status
-shown_whole mode input text status h = elim (prefix_is_whole_or_full (MAX_BYTES + 1) input) [
-  | inl e ↦ subst (λ (x : List ℕ). IsShown mode x text status) e h
-  | inr p ↦ (h.0, long_told mode input (take (MAX_BYTES + 1) input) text h.0 p.0 p.1 h.1, h.2)
+-- the status for the part up to the limit is that for the input
+status_whole : (mode : Mode) (input : List ℕ) (status : ℕ) → HasStatus mode (take (MAX_BYTES + 1) input) status → HasStatus mode input status
+status_whole mode input status h = elim (prefix_is_whole_or_full (MAX_BYTES + 1) input) [
+  | inl e ↦ subst (λ (x : List ℕ). HasStatus mode x status) e h
+  | inr p ↦ (h.0, long_refused mode input (take (MAX_BYTES + 1) input) h.0 p.0 p.1 h.1, h.2)
 ]
 
 -- and what is written of it is written of the input
 writes_whole : (mode : Mode) (input : List ℕ) (r : Result ℕ RunFault) (a b : Option (List ℕ)) → WritesShown mode (take (MAX_BYTES + 1) input) r a b → WritesShown mode input r a b
-writes_whole mode input (Ok status) a b w = (w.0, shown_whole mode input w.0 status w.1, w.2)
+writes_whole mode input (Ok status) a b w = (w.0, status_whole mode input status w.1, w.2)
 writes_whole mode input (Err Input) a b w = w
-writes_whole mode input (Err Output) a b w = (w.0, w.1, (w.2.0, shown_whole mode input w.0 w.2.0 w.2.1), w.3)
+writes_whole mode input (Err Output) a b w = (w.0, w.1, (w.2.0, status_whole mode input w.2.0 w.2.1), w.3)
 writes_whole mode input (Err Memory) a b w = w
 
 -- what is written on the part up to the limit is written on the input
@@ -58,7 +58,7 @@ kept_whole (Some x) None w = absurd w
 kept_whole (Some x) (Some y) w = w ∙ sym (append-nil x)
 
 -- a fault came where a text was to be written
-pub text_breaks : (mode : Mode) (input text : List ℕ) (status : ℕ) (e : RunFault) (a b : Option (List ℕ)) → IsShown mode input text status → WritesUntilFault text e a b → WritesShown mode input (Err e) a b
+pub text_breaks : (mode : Mode) (input text : List ℕ) (status : ℕ) (e : RunFault) (a b : Option (List ℕ)) → HasStatus mode input status → WritesUntilFault text e a b → WritesShown mode input (Err e) a b
 text_breaks mode input text status Input a b h w = absurd w
 text_breaks mode input text status Output a b h w = (text, w.0, (status, h), w.1)
 text_breaks mode input text status Memory a b h w = ([], refl, kept_whole a b w)

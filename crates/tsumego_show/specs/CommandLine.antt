@@ -9,7 +9,6 @@ use Rattle.tsumego_show.specs.declared.mode.Mode.{Mode}
 use Rattle.tsumego_show.specs.declared.mode.Mode.TheVariants.{Diagram, Marks, Picture, Variations}
 use Rattle.tsumego_show.specs.declared.mode.PointName.{PointName}
 use Rattle.tsumego_show.specs.declared.mode.PointName.TheVariants.{FromAbove, FromBelow}
-use Rattle.tsumego_show.specs.FaultDetails.{value_if_unread}
 
 -- ---- points
 
@@ -98,9 +97,14 @@ mode_of_words (w ∷ ws) =
     if pointwise ◌==◌ w (codes "--svg") then svg_mode ws else (if pointwise ◌==◌ w (codes "--mark") then mark_mode ws
     else (if pointwise ◌==◌ w (codes "--sgf") then sgf_mode ws else None))
 
+-- a word, where nothing is read from it
+abbrev pub word_if_unread : {A : Type 0} → List ℕ → Option A → Option (List ℕ)
+word_if_unread w None = Some w
+word_if_unread w (Some x) = None
+
 -- the word behind `--mark`, where it is no point
 abbrev pub unreadable_point_argument : List (List ℕ) → Option (List ℕ)
 unreadable_point_argument [] = None
 unreadable_point_argument (w ∷ []) = None
-unreadable_point_argument (w ∷ v ∷ []) = if pointwise ◌==◌ w (codes "--mark") then value_if_unread v (point_name_of_word v) else None
+unreadable_point_argument (w ∷ v ∷ []) = if pointwise ◌==◌ w (codes "--mark") then word_if_unread v (point_name_of_word v) else None
 unreadable_point_argument (w ∷ v ∷ u ∷ ws) = None

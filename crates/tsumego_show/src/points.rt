@@ -2,11 +2,7 @@
 ghost use Rattle.std.specs.Prelude.{◌≡◌, ◌<◌};
 ghost use Rattle.std.specs.FinSet as set;
 ghost use Rattle.tt_sgf.specs.Sizes.{point_count};
-ghost use Rattle.tsumego_show.specs.Diagram.{is_in_region, is_target};
-ghost use Rattle.tsumego_show.specs.Variations.{has_stone_of_colour};
 
-use tt_board::Colour;
-use tt_game::Line;
 use tt_sgf::{Point, PointSet, Size};
 
 /// The point of this number.
@@ -27,29 +23,4 @@ pub fn has_point_numbered(size: Size, points: &PointSet, number: usize) -> bool
     ensures { result ≡ set.contains points.now number }
 {
     points.has(point_numbered(size, number))
-}
-
-/// Whether a stone of this colour stands on the point of this number.
-pub fn has_stone_of_colour(line: &Line, number: usize, colour: Colour) -> bool
-    requires { number < point_count line.now.frame.size }
-    ensures { result ≡ has_stone_of_colour line.now colour number }
-{
-    let point = point_numbered(line.frame().size, number);
-    line.present().at(point) == Some(colour)
-}
-
-/// Whether the point of this number is one of the region.
-pub fn is_in_region(line: &Line, number: usize) -> bool
-    requires { number < point_count line.now.frame.size }
-    ensures { result ≡ is_in_region line.now number }
-{
-    has_point_numbered(line.frame().size, &line.frame().region, number)
-}
-
-/// Whether the point of this number is a target.
-pub fn is_target(line: &Line, number: usize) -> bool
-    requires { number < point_count line.now.frame.size }
-    ensures { result ≡ is_target line.now number }
-{
-    has_point_numbered(line.frame().size, &line.frame().targets, number)
 }

@@ -1,15 +1,15 @@
 //! Draws what follows a problem: the first turn and the strategy of a certificate.
-ghost use Rattle.std.specs.Prelude.{◌≡◌, ◌++◌, ◌∷◌, [], ℕ, List, replicate, IfOk, OnOk};
-ghost use Rattle.tt_sgf.specs.Bytes.{newline, space};
-ghost use Rattle.tt_proof.specs.Strategy.{AreInOrder, IsInOrder, IsTurnOnBoardOfSize, entries_of_reply, strategy_of};
-ghost use Rattle.tsumego_show.specs.Picture.{colour_name};
-ghost use Rattle.tsumego_show.specs.StrategyListing.{IsCertificateListing, IsFirstTurnAndBoard, both_turn_names, too_deep_line, next_indentation, entries_lines, heading, no_certificate_line, strategy_text, tree_lines, turn_line};
-ghost use Rattle.tsumego_show.specs.inside.Lines.{Goes};
+ghost use Rattle.std.specs.Prelude.{◌≡◌};
+ghost use Rattle.tt_game.specs.Game.{IsLegal};
 
 use crate::certificates::read_plain_or_shared;
-use crate::first_turn::{put_both_turn_names, put_first_turn_and_board};
-use crate::picture::{colour_name, side_colour};
+use crate::endings::{is_end_at_life, put_life};
+use crate::hints::put_both_point_names;
+use crate::numbered_plays::is_legal;
+use crate::picture::{colour_name, put_board, side_colour};
+use crate::writing::written;
 use std::alloc::Global;
+use std::io::Write;
 use tt_board::Colour;
 use tt_game::{Line, Side, Turn};
 use tt_proof::{CertFault, Tree};
@@ -18,228 +18,184 @@ use tt_sgf::{NoMemory, Size};
 /// How many lines of a strategy are shown.
 const MOST_LINES: usize = 60;
 
-/// One step further in.
-fn next_indentation(level: usize) -> usize
-    ensures { result ≡ next_indentation level }
-{
-    if level < 40 { level + 1 } else { level }
+/// How far in a line begins at the most.
+const MOST_BLANKS: usize = 40;
+
+/// Writes a turn by both names of its point behind the text.
+fn put_both_turn_names(out: &mut Vec<u8>, size: Size, turn: Turn) -> Result<(), NoMemory> {
+    match turn {
+        Turn::Play(point) => {
+            if !size.holds(point) {
+                return Ok(());
+            }
+            put_both_point_names(out, size, usize::from(point.number()))
+        }
+        Turn::Pass => Ok(out.extend_from_slice(b"pass")?),
+    }
 }
 
-/// Writes so many blanks behind the text.
-fn put_blanks(out: &mut Vec<u8>, level: usize) -> Result<(), NoMemory>
-    ensures { OnOk result (out.new.items ≡ out.old.items ++ replicate level space) }
-{
-    for _blank in 0..level {
+/// Writes the blanks in front of a line of this level behind the text.
+fn put_blanks(out: &mut Vec<u8>, level: usize) -> Result<(), NoMemory> {
+    for _blank in 0..level.min(MOST_BLANKS) {
         out.push(b' ')?;
     }
     Ok(())
 }
 
-/// Writes who plays and a turn behind the text.
-fn put_colour_and_turn(
-    alloc: Global,
-    out: &mut Vec<u8>,
-    turn: Turn,
-    size: Size,
-    colour: Colour,
-) -> Result<(), NoMemory>
-    requires { IsTurnOnBoardOfSize size turn }
-    ensures { OnOk result (out.new.items ≡ out.old.items ++ colour_name colour ++ space ∷ (both_turn_names size turn ++ newline ∷ [])) }
-{
-    out.extend_from_slice(colour_name(colour))?;
-    out.push(b' ')?;
-    put_both_turn_names(alloc, out, size, turn)?;
-    out.push(b'\n')?;
-    Ok(())
-}
-
 /// Writes the line of a turn behind the text.
-#[tactic(auto, unfolding(crate::specs::StrategyListing::turn_line))]
 fn put_turn_line(
-    alloc: Global,
     out: &mut Vec<u8>,
     turn: Turn,
     size: Size,
     colour: Colour,
     level: usize,
-) -> Result<(), NoMemory>
-    requires { IsTurnOnBoardOfSize size turn }
-    ensures { OnOk result (out.new.items ≡ out.old.items ++ turn_line size level colour turn) }
-{
+) -> Result<(), NoMemory> {
     put_blanks(out, level)?;
-    put_colour_and_turn(alloc, out, turn, size, colour)
+    let name = colour_name(colour);
+    written(write!(out, "{name} "))?;
+    put_both_turn_names(out, size, turn)?;
+    Ok(out.push(b'\n')?)
 }
 
-/// Writes the line of a turn behind the text, where lines are left, and else three dots. The answer is how many lines are left;
-/// none behind the dots.
-fn put_turn_line_or_dots(
-    alloc: Global,
+/// Writes three dots, where no line is left, behind the text.
+fn put_dots(out: &mut Vec<u8>) -> Result<Option<usize>, NoMemory> {
+    out.extend_from_slice(b"...\n")?;
+    Ok(None)
+}
+
+/// Writes the line on how a strategy ends at life behind the text. The answer is how many lines are left; none behind the dots.
+fn put_life_line(
     out: &mut Vec<u8>,
-    turn: Turn,
-    size: Size,
-    colour: Colour,
+    line: &Line,
     level: usize,
     left: usize,
-) -> Result<Option<usize>, NoMemory>
-    requires { IsTurnOnBoardOfSize size turn }
-    ensures { IfOk result (λ r. Goes r out.new.items out.old.items left (turn_line size level colour turn)) }
-{
+) -> Result<Option<usize>, NoMemory> {
     if left == 0 {
-        out.extend_from_slice(b"...\n")?;
-        return Ok(None);
+        return put_dots(out);
     }
-    put_turn_line(alloc, out, turn, size, colour, level)?;
+    put_blanks(out, level)?;
+    put_life(out, line)?;
+    out.push(b'\n')?;
     Ok(Some(left - 1))
 }
 
-/// Writes the lines of a tree behind the text, as many as are left.
-#[cycle(draw)]
-fn put_tree_lines(
-    alloc: Global,
-    out: &mut Vec<u8>,
-    tree: &Tree,
-    size: Size,
+/// Where in a strategy a tree stands: whose strategy it is, how far in its lines begin, and whether the line that is replayed stands
+/// there, since all turns up to it are legal.
+#[derive(Clone, Copy)]
+struct Spot {
     own: Colour,
     level: usize,
+    is_reached: bool,
+}
+
+/// Writes the lines of a tree behind the text, as many as are left, and three dots where that isn't all. The answer is how many
+/// lines are left; none behind the dots.
+#[cycle(draw)]
+fn put_tree_lines(
+    out: &mut Vec<u8>,
+    tree: &Tree,
+    line: &mut Line,
+    spot: Spot,
     left: usize,
 ) -> Result<Option<usize>, NoMemory>
-    requires in_order { IsInOrder size (strategy_of tree.now) }
-    ensures { IfOk result (λ r. Goes r out.new.items out.old.items left (tree_lines size own level (strategy_of tree.now))) }
+    ensures { line.new ≡ line.old }
 {
     match tree {
-        Tree::Done => Ok(Some(left)),
-        Tree::Pick(turn, child) => put_turn_and_subtree(
-            alloc, out, *turn, own, child, size, own, level, left,
-        ),
-        Tree::Reply(list) => put_entries(alloc, out, list, size, own, level, left),
+        Tree::Done => {
+            if spot.is_reached && is_end_at_life(line) {
+                return put_life_line(out, line, spot.level, left);
+            }
+            Ok(Some(left))
+        }
+        Tree::Pick(turn, child) => {
+            put_turn_and_subtree(out, turn, spot.own, child, line, spot, left)
+        }
+        Tree::Reply(list) => put_entries(out, list, line, spot, left),
     }
 }
 
 /// Writes the lines of a turn and of what follows it.
 #[cycle(draw)]
 fn put_turn_and_subtree(
-    alloc: Global,
     out: &mut Vec<u8>,
-    turn: Turn,
+    turn: &Turn,
     colour: Colour,
     child: &Tree,
-    size: Size,
-    own: Colour,
-    level: usize,
+    line: &mut Line,
+    spot: Spot,
     left: usize,
 ) -> Result<Option<usize>, NoMemory>
-    requires on_board { IsTurnOnBoardOfSize size turn }
-    requires in_order { IsInOrder size (strategy_of child.now) }
-    ensures { IfOk result (λ r. Goes r out.new.items out.old.items left
-        (turn_line size level colour turn ++ tree_lines size own (next_indentation level) (strategy_of child.now))) }
+    ensures { line.new ≡ line.old }
 {
-    match put_turn_line_or_dots(alloc, out, turn, size, colour, level, left) {
-        Ok(Some(more)) => put_tree_lines(
-            alloc,
-            out,
-            child,
-            size,
-            own,
-            next_indentation(level),
-            more,
-        ),
-        Ok(None) => Ok(None),
-        Err(e) => Err(e),
+    if left == 0 {
+        return put_dots(out);
     }
+    put_turn_line(out, *turn, line.frame().size, colour, spot.level)?;
+    let below = Spot {
+        own: spot.own,
+        level: spot.level.saturating_add(1),
+        is_reached: spot.is_reached && is_legal(line, turn),
+    };
+    if !below.is_reached {
+        return put_tree_lines(out, child, line, below, left - 1);
+    }
+    line.push_legal(*turn)?;
+    let put = put_tree_lines(out, child, line, below, left - 1);
+    line.pop();
+    put
 }
 
+/// Writes those of the turns of the other side.
 #[cycle(draw)]
 fn put_entries(
-    alloc: Global,
     out: &mut Vec<u8>,
     list: &[(Turn, Tree)],
-    size: Size,
-    own: Colour,
-    level: usize,
+    line: &mut Line,
+    spot: Spot,
     left: usize,
 ) -> Result<Option<usize>, NoMemory>
-    requires in_order { AreInOrder size 0 (entries_of_reply list.now) }
-    ensures { IfOk result (λ r. Goes r out.new.items out.old.items left (entries_lines size own level (entries_of_reply list.now))) }
+    ensures { line.new ≡ line.old }
 {
     let mut more = left;
     for (turn, child) in list {
-        match put_turn_and_subtree(
-            alloc,
-            out,
-            *turn,
-            own.other(),
-            child,
-            size,
-            own,
-            level,
-            more,
-        ) {
-            Ok(Some(rest)) => more = rest,
-            Ok(None) => return Ok(None),
-            Err(e) => return Err(e),
+        match put_turn_and_subtree(out, turn, spot.own.other(), child, line, spot, more)? {
+            Some(rest) => more = rest,
+            None => return Ok(None),
         }
     }
     Ok(Some(more))
 }
 
-/// Writes whose strategy follows behind the text.
-fn put_heading(out: &mut Vec<u8>, colour: Colour) -> Result<(), NoMemory>
-    ensures { OnOk result (out.new.items ≡ out.old.items ++ heading colour) }
+/// Writes who makes which turn, and the board then, behind the text.
+fn put_board_after_turn(out: &mut Vec<u8>, line: &Line, turn: &Turn) -> Result<(), NoMemory>
+    requires { IsLegal line.now.frame line.now.state turn.now }
 {
-    out.extend_from_slice(colour_name(colour))?;
-    out.extend_from_slice(b"'s strategy:\n")?;
-    Ok(())
+    let mover = colour_name(side_colour(line, line.to_move()));
+    written(write!(out, "After {mover} "))?;
+    put_both_turn_names(out, line.frame().size, *turn)?;
+    out.extend_from_slice(b":\n")?;
+    let next = line.after(*turn)?;
+    put_board(out, next.frame(), next.present())
 }
 
-/// Writes the strategy of a side behind the text.
-fn put_strategy(
-    alloc: Global,
-    out: &mut Vec<u8>,
-    line: &Line,
-    side: Side,
-    tree: &Tree,
-) -> Result<(), NoMemory>
-    requires { IsInOrder line.now.frame.size (strategy_of tree.now) }
-    ensures { OnOk result (out.new.items ≡ out.old.items ++ strategy_text line.now side (strategy_of tree.now)) }
-{
-    let own = side_colour(line, side);
-    put_heading(out, own)?;
-    put_tree_lines(alloc, out, tree, line.frame().size, own, 1, MOST_LINES)?;
-    Ok(())
-}
-
-/// Writes that what follows is no certificate behind the text, where something follows.
-fn put_no_certificate(out: &mut Vec<u8>, bytes: &[u8]) -> Result<(), NoMemory>
-    ensures { OnOk result (out.new.items ≡ out.old.items ++ no_certificate_line bytes.now) }
-{
-    if !bytes.is_empty() {
-        out.extend_from_slice(b"what follows is no certificate\n")?;
+/// Writes the board after the first turn of a side's strategy, where the side is to move and that turn is legal, and the
+/// strategy, behind the text.
+fn put_strategy(out: &mut Vec<u8>, line: &Line, side: Side, tree: &Tree) -> Result<(), NoMemory> {
+    if let Some(turn) = tree.first() {
+        if line.to_move() == side && is_legal(line, &turn) {
+            put_board_after_turn(out, line, &turn)?;
+        }
     }
+    let own = side_colour(line, side);
+    let name = colour_name(own);
+    written(writeln!(out, "{name}'s strategy:"))?;
+    let spot = Spot {
+        own,
+        level: 1,
+        is_reached: true,
+    };
+    put_tree_lines(out, tree, &mut line.try_clone()?, spot, MOST_LINES)?;
     Ok(())
-}
-
-/// Writes that what follows goes too deep behind the text.
-fn put_too_deep_line(out: &mut Vec<u8>) -> Result<(), NoMemory>
-    ensures { OnOk result (out.new.items ≡ out.old.items ++ too_deep_line) }
-{
-    out.extend_from_slice(b"what follows goes deeper than 512 turns, so it is no certificate\n")?;
-    Ok(())
-}
-
-/// Writes the first turn and the strategy of a side behind the text.
-fn put_first_turn_and_strategy(
-    alloc: Global,
-    out: &mut Vec<u8>,
-    line: &Line,
-    side: Side,
-    tree: &Tree,
-) -> Result<(), NoMemory>
-    requires { IsInOrder line.now.frame.size (strategy_of tree.now) }
-    ensures { OnOk result ((text : List ℕ) × IsFirstTurnAndBoard line.now side (strategy_of tree.now) text
-        × (out.new.items ≡ out.old.items ++ (text ++ strategy_text line.now side (strategy_of tree.now)))) }
-{
-    put_first_turn_and_board(alloc, out, line, side, tree)?;
-    put_strategy(alloc, out, line, side, tree)
 }
 
 /// Writes the text on what follows a problem behind the text. Where it is a certificate, the board after its side's first turn,
@@ -250,13 +206,18 @@ pub fn put_certificate_listing(
     out: &mut Vec<u8>,
     line: &Line,
     bytes: &[u8],
-) -> Result<(), NoMemory>
-    ensures { OnOk result ((text : List ℕ) × IsCertificateListing line.now bytes.now text × (out.new.items ≡ out.old.items ++ text)) }
-{
+) -> Result<(), NoMemory> {
     match read_plain_or_shared(alloc, bytes, line.frame().size) {
-        Ok((side, tree)) => put_first_turn_and_strategy(alloc, out, line, side, &tree),
+        Ok((side, tree)) => put_strategy(out, line, side, &tree),
         Err(CertFault::NoMemory) => Err(NoMemory),
-        Err(CertFault::Syntax) => put_no_certificate(out, bytes),
-        Err(CertFault::TooDeep) => put_too_deep_line(out),
+        Err(CertFault::Syntax) => {
+            if bytes.is_empty() {
+                return Ok(());
+            }
+            Ok(out.extend_from_slice(b"what follows is no certificate\n")?)
+        }
+        Err(CertFault::TooDeep) => Ok(out.extend_from_slice(
+            b"what follows goes deeper than 512 turns, so it is no certificate\n",
+        )?),
     }
 }

@@ -22,8 +22,8 @@ loop-number-preserved c =
     let within = c.in-Ok.ensures.within in
     record {
       bound = omega (arith, left, within.0, within.1, c.loop-number.invariant.bound);
-      progress = progress_step c.loop-number.invariant.progress used found.0 c.in-Ok.main.nodes _ _ found.1 found.2
-          c.in-Ok.ensures.within.2 (search rules) (search rules);
+      progress = progress_step c.loop-number.invariant.progress used found.0 c.in-Ok.main.nodes _ found.1 found.2
+          c.in-Ok.ensures.within.2 (search rules);
     }
 
 pub returns-in-Err-Syntax : goal.returns-in-Err-Syntax
@@ -31,11 +31,11 @@ returns-in-Err-Syntax c =
     let goes : (c.loop-number.number ≡ 1) ⊎ HasOpeningParenthesis c.loop-number.rest.now =
     elim c.if-number-eq1.branch [ then-number-eq1 w ↦ inl w.if-number-eq1.true | else-number-eq1+then-has_tree w ↦ inr (search (rules, w.if-has_tree.true)) ] in
     let none = c.in-Err-Syntax.ensures.syntax (search rules) in
-    progress_stopped c.loop-number.invariant.progress goes none.0 none.1 _ (search rules)
+    progress_stopped c.loop-number.invariant.progress goes none.0 none.1
 
 pub returns-in-Err-TooLong : goal.returns-in-Err-TooLong
 returns-in-Err-TooLong c =
-    progress_long c.loop-number.invariant.progress (c.in-Err-TooLong.ensures.too_long.0 (search rules)) c.loop-number.invariant.bound _ (search rules)
+    progress_long c.loop-number.invariant.progress (c.in-Err-TooLong.ensures.too_long.0 (search rules)) c.loop-number.invariant.bound
 
 pub returns : goal.returns
 returns c =
