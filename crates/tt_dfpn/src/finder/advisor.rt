@@ -175,7 +175,7 @@ impl Advisor {
         if self.finder.board.play(me, p).is_err() {
             return None;
         }
-        let points = if self.finder.region.are_targets_alive(&self.finder.board) {
+        let points = if self.finder.are_targets_alive() {
             Some(self.attackable_point_count())
         } else {
             None
@@ -225,14 +225,28 @@ impl Advisor {
         best
     }
 
+    /// The defender's first play behind which the targets live at once.
+    fn play_to_life(&mut self) -> Option<u16> {
+        for k in 0..self.finder.region.points.len() {
+            let p = *self.finder.region.points.get(k)?;
+            if self.finder.do_targets_live_behind(p) {
+                return Some(p);
+            }
+        }
+        None
+    }
+
     /// The turn that is said first where the line stands, if one is known.
     fn known_turn(&mut self, line: &Line, mover: Colour) -> Option<u16> {
         if mover == self.finder.region.defender {
             if line.passes() > 0 {
                 return Some(PASS);
             }
-            if self.finder.region.are_targets_alive(&self.finder.board) {
+            if self.finder.are_targets_alive() {
                 return Some(self.turn_of_living_defender());
+            }
+            if let Some(p) = self.play_to_life() {
+                return Some(p);
             }
         }
         let entry = self
