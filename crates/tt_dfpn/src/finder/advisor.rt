@@ -225,17 +225,6 @@ impl Advisor {
         best
     }
 
-    /// The defender's first play behind which the targets live at once.
-    fn play_to_life(&mut self) -> Option<u16> {
-        for k in 0..self.finder.region.points.len() {
-            let p = *self.finder.region.points.get(k)?;
-            if self.finder.do_targets_live_behind(p) {
-                return Some(p);
-            }
-        }
-        None
-    }
-
     /// The turn that is said first where the line stands, if one is known.
     fn known_turn(&mut self, line: &Line, mover: Colour) -> Option<u16> {
         if mover == self.finder.region.defender {
@@ -245,7 +234,7 @@ impl Advisor {
             if self.finder.are_targets_alive() {
                 return Some(self.turn_of_living_defender());
             }
-            if let Some(p) = self.play_to_life() {
+            if let Some(p) = self.finder.play_to_life() {
                 return Some(p);
             }
         }
