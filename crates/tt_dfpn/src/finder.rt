@@ -9,6 +9,7 @@ mod hash_history;
 mod life;
 mod region;
 mod search;
+mod threats;
 mod transpositions;
 mod zobrist;
 

@@ -175,7 +175,7 @@ impl Advisor {
         if self.finder.board.play(me, p).is_err() {
             return None;
         }
-        let points = if self.finder.region.are_targets_alive(&self.finder.board) {
+        let points = if self.finder.are_targets_alive() {
             Some(self.attackable_point_count())
         } else {
             None
@@ -231,8 +231,11 @@ impl Advisor {
             if line.passes() > 0 {
                 return Some(PASS);
             }
-            if self.finder.region.are_targets_alive(&self.finder.board) {
+            if self.finder.are_targets_alive() {
                 return Some(self.turn_of_living_defender());
+            }
+            if let Some(p) = self.finder.play_to_life() {
+                return Some(p);
             }
         }
         let entry = self

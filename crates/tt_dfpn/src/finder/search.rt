@@ -7,6 +7,7 @@ ghost use Rattle.std.specs.Prelude.{◌≡◌, ◌<◌, ◌≤◌, length, true,
 
 use crate::advice::VisitsLeft;
 use crate::finder::board::{SearchBoard, index};
+use crate::finder::life::Life;
 use crate::finder::region::Region;
 use crate::finder::transpositions::{
     Entry, INFINITE, INITIAL_BUCKETS, INITIAL_PATH_BUCKETS, LOST, MOST_BUCKETS, MOST_PATH_BUCKETS,
@@ -61,6 +62,8 @@ pub(crate) struct Finder {
     has_path_table: bool,
     /// How often each turn won, by colour (J. Schaeffer, "The History Heuristic", 1989).
     wins: [[u32; 512]; 2],
+    /// What was seen last of the targets' life.
+    pub(crate) life: Life,
     /// Lists that aren't used.
     lists: Vec<Vec<Child>>,
     /// Whether suicides and plays into the mover's own eyes are left out.
@@ -163,6 +166,7 @@ impl Finder {
             path_table: TranspositionTable::new(alloc, INITIAL_PATH_BUCKETS, MOST_PATH_BUCKETS)?,
             has_path_table: false,
             wins: [[0; 512]; 2],
+            life: Life::none(),
             lists: Vec::new(alloc),
             prunes: true,
             reserve: 0,
@@ -197,21 +201,30 @@ impl Finder {
         self.main_table.find(hashes.position)
     }
 
-    /// Keeps what is known of a position: as its line's own, where that has an entry.
+    /// Keeps what is known of a position, whatever its history.
     #[inline]
-    fn keep_entry(&mut self, hashes: Hashes, numbers: ProofNumbers, best: u16, work: u32) {
-        let mut entry = Entry {
-            key: hashes.position,
+    pub(crate) fn keep_position(&mut self, key: u64, numbers: ProofNumbers, best: u16, work: u32) {
+        self.main_table.keep(Entry {
+            key,
             numbers,
             work,
             best,
-        };
+        });
+    }
+
+    /// Keeps what is known of a position: as its line's own, where that has an entry.
+    #[inline]
+    fn keep_entry(&mut self, hashes: Hashes, numbers: ProofNumbers, best: u16, work: u32) {
         if self.has_path_table && self.path_table.find(hashes.line).is_some() {
-            entry.key = hashes.line;
-            self.path_table.keep(entry);
+            self.path_table.keep(Entry {
+                key: hashes.line,
+                numbers,
+                work,
+                best,
+            });
             return;
         }
-        self.main_table.keep(entry);
+        self.keep_position(hashes.position, numbers, best, work);
     }
 
     /// Gives a line an entry of its own.
@@ -326,21 +339,31 @@ impl Finder {
         None
     }
 
-    /// Whether the targets live unconditionally, where the attacker moves and the position is new.
-    fn is_new_attack_hopeless(&self, mover: Colour, hashes: Hashes) -> bool {
+    /// Whether the attacker moves at a position that wasn't searched yet.
+    fn is_new_attack(&self, mover: Colour, hashes: Hashes) -> bool {
         if mover == self.region.defender {
             return false;
         }
-        if let Some(entry) = self.find_entry(hashes) {
-            if entry.best != NO_TURN {
-                return false;
-            }
+        match self.find_entry(hashes) {
+            Some(entry) => entry.best == NO_TURN,
+            None => true,
         }
-        self.region.are_targets_alive(&self.board)
+    }
+
+    /// Whether the attacker's position that wasn't searched yet is lost, as the targets live unconditionally. Else its turns are
+    /// refuted that leave the defender a life at once.
+    fn is_hopeless_or_threatened(&mut self, attacker: Colour, list: &mut Vec<Child>) -> bool {
+        if self.are_targets_alive() {
+            return true;
+        }
+        if self.prunes {
+            self.refute_by_threats(attacker, list);
+        }
+        false
     }
 
     /// Ends the search that runs, where it has no memory.
-    fn stop_search(&mut self) {
+    pub(crate) fn stop_search(&mut self) {
         self.reserve = u32::MAX;
     }
 
@@ -398,7 +421,9 @@ impl Finder {
         let found = if let Some(turn) = self.list_turns_or_win(mover, &mut list) {
             self.keep_entry(hashes, WON, turn, 1);
             WON
-        } else if self.is_new_attack_hopeless(mover, hashes) {
+        } else if self.is_new_attack(mover, hashes)
+            && self.is_hopeless_or_threatened(mover, &mut list)
+        {
             self.keep_entry(hashes, LOST, NO_TURN, 1);
             LOST
         } else {
