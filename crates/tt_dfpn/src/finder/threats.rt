@@ -1,5 +1,9 @@
-//! Threats of life: where the defender's play would make the targets live at once, the attacker has to play in the zone of that life
-//! first.
+//! Threats of life. Where the defender could make the targets live at once, the attacker has to play in the zone of that life first:
+//! all other turns are refuted by the same play.
+//!
+//! Such a zone is a relevance zone (C.-C. Shih, T.-R. Wu, T. H. Wei, I-C. Wu, "A Novel Approach to Solving Goal-Achieving Problems
+//! for Board Games", 2022). That a threat leaves few turns worth a look is in A. Kishimoto, M. Müller, "Search versus Knowledge for
+//! Solving Life and Death Problems in Go", 2005.
 
 use crate::finder::board::index;
 use crate::finder::life::TouchedAreas;

@@ -158,6 +158,15 @@ impl TranspositionTable {
         self.taken = 0;
     }
 
+    /// Some bits of both ends of a key's bucket.
+    #[inline(always)]
+    pub(crate) fn bits_of_bucket(&self, key: u64) -> u64 {
+        match self.buckets.get(self.bucket_index(key)) {
+            Some(bucket) => bucket[0].key ^ u64::from(bucket[1].best),
+            None => 0,
+        }
+    }
+
     /// What is known under a key.
     #[inline]
     pub(crate) fn find(&self, key: u64) -> Option<Entry> {
