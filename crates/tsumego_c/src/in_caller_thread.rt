@@ -49,14 +49,7 @@ fn verdict_at(
         return Ok(text);
     }
     let answer = solve_problem(alloc, line, options, bytes);
-    verdict_text(
-        alloc,
-        line,
-        &options.limits,
-        options.total,
-        &answer,
-        options.cert,
-    )
+    verdict_text(alloc, line, &options.limits, &answer, options.cert)
 }
 
 /// What is said of the problem at a line, where nothing is asked of its turns.
