@@ -1,6 +1,13 @@
+pub mod CheckedLines
 pub mod Checks
+pub mod LinesOfTexts
 pub mod OneCheck
 pub mod OneText
+pub mod OutcomeLines
+pub mod OutputBlocks
+pub mod OutputLines
+pub mod ScoredLines
+pub mod SolvedLines
 pub mod Totals
 pub mod Turns
 pub mod Values

@@ -1,6 +1,8 @@
 -- What public contracts cite.
 pub mod Checking
+pub mod Headline
 pub mod Laws
+pub mod OtherLines
 pub mod Scoring
 pub mod Solving
 pub mod Trees
