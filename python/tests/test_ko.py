@@ -14,7 +14,7 @@ from tsumego.sgf import trees_of
 from tsumego.strategy import read_certificate
 
 EXAMPLES = Path(__file__).resolve().parents[2] / "examples"
-SECONDS = 50
+SECONDS = 100
 
 
 def six_in_the_corner(liberties: int) -> str:

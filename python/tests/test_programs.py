@@ -73,4 +73,7 @@ def test_a_stop_ends_what_runs_and_begins_nothing(stand_in: Callable[[str, str],
     programs.stop()
     for thread in threads:
         thread.join(20)
+    # What is asked after that begins again.
+    stand_in("tsumego", "echo 1")
+    assert programs.in_parallel(str, [1]) == ["1"] and programs.run("tsumego", ["solve"], b"").text == "1\n"
     assert sorted(map(str, faults)) == ["stopped", "stopped", "tsumego: ended by signal 9"] and (tmp_path / "log").read_text() == "\n"

@@ -51,10 +51,10 @@ def _asked(found: Marked, clock: Clock) -> Answer:
     problems = [problem for _, problem in found.ways]
     verdicts = in_parallel(lambda problem: verdict(problem, clock), problems)
     result, problem = Answer("", verdicts[0], problems[0]), problems[0]
-    part, ours = Clock(clock.seconds / 5), None
+    ours: Optional[Strategy] = None
     if result.verdict.is_settled and not result.is_mover_winner:
         # The winner's strategy has an answer to each turn.
-        ours = strategy(problem, part)
+        ours = strategy(problem, Clock(clock.seconds / 5))
     asked = _turns_to_ask(result) if result.verdict.is_settled and not ours else []
 
     def ask_rest() -> Tuple[List[Verdict], List[Verdict]]:
@@ -63,7 +63,8 @@ def _asked(found: Marked, clock: Clock) -> Answer:
         return rest[: len(others)], rest[len(others) :]
 
     def ask_strategy() -> Optional[Strategy]:
-        return strategy(problem, part) if result.is_mover_winner else ours
+        # (it serves the ko test)
+        return strategy(problem, Clock(clock.seconds / 20)) if result.is_mover_winner else ours
 
     (others, after), ours = in_parallel(lambda ask: ask(), [ask_rest, ask_strategy])
     each_other = [others.pop(0) if _is_other_open(each, word) else Verdict(word.word) for each, word in zip(problems, verdicts)]

@@ -40,10 +40,10 @@ DEEPEST, MOST_TURNS = 2, 3
 
 def ko_of(answer: Answer, ours: Optional[Strategy], clock: Clock) -> Ko:
     """What made problems say of a settled answer: with how many threats of the loser it becomes another one, up to three. `ours` is the
-    winner's strategy, if it was found. It takes a tenth of the clock's seconds at most."""
+    winner's strategy, if it was found. It takes a twentieth of the clock's seconds at most."""
     problem = answer.problem
     assert problem
-    clock = Clock(min(clock.left(), clock.seconds / 10))
+    clock = Clock(min(clock.left(), clock.seconds / 20))
     leaning = leaning_on_repetition(problem, ours) if ours else None
     if leaning is not None:
         found = in_parallel(lambda each: verdict(each, clock), leaning)

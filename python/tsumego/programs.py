@@ -10,7 +10,8 @@ import queue
 import shlex
 import shutil
 import subprocess
-from concurrent.futures import ThreadPoolExecutor
+import threading
+from concurrent.futures import Future, ThreadPoolExecutor
 from dataclasses import dataclass
 from pathlib import Path
 from typing import Callable, Iterable, List, Optional, Sequence, Set, TypeVar
@@ -29,7 +30,7 @@ Found = TypeVar("Found")
 _running: Set["subprocess.Popen[bytes]"] = set()
 # One queue of free places where machines are named: the name of a machine for each program that it may begin.
 _places: List["queue.Queue[str]"] = []
-_stops: List[bool] = []
+_stopping = threading.Event()
 
 
 class ProgramError(RuntimeError):
@@ -88,11 +89,9 @@ def run(name: str, words: List[str], text: bytes, seconds: Optional[float] = Non
     """
     if is_here or not _places or name != "tsumego":
         return _run([program(name), *words], name, text, seconds)
-    places, stops = _places[0], len(_stops)
+    places = _places[0]
     machine = places.get()
     try:
-        if len(_stops) > stops:
-            raise ProgramError("stopped")
         if machine == ":":
             return _run([program(name), *words], name, text, seconds)
         limited = ["timeout", f"{seconds:.2f}"] if seconds is not None else []
@@ -102,18 +101,22 @@ def run(name: str, words: List[str], text: bytes, seconds: Optional[float] = Non
 
 
 def stop() -> None:
-    """Ends the programs that run, and begins none that waits for its place."""
-    _stops.append(True)
+    """Ends the programs that run. None begins any more until what is asked in parallel has come to its end."""
+    _stopping.set()
     for process in list(_running):
         process.kill()
 
 
 def _run(command: List[str], name: str, text: bytes, seconds: Optional[float]) -> Ended:
+    if _stopping.is_set():
+        raise ProgramError("stopped")
     try:
         process = subprocess.Popen(command, stdin=subprocess.PIPE, stdout=subprocess.PIPE, stderr=subprocess.PIPE)
     except OSError as fault:
         raise ProgramError(f"{command[0]}: {fault.strerror}") from fault
     _running.add(process)
+    if _stopping.is_set():
+        process.kill()
     try:
         out, errors = process.communicate(text, timeout=seconds)
         status: Optional[int] = process.returncode
@@ -137,9 +140,10 @@ def _run(command: List[str], name: str, text: bytes, seconds: Optional[float]) -
 
 def in_parallel(ask: Callable[[Given], Found], given: Iterable[Given], jobs: int = JOBS) -> List[Found]:
     """What is asked of each, in their order; so many are asked at a time. Ctrl-C ends the programs that run, and begins no other."""
+    futures: List["Future[Found]"] = []
     with ThreadPoolExecutor(max(1, jobs)) as pool:
-        futures = [pool.submit(ask, each) for each in given]
         try:
+            futures.extend(pool.submit(ask, each) for each in given)
             return [future.result() for future in futures]
         except BaseException as fault:
             for future in futures:
@@ -147,3 +151,7 @@ def in_parallel(ask: Callable[[Given], Found], given: Iterable[Given], jobs: int
             if not isinstance(fault, Exception):
                 stop()
             raise
+        finally:
+            pool.shutdown()
+            if threading.current_thread() is threading.main_thread():
+                _stopping.clear()
