@@ -7,6 +7,7 @@ mod arguments;
 mod command_cases;
 #[cfg(test)]
 mod command_tests;
+mod laws;
 mod progress;
 mod request;
 mod task;
