@@ -1,6 +1,6 @@
 """One problem asked in full: who wins, which first turns win, why the others fail, and who wins if the other side begins."""
 from dataclasses import replace
-from typing import Dict, List, Optional, Tuple, Union
+from typing import Any, Callable, Dict, List, Optional, Tuple, Union
 
 from .answers import LIVES, REFUSED, Answer, Closing, Turn, Verdict
 from .ko import ko_of
@@ -54,19 +54,21 @@ def _asked(found: Marked, clock: Clock) -> Answer:
     ours: Optional[Strategy] = None
     if result.verdict.is_settled and not result.is_mover_winner:
         # The winner's strategy has an answer to each turn.
-        ours = strategy(problem, Clock(clock.seconds / 5))
+        ours = strategy(problem, clock.part(5))
     asked = _turns_to_ask(result) if result.verdict.is_settled and not ours else []
 
     def ask_rest() -> Tuple[List[Verdict], List[Verdict]]:
         others = [each.with_other_side() for each, word in zip(problems, verdicts) if _is_other_open(each, word)]
-        rest = in_parallel(lambda each: verdict(each, clock), others + [problem.after(turn) for turn in asked])
-        return rest[: len(others)], rest[len(others) :]
+        words = in_parallel(lambda each: verdict(each, clock), others + [problem.after(turn) for turn in asked])
+        return words[: len(others)], words[len(others) :]
 
     def ask_strategy() -> Optional[Strategy]:
         # (it serves the ko test)
-        return strategy(problem, Clock(clock.seconds / 20)) if result.is_mover_winner else ours
+        return strategy(problem, clock.part(20)) if result.is_mover_winner else ours
 
-    (others, after), ours = in_parallel(lambda ask: ask(), [ask_rest, ask_strategy])
+    asks: List[Callable[[], Any]] = [ask_rest, ask_strategy]
+    rest: List[Any] = in_parallel(lambda ask: ask(), asks)
+    (others, after), ours = rest
     each_other = [others.pop(0) if _is_other_open(each, word) else Verdict(word.word) for each, word in zip(problems, verdicts)]
     closings = tuple(Closing(stones, *each) for (stones, _), each in zip(found.ways, zip(problems, verdicts, each_other)))
     result = replace(result, other=each_other[0], closings=closings)

@@ -43,7 +43,7 @@ def ko_of(answer: Answer, ours: Optional[Strategy], clock: Clock) -> Ko:
     winner's strategy, if it was found. It takes a twentieth of the clock's seconds at most."""
     problem = answer.problem
     assert problem
-    clock = Clock(min(clock.left(), clock.seconds / 20))
+    clock = clock.part(20)
     leaning = leaning_on_repetition(problem, ours) if ours else None
     if leaning is not None:
         found = in_parallel(lambda each: verdict(each, clock), leaning)
@@ -55,8 +55,12 @@ def ko_of(answer: Answer, ours: Optional[Strategy], clock: Clock) -> Ko:
     taking = _TakingBack(clock)
     # (a defender that can do nothing passes, and the attacker begins)
     begins = [problem] if problem.to_move == problem.attacker else [problem, problem.after(PASS)]
-    after = next(filter(None, (taking.living(each, depth) for depth in range(1, DEEPEST + 1) for each in begins)), [])
-    return Ko(True, 1, tuple(after)) if after else threats
+    for depth in range(1, DEEPEST + 1):
+        for each in begins:
+            after = taking.living(each, depth)
+            if after:
+                return Ko(True, 1, tuple(after))
+    return threats
 
 
 def _with_threats(problem: Problem, verdict_without: Verdict, clock: Clock) -> Ko:

@@ -28,6 +28,10 @@ class Clock:
     def left(self) -> float:
         return max(0.0, self.seconds - self.spent())
 
+    def part(self, share: int) -> "Clock":
+        """A clock for a part of these seconds, or for what is left of them."""
+        return Clock(min(self.left(), self.seconds / share))
+
 
 def verdict(problem: Problem, clock: Clock) -> Verdict:
     """Who wins a problem. df-pn may visit some positions, and then as many as the clock allows."""
