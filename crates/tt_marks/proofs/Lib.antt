@@ -1,0 +1,3 @@
+mod ReachedLemmas
+mod SetLemmas
+mod WallLemmas
