@@ -1,3 +1,4 @@
+mod ClosingLemmas
 mod ReachedLemmas
 mod SetLemmas
 mod WallLemmas

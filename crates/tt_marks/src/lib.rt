@@ -5,12 +5,20 @@
 //! | `filling` | what is reached over adjacent points, in words |
 //! | `walls` | the group of a stone, the whole wall around it, what is within |
 //! | `regions` | the region within a wall, whether it is closed, and inner |
+//! | `ways` | the ways that lead from a group to what is far |
+//! | `gaps` | the stones that close a wall, the best first |
+//! | `proposals` | the group that is meant where nobody names one |
 //! | `laws` | no path that avoids the wall leads out |
 #![tactic(auto)]
 
 mod filling;
+mod gaps;
 pub mod laws;
+mod proposals;
 mod regions;
 mod walls;
+mod ways;
 
+pub use gaps::{Closing, MOST_STONES, closings};
+pub use proposals::proposed_stone;
 pub use regions::{MOST_ENCLOSED_POINTS, WalledRegion, group, is_inner, region};
