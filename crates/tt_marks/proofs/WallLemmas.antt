@@ -190,7 +190,7 @@ outside_more s c k IsInside IsLess fewer = reached_wider s (HasStone s c k) (IsB
     (λ r in_r f. f) (λ r in_r h. (h.0, (h.1.0, h.1.1, h.1.2, λ l. h.1.3 (fewer h.1.0 h.1.1.0 l))))
 
 -- what has a liberty outside is a stone
-stone_of_liberty : (s : Size) (c : Colouring) (k : Colour) (IsInside : ℕ → Type 0) (p : ℕ) → HasLibertyOutside s c k IsInside p → HasStone s c k p
+pub stone_of_liberty : (s : Size) (c : Colouring) (k : Colour) (IsInside : ℕ → Type 0) (p : ℕ) → HasLibertyOutside s c k IsInside p → HasStone s c k p
 stone_of_liberty s c k IsInside p (first _ in_p h) = h.0
 stone_of_liberty s c k IsInside p (next _ r in_p h near l) = h
 
@@ -279,3 +279,22 @@ module _ (s : Size) (c : Colouring) (k : Colour) (q : ℕ) (wall other_wall : Po
     λ h. let two = (r p in_p).0 (sym (too p in_p) ∙ h) in (same_within p two.0, two.1),
     λ h. too p in_p ∙ (r p in_p).1 (back_within p h.0, h.1),
   )
+
+-- ---- stones in danger
+
+-- the stones without those that have a liberty outside
+pub danger_is : (s : Size) (c : Colouring) (k : Colour) (IsInside : ℕ → Type 0) (stones inside safe made : List ℕ) → AreBitsOf stones (point_count s) (λ p. is_stone_of (entry_at c p) k)
+    → ((p : ℕ) → p < point_count s → Has (bit_in safe) p ↔ HasLibertyOutside s c k (Has (bit_in inside)) p)
+    → ((p : ℕ) → p < point_count s → Has (bit_in inside) p ↔ IsInside p)
+    → ((p : ℕ) → p < BITS → bit_in made p ≡ (bit_in stones p && not (bit_in safe p)))
+    → (p : ℕ) → p < point_count s → Has (bit_in made) p ↔ (HasStone s c k p × (HasLibertyOutside s c k IsInside p → ⊥))
+danger_is s c k IsInside stones inside safe made b safe_are inside_are made_is p in_p = (
+  λ h.
+      let two = both_of (bit_in stones p) (bit_in safe p) (sym (made_is p (small s p in_p)) ∙ h) in (
+        sym (b.below p in_p (small s p in_p)) ∙ two.0,
+        λ l. two.1 ((safe_are p in_p).1 (outside_more s c k IsInside (Has (bit_in inside)) (λ e in_e i. (inside_are e in_e).0 i) p l)),
+      ),
+  λ h.
+      made_is p (small s p in_p) ∙ of_both (bit_in stones p) (bit_in safe p) (b.below p in_p (small s p in_p) ∙ h.0)
+      (λ on. h.1 (outside_more s c k (Has (bit_in inside)) IsInside (λ e in_e i. (inside_are e in_e).1 i) p ((safe_are p in_p).0 on))),
+)

@@ -7,10 +7,12 @@
 //! | `regions` | the region within a wall, whether it is closed, and inner |
 //! | `ways` | the ways that lead from a group to what is far |
 //! | `gaps` | the stones that close a wall, the best first |
+//! | `danger` | the stones of a wall that plays in a region may take |
 //! | `proposals` | the group that is meant where nobody names one |
-//! | `laws` | no path that avoids the wall leads out |
+//! | `laws` | no path that avoids the wall leads out, and plays within take none of its stones |
 #![tactic(auto)]
 
+mod danger;
 mod filling;
 mod gaps;
 pub mod laws;
@@ -19,6 +21,7 @@ mod regions;
 mod walls;
 mod ways;
 
+pub use danger::stones_in_danger;
 pub use gaps::{Closing, MOST_STONES, closings};
 pub use proposals::proposed_stone;
 pub use regions::{MOST_ENCLOSED_POINTS, WalledRegion, group, is_inner, region};
