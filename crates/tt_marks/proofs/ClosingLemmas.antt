@@ -1,6 +1,6 @@
 -- Stones that close a wall.
 use Rattle.std.proofs.Common.{◌≡◌, ℕ, ◌&&◌, not, Option, Some, None, true, false, inl, inr, refl, sym, ap, subst, ◌∙◌}
-use Rattle.std.proofs.lemmas.Bool.{and_from, cases_Bool, not_from_false, true≢false, false≢true}
+use Rattle.std.proofs.lemmas.Bool.{and_from, and_parts, cases_Bool, not_from_false, true≢false, false≢true}
 use Rattle.std.specs.Cmp.{nat_cmp_total}
 use Rattle.std.specs.Ordering.{nat_cmp}
 use Rattle.std.specs.FinSet as set
@@ -48,3 +48,11 @@ closing_is s c k j q stones wall region b same on_empty made whole within closed
   closed = closed;
   inner = subst (λ x. IsInner s (with_stones s c x stones) region) same (subst (λ n. IsInner n.size n.points region) made.0 inner);
 }
+
+-- points among the empty ones
+pub among_empty : (s : Size) (c : Colouring) (points made : PointNumberSet) → made ≡ set.intersection points (empty_set s c) → AreEmptyPoints s c made
+among_empty s c points made is p h =
+    let e = empty_set s c in
+    let both = and_parts (set.contains points p) (set.contains e p) (sym (set.contains-intersection nat_cmp_total points e p) ∙ ap (λ x. set.contains x p) (sym is) ∙ h) in
+    let lt = passing_below (λ q. is_empty (entry_at c q)) (point_count s) p both.1 in
+    (lt, empty_entry (entry_at c p) (sym (has_passing (λ q. is_empty (entry_at c q)) (point_count s) p lt) ∙ both.1))

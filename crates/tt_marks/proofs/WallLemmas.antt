@@ -298,3 +298,19 @@ danger_is s c k IsInside stones inside safe made b safe_are inside_are made_is p
       made_is p (small s p in_p) ∙ of_both (bit_in stones p) (bit_in safe p) (b.below p in_p (small s p in_p) ∙ h.0)
       (λ on. h.1 (outside_more s c k (Has (bit_in inside)) IsInside (λ e in_e i. (inside_are e in_e).1 i) p ((safe_are p in_p).0 on))),
 )
+
+-- of the stones around, those without the ones that have a liberty outside
+pub danger_around : (s : Size) (c : Colouring) (k : Colour) (q : ℕ) (stones inside near around safe made : List ℕ)
+    → AreBitsOf stones (point_count s) (λ p. is_stone_of (entry_at c p) k)
+    → ((p : ℕ) → p < point_count s → Has (bit_in inside) p ↔ IsWithin s q (bit_in stones) p)
+    → ((p : ℕ) → p < point_count s → Has (bit_in safe) p ↔ HasLibertyOutside s c k (Has (bit_in inside)) p)
+    → ((p : ℕ) → p < BITS → bit_in around p ≡ (bit_in near p && bit_in stones p)) → ((p : ℕ) → p < BITS → bit_in made p ≡ (bit_in around p && not (bit_in safe p)))
+    → (p : ℕ) → p < point_count s → Has (bit_in made) p
+    → HasStone s c k p × (HasLibertyOutside s c k (IsWithin s q (λ r. is_stone_of (entry_at c r) k)) p → ⊥)
+danger_around s c k q stones inside near around safe made b inside_are safe_are around_is made_is p in_p h =
+    let two = both_of (bit_in around p) (bit_in safe p) (sym (made_is p (small s p in_p)) ∙ h) in
+    let stone = (and_parts (bit_in near p) (bit_in stones p) (sym (around_is p (small s p in_p)) ∙ two.0)).1 in (
+      sym (b.below p in_p (small s p in_p)) ∙ stone,
+      λ l. two.1 ((safe_are p in_p).1 (outside_more s c k (IsWithin s q (λ r. is_stone_of (entry_at c r) k)) (Has (bit_in inside))
+          (λ e in_e i. within_fewer s q (λ r. is_stone_of (entry_at c r) k) (bit_in stones) (λ r in_r on. b.below r in_r (small s r in_r) ∙ on) e ((inside_are e in_e).0 i)) p l)),
+    )

@@ -21,7 +21,8 @@ mod regions;
 mod walls;
 mod ways;
 
-pub use danger::stones_in_danger;
+pub use danger::{stones_in_danger, wall_in_danger};
 pub use gaps::{Closing, MOST_STONES, closings};
 pub use proposals::proposed_stone;
 pub use regions::{MOST_ENCLOSED_POINTS, WalledRegion, group, is_inner, region};
+pub use ways::ways_out;

@@ -2,12 +2,13 @@
 
 ghost use Rattle.std.specs.Prelude.{◌<◌};
 ghost use Rattle.tt_sgf.specs.Sizes.{point_count};
-ghost use Rattle.tt_sgf.specs.declared.bits.TheConstants.{BITS};
+ghost use Rattle.tt_marks.specs.Closings.{AreEmptyPoints};
 
 use crate::filling::{beside, reached};
+use crate::regions::{empties, set_of};
 use crate::walls::{empty_points, group_bits};
 use tt_board::{Board, Colour};
-use tt_sgf::{BITS, Bits, Point, Size};
+use tt_sgf::{BITS, Bits, Point, PointSet, Size};
 
 /// What a wall shuts out is more than so many steps away. Steps are counted over empty points.
 const NEAR_STEPS: usize = 7;
@@ -41,6 +42,17 @@ pub(crate) fn neighbours(size: Size, points: &Bits) -> Bits {
 fn flood(size: Size, free: &Bits, first: &Bits) -> Bits {
     let count = size.point_count();
     reached(size, &free.truncated_to(count), &first.truncated_to(count))
+}
+
+/// The empty points beside the group of a stone of this colour from which a way leads to what is far.
+pub fn ways_out(board: &Board, colour: Colour, stone: Point) -> PointSet
+    requires { stone < point_count board.now.size }
+    ensures { AreEmptyPoints board.now.size board.now.points result }
+{
+    let ways = Ways::of(board, colour, stone);
+    let leading = flood(ways.size, &ways.free, &ways.far);
+    let out = neighbours(ways.size, &ways.group).and(&leading);
+    set_of(board.size(), &out).and(&empties(board))
 }
 
 /// How many points of the board a set has.
