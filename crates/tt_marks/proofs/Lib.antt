@@ -1,0 +1,5 @@
+mod ClosingLemmas
+mod ReachedLemmas
+mod SetLemmas
+mod StandLemmas
+mod WallLemmas

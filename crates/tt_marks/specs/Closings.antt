@@ -1,0 +1,38 @@
+-- Stones that close the wall around a group.
+use Rattle.std.specs.Prelude.{◌≡◌, ℕ, ◌<◌, List, None, All, true}
+use Rattle.std.specs.FinSet as set
+use Rattle.tt_sgf.specs.declared.size.Size.{Size}
+use Rattle.tt_sgf.specs.Sizes.{point_count}
+use Rattle.tt_board.specs.declared.Colour.{Colour}
+use Rattle.tt_board.specs.declared.Colour.TheVariants.{Black, White}
+use Rattle.tt_board.specs.Play.{other}
+use Rattle.tt_board.specs.Position.{Colouring}
+use Rattle.tt_board.specs.Reach.{entry_at}
+use Rattle.tt_board.specs.Setup.{AllHaveLiberties, placed}
+use Rattle.tt_board.specs.Stones.{PointNumberSet}
+use Rattle.tt_marks.specs.declared.gaps.Closing.{Closing}
+use Rattle.tt_marks.specs.Walls.{IsClosed, IsInner, IsRegion, IsWholeWall}
+
+-- the colouring with stones of colour k added on these points
+abbrev pub with_stones : Size → Colouring → Colour → PointNumberSet → Colouring
+with_stones s c Black stones = placed s c stones set.empty set.empty
+with_stones s c White stones = placed s c set.empty stones set.empty
+
+-- all points of the set are empty points of the board
+abbrev pub AreEmptyPoints : Size → Colouring → PointNumberSet → Type 0
+AreEmptyPoints s c points = (p : ℕ) → set.contains points p ≡ true → (p < point_count s) × (entry_at c p ≡ None)
+
+-- Stones of the other colour on these empty points close the wall around the group of the stone of colour k on q: then each stone has
+-- a liberty, and the region of the group is this one, closed and inner
+pub record IsClosing (s : Size) (c : Colouring) (k : Colour) (q : ℕ) (stones region : PointNumberSet) : Type 0 where
+  pub on_empty : AreEmptyPoints s c stones
+  pub alive : AllHaveLiberties s (with_stones s c (other k) stones)
+  pub wall : PointNumberSet
+  pub whole : IsWholeWall s (with_stones s c (other k) stones) k q (set.contains wall)
+  pub within : IsRegion s (with_stones s c (other k) stones) k q (set.contains wall) (set.contains region)
+  pub closed : IsClosed wall region
+  pub inner : IsInner s (with_stones s c (other k) stones) region
+
+-- all of these close it
+abbrev pub AreClosings : Size → Colouring → Colour → ℕ → List Closing → Type 0
+AreClosings s c k q = All (λ m. IsClosing s c k q m.stones m.region)

@@ -1,0 +1,4 @@
+-- What public contracts cite.
+pub mod Reached
+pub mod Walls
+pub mod Closings

@@ -1,0 +1,28 @@
+//! Marks for a position that has none: the group of a stone, the wall around it, and the region within.
+//!
+//! | Module | What it has |
+//! |---|---|
+//! | `filling` | what is reached over adjacent points, in words |
+//! | `walls` | the group of a stone, the whole wall around it, what is within |
+//! | `regions` | the region within a wall, whether it is closed, and inner |
+//! | `ways` | the ways that lead from a group to what is far |
+//! | `gaps` | the stones that close a wall, the best first |
+//! | `danger` | the stones of a wall that plays in a region may take |
+//! | `proposals` | the group that is meant where nobody names one |
+//! | `laws` | no path that avoids the wall leads out, and plays within take none of its stones |
+#![tactic(auto)]
+
+mod danger;
+mod filling;
+mod gaps;
+pub mod laws;
+mod proposals;
+mod regions;
+mod walls;
+mod ways;
+
+pub use danger::{stones_in_danger, wall_in_danger};
+pub use gaps::{Closing, MOST_STONES, closings};
+pub use proposals::proposed_stone;
+pub use regions::{MOST_ENCLOSED_POINTS, WalledRegion, group, is_inner, region};
+pub use ways::ways_out;

@@ -1,0 +1,160 @@
+//! The group that is meant where nobody names one.
+
+ghost use Rattle.std.specs.Prelude.{ℕ, ◌<◌, ◌≤◌, ◌≢◌, None, IfSome, IfOk};
+ghost use Rattle.tt_sgf.specs.Sizes.{point_count};
+ghost use Rattle.tt_board.specs.Reach.{entry_at};
+
+use crate::gaps::{MOST_STONES, closings_by};
+use crate::regions::{is_inner, point_numbered, region, set_of};
+use crate::walls::group_bits;
+use crate::ways::Ways;
+use std::alloc::Global;
+use tt_board::{Board, Colour};
+use tt_sgf::{NoMemory, Point, PointSet};
+
+/// A stone of a group that may be meant, and the group's region, once its wall is closed.
+#[derive(Drop)]
+struct Candidate {
+    stone: Point,
+    region: PointSet,
+}
+
+/// The better one of two: one whose region has the other's stone in it, and not the other way round, then one with fewer points, then the
+/// first.
+fn better(first: Option<Candidate>, second: Option<Candidate>) -> Option<Candidate>
+    ensures { (n : ℕ) → IfSome first (λ m. m.stone < n) → IfSome second (λ m. m.stone < n) → IfSome result (λ m. m.stone < n) }
+{
+    let Some(b) = second else {
+        return first;
+    };
+    let Some(a) = first else {
+        return Some(b);
+    };
+    let b_is_within = a.region.has(b.stone);
+    let a_is_within = b.region.has(a.stone);
+    if b_is_within && !a_is_within {
+        return Some(a);
+    }
+    if a_is_within && !b_is_within {
+        return Some(b);
+    }
+    if b.region.count() < a.region.count() {
+        return Some(b);
+    }
+    Some(a)
+}
+
+/// Whether a stone is the only one of its colour in its group and the region: then it's a stone of a wall, or a stone thrown in.
+fn is_lone(board: &Board, colour: Colour, stone: Point, region: &PointSet) -> bool
+    requires { stone < point_count board.now.size }
+{
+    let size = board.size();
+    let group = set_of(size, &group_bits(board, colour, stone));
+    let stones = set_of(size, board.bits(colour));
+    group.or(&region.and(&stones)).count() < 2
+}
+
+/// The colour of the stone on a point, where it is the first of its group.
+fn colour_if_first(board: &Board, stone: Point) -> Option<Colour>
+    requires { stone < point_count board.now.size }
+    ensures { IfSome result (λ k. entry_at board.now.points stone ≢ None) }
+{
+    let colour = board.at(stone)?;
+    if group_bits(board, colour, stone).first_from(0) < usize::from(stone.number()) {
+        return None;
+    }
+    Some(colour)
+}
+
+/// The group of a stone of this colour, where its region is closed and inner.
+fn closed_candidate(board: &Board, colour: Colour, stone: Point) -> Option<Candidate>
+    requires { stone < point_count board.now.size }
+    ensures { IfSome result (λ m. m.stone < point_count board.now.size) }
+{
+    let found = region(board, colour, stone);
+    if !found.is_closed() || !is_inner(board, &found.points) {
+        return None;
+    }
+    if is_lone(board, colour, stone, &found.points) {
+        return None;
+    }
+    Some(Candidate {
+        stone,
+        region: found.points,
+    })
+}
+
+/// The group of a stone of this colour, where so many stones close its wall, and fewer don't.
+fn open_candidate(
+    alloc: Global,
+    board: &Board,
+    colour: Colour,
+    stone: Point,
+    stones: usize,
+) -> Result<Option<Candidate>, NoMemory>
+    requires stone { stone < point_count board.now.size }
+    requires stones { stones ≤ MOST_STONES }
+    ensures { IfOk result (λ found. IfSome found (λ m. m.stone < point_count board.now.size)) }
+{
+    let ways = Ways::of(board, colour, stone);
+    if stones < ways.separate(stones + 1) {
+        return Ok(None);
+    }
+    let found = closings_by(alloc, board, colour, stone, &ways, stones)?;
+    if found.is_empty() {
+        return Ok(None);
+    }
+    let region = found[0].region.copy();
+    if is_lone(board, colour, stone, &region) {
+        return Ok(None);
+    }
+    Ok(Some(Candidate { stone, region }))
+}
+
+/// The best of the groups whose regions are closed and inner.
+fn best_closed(board: &Board) -> Option<Candidate>
+    ensures { IfSome result (λ m. m.stone < point_count board.now.size) }
+{
+    let size = board.size();
+    let mut best = None;
+    for number in 0..size.point_count() {
+        let stone = point_numbered(size, number);
+        if let Some(colour) = colour_if_first(board, stone) {
+            best = better(best, closed_candidate(board, colour, stone));
+        }
+    }
+    best
+}
+
+/// The best of the groups whose walls so many stones close.
+fn best_open(alloc: Global, board: &Board, stones: usize) -> Result<Option<Candidate>, NoMemory>
+    requires { stones ≤ MOST_STONES }
+    ensures { IfOk result (λ found. IfSome found (λ m. m.stone < point_count board.now.size)) }
+{
+    let size = board.size();
+    let mut best = None;
+    for number in 0..size.point_count() {
+        let stone = point_numbered(size, number);
+        if let Some(colour) = colour_if_first(board, stone) {
+            let next = open_candidate(alloc, board, colour, stone, stones)?;
+            best = better(best, next);
+        }
+    }
+    Ok(best)
+}
+
+/// The first stone of the group that seems to be meant: of those with a closed region, then of those whose walls the fewest stones close,
+/// the one with the smallest region, and of groups in each other's region the outer one. A lone stone is never taken for a group.
+pub fn proposed_stone(alloc: Global, board: &Board) -> Result<Option<Point>, NoMemory>
+    ensures { IfOk result (λ found. IfSome found (λ p. p < point_count board.now.size)) }
+{
+    if let Some(found) = best_closed(board) {
+        return Ok(Some(found.stone));
+    }
+    for stones in 1..=MOST_STONES {
+        if let Some(found) = best_open(alloc, board, stones)? {
+            return Ok(Some(found.stone));
+        }
+    }
+    Ok(None)
+}

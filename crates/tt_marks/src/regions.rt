@@ -1,0 +1,106 @@
+//! The region of a group: what is within its wall.
+
+ghost use Rattle.std.specs.Prelude.{◌≡◌, ℕ, ◌<◌, ◌≤◌, ◌↔◌, IsTrue};
+ghost use Rattle.std.specs.FinSet as set;
+ghost use Rattle.tt_sgf.specs.Points.{passing};
+ghost use Rattle.tt_sgf.specs.Sizes.{point_count};
+ghost use Rattle.tt_sgf.specs.MachineWords.{bit_in};
+ghost use Rattle.tt_board.specs.Around.{AreOn};
+ghost use Rattle.tt_board.specs.Stones.{IsSetOnBoard};
+ghost use Rattle.tt_marks.specs.Reached.{Has};
+ghost use Rattle.tt_marks.specs.Walls.{IsClosed, IsInner, IsOfGroup, IsRegion, IsWholeWall, empty_set};
+
+use crate::walls::{empty_points, group_bits, wall_bits, within};
+use tt_board::{Board, Colour};
+use tt_sgf::{Bits, Point, PointSet, Size};
+
+/// The most points of a region that is closed: with more of them no search comes to an end.
+pub const MOST_ENCLOSED_POINTS: u16 = 40;
+
+/// The point of this number.
+pub(crate) fn point_numbered(size: Size, number: usize) -> Point
+    requires { number < point_count size }
+    ensures { result ≡ number }
+{
+    let Some(point) = size.point(number as u16) else {
+        unreachable!();
+    };
+    point
+}
+
+/// The points of a board that are kept as bits, as a set.
+#[tactic(auto, using(crate::proofs::SetLemmas::passing_none, crate::proofs::SetLemmas::passing_more, crate::proofs::SetLemmas::passing_same))]
+pub(crate) fn set_of(size: Size, bits: &Bits) -> PointSet
+    ensures { result ≡ passing (bit_in bits.now.words) (point_count size) }
+{
+    let mut made = PointSet::empty();
+    for number in 0..size.point_count() {
+        if bits.has(number) {
+            made = made.with(point_numbered(size, number));
+        }
+    }
+    made
+}
+
+/// The group of a stone of this colour: its chain.
+pub fn group(board: &Board, colour: Colour, stone: Point) -> PointSet
+    requires { stone < point_count board.now.size }
+    ensures those { (p : ℕ) → p < point_count board.now.size
+        → Has (set.contains result) p ↔ IsOfGroup board.now.size board.now.points colour stone p }
+    ensures on_board { IsSetOnBoard board.now.size result }
+{
+    set_of(board.size(), &group_bits(board, colour, stone))
+}
+
+/// A wall, and the region within.
+#[derive(Drop)]
+pub struct WalledRegion {
+    /// The stones of the wall: of the other colour, and plays within them take none.
+    pub wall: PointSet,
+    /// The points within but those of the group.
+    pub points: PointSet,
+}
+
+/// The region of the group of a stone of this colour, with its whole wall. Where plays can take each stone around it the wall has none,
+/// and all of the board is within.
+pub fn region(board: &Board, colour: Colour, stone: Point) -> WalledRegion
+    requires { stone < point_count board.now.size }
+    ensures wall { IsWholeWall board.now.size board.now.points colour stone (set.contains result.wall) }
+    ensures points { IsRegion board.now.size board.now.points colour stone (set.contains result.wall) (set.contains result.points) }
+    ensures wall_on_board { IsSetOnBoard board.now.size result.wall }
+    ensures on_board { IsSetOnBoard board.now.size result.points }
+{
+    let size = board.size();
+    let wall = wall_bits(board, colour, stone);
+    let inside = within(size, &wall, stone);
+    let points = inside.minus(&group_bits(board, colour, stone));
+    WalledRegion {
+        wall: set_of(size, &wall),
+        points: set_of(size, &points),
+    }
+}
+
+impl WalledRegion {
+    /// Whether it is closed: its wall has a stone, and it has 2 to `MOST_ENCLOSED_POINTS` points.
+    pub fn is_closed(&self) -> bool
+        ensures { IsTrue result ↔ IsClosed self.now.wall self.now.points }
+    {
+        let count = self.points.count();
+        0 < self.wall.count() && 1 < count && count <= MOST_ENCLOSED_POINTS
+    }
+}
+
+/// The empty points as a set.
+pub(crate) fn empties(board: &Board) -> PointSet
+    ensures { result ≡ empty_set board.now.size board.now.points }
+{
+    set_of(board.size(), &empty_points(board))
+}
+
+/// Whether no more empty points are in a region than outside: else the group seems to be the wall of what stands outside.
+pub fn is_inner(board: &Board, points: &PointSet) -> bool
+    ensures { IsTrue result ↔ IsInner board.now.size board.now.points points.now }
+{
+    let all = empties(board);
+    points.and(&all).count() <= all.minus(points).count()
+}
