@@ -8,7 +8,7 @@ import re
 from dataclasses import dataclass, replace
 from typing import Dict, Iterator, List, Optional, Tuple
 
-from .answers import KILLED, LIVES, REFUSED, Answer, Verdict
+from .answers import LIVES, REFUSED, Answer, Verdict
 from .board import NAMES
 from .points import PASS
 from .problems import MOVES, SETUP, Problem, asked_at, turn_of
