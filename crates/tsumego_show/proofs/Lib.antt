@@ -1,3 +1,4 @@
 pub mod Limit
+pub mod OneStatus
 pub mod Sets
 pub mod TreeByTree

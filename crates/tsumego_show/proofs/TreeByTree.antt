@@ -6,7 +6,7 @@ use Rattle.std.proofs.lemmas.List.{take_all, length-drop}
 use Rattle.tt_sgf.specs.declared.nodes.Node.{Node}
 use Rattle.tt_sgf.specs.Grammar.{GameTree, HasNoTree, FirstTreeEndsAt, main_line, HasOpeningParenthesis}
 use Rattle.tt_game.specs.Problems.{problem_of}
-use Rattle.tsumego_show.specs.Shown.{HasStatus, IsInputRefused, IsTreeRefused, IsRestRefused, ended, stopped}
+use Rattle.tsumego_show.specs.Shown.{HasStatus, IsTreeRefused, IsRestRefused, ended, stopped}
 use Rattle.tsumego_show.specs.Shown.{too_long, tree, trees}
 
 -- the brackets of an `or` of three

@@ -1,6 +1,6 @@
 -- Which trees of an input are refused, and the exit status. Pictures, diagrams, variations, marks and words are tested, and nothing is
 -- said of them here.
-use Rattle.std.specs.Prelude.{◌≡◌, ◌⊎◌, ◌↔◌, ◌+◌, ◌<◌, ◌≤◌, ℕ, Bool, IsTrue, true, false, ◌||◌, List, length, drop, Ok, Err, if◌then◌else◌}
+use Rattle.std.specs.Prelude.{◌≡◌, ◌⊎◌, ◌↔◌, ◌+◌, ◌<◌, ◌≤◌, ℕ, Bool, IsTrue, true, false, ◌||◌, List, Option, length, drop, Ok, Err, if◌then◌else◌}
 use Rattle.std.specs.declared.result.Result.{Result}
 use Rattle.tt_sgf.specs.declared.trees.TheConstants.{MAX_BYTES}
 use Rattle.tt_sgf.specs.Grammar.{GameTree, HasNoTree, HasOpeningParenthesis, FirstTreeEndsAt, main_line}
@@ -9,6 +9,7 @@ use Rattle.tt_game.specs.Line.{LineWithUndo}
 use Rattle.tt_game.specs.Problems.{problem_of}
 use Rattle.tsumego_show.specs.declared.mode.Mode.{Mode}
 use Rattle.tsumego_show.specs.declared.mode.Mode.TheVariants.{Picture, Diagram, Marks, Variations}
+use Rattle.tsumego_show.specs.declared.mode.PointName.{PointName}
 
 -- an input is one problem, where this is its first tree and none may follow
 abbrev pub IsOnlyTree : ℕ → List ℕ → Type 0
@@ -42,3 +43,11 @@ pub data IsInputRefused (mode : Mode) (input : List ℕ) : Bool → Type 0 where
 -- the exit status for an input: 1 where something is refused
 abbrev pub HasStatus : Mode → List ℕ → ℕ → Type 0
 HasStatus mode input status = (refused : Bool) × IsInputRefused mode input refused × (status ≡ (if refused then 1 else 0))
+
+-- the mode isn't that of marks
+abbrev pub WantsNoMarks : Mode → Type 0
+WantsNoMarks mode = (name : Option PointName) → mode ≡ Marks name → ⊥
+
+-- an input has one status then
+abbrev pub InputHasOneStatus : Type 0
+InputHasOneStatus = (mode : Mode) (input : List ℕ) (m n : ℕ) → WantsNoMarks mode → HasStatus mode input m → HasStatus mode input n → m ≡ n

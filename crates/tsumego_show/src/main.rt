@@ -7,6 +7,7 @@ mod depths;
 mod diagram;
 mod endings;
 mod hints;
+mod laws;
 mod mark_proposals;
 mod marking;
 mod mode;
