@@ -83,14 +83,14 @@ def test_a_further_run_asks_only_what_is_new(book: Path, tmp_path: Path) -> None
 
 def test_changes_are_told(tmp_path: Path) -> None:
     path, out = tmp_path / "book.sgf", str(tmp_path / "out")
-    one, two = problem("centre_straight_three_B", "one", ""), problem("centre_straight_three_W", "two", "")
+    marks = next(row[2] for row in data.SHAPES if row[0] == "centre_straight_three_B")
+    one, two = problem("centre_straight_three_B", "one", "").replace("PL[", f"{marks}PL[", 1), problem("centre_straight_three_W", "two", "")
     path.write_text(one + two)
     assert len(run(out, str(path)).stdout.splitlines()) == 1
-    # A stone on the vital point, and another problem in front.
-    path.write_text(problem("centre_two_B", "new", "") + one.replace("AB[", f"AW[{THREE}]AB[", 1))
+    # White has a stone on the vital point, another problem stands in front, and the last one is gone.
+    path.write_text(problem("centre_two_W", "new", "") + one.replace("AB[", f"AW[{THREE}]AB[", 1))
     told = run(out, str(path)).stdout.splitlines()
-    # (two is dead as it stands, whoever begins)
-    assert told[1:4] == [f"new: {path}: new: killed by D9, E9, F9, G9, pass", f"changed: {path}: one: killed by F9 -> lives", f"gone: {path}: two: lives by F9"]
+    assert told[-4:-1] == [f"new: {path}: new: killed", f"changed: {path}: one: killed by F9 -> lives", f"gone: {path}: two: lives by F9"]
 
 
 def test_certificates_are_checked(book: Path, tmp_path: Path) -> None:

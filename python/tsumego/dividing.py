@@ -39,6 +39,10 @@ Path = Tuple[str, ...]
 Found = Tuple[str, str]
 
 
+def named(path: Path) -> str:
+    return ".".join("--" if turn == PASS else turn for turn in path)
+
+
 class Division:
     """What is known of the problem after each path."""
 
@@ -54,7 +58,7 @@ class Division:
         return problem
 
     def file(self, path: Path) -> str:
-        return os.path.join(self.folder, "answers", ".".join("--" if turn == PASS else turn for turn in path))
+        return os.path.join(self.folder, "answers", named(path))
 
     def found(self, path: Path) -> Optional[Found]:
         """Who wins after the path, and by which tree; None where that isn't known."""
@@ -118,7 +122,7 @@ class Division:
                 lines = [] if is_won else run("tsumego", ["solve", "--cert", "--parts", *self.options], write_bytes(self.at(path).text()), limit).text.splitlines(True)
             except ProgramError as fault:
                 if not is_won:
-                    print(f"{'.'.join(path)}: {fault}", file=sys.stderr)
+                    print(f"{named(path)}: {fault}", file=sys.stderr)
                 return
             if lines and re.match("1 (killed|lives|unsettled)", lines[0]):
                 with open(self.file(path) + ".new", "w", encoding="ascii") as out:
@@ -199,13 +203,13 @@ def tell(division: Division) -> int:
     """Writes what was found, and returns the status."""
     for turn in division.problem.legal_turns():
         known = division.found((turn,))
-        print(f"{'--' if turn == PASS else turn} {known[0] if known else 'unsettled'}", file=sys.stderr)
+        print(f"{named((turn,))} {known[0] if known else 'unsettled'}", file=sys.stderr)
     found = division.found(())
     for path, said in sorted(division.lies.items()):
         os.remove(division.file(path))
-        print(f"not believed: {'.'.join(path)}: its certificate is {said}; it is asked for again next time", file=sys.stderr)
+        print(f"not believed: {named(path)}: its certificate is {said}; it is asked for again next time", file=sys.stderr)
     if not found:
-        print(f"left: {' '.join('.'.join(path) for path in division.left((), division.levels))}", file=sys.stderr)
+        print(f"left: {' '.join(map(named, division.left((), division.levels)))}", file=sys.stderr)
         print("1 unsettled")
         return 1
     word, tree = found
