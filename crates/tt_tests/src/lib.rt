@@ -7,6 +7,7 @@
 //! | `board_tests`, `chain_tests`, `trail_tests`, `board_tables` | `tt_board`: boards and moves, counted chains, trails, and tables of these |
 //! | `plain_board` | a board by the rules alone, which `chain_tests` holds boards against |
 //! | `record_tests` | `tt_game`: records and games |
+//! | `fault_tests` | `tt_game`: where main lines are refused |
 //! | `problem_tests`, `turn_tests`, `turn_tables` | `tt_game`: problems, their turns, and tables of these |
 //! | `life_tests` | `tt_life`: unconditional life |
 //! | `proof_tests` | `tt_proof`: certificates and proofs |
@@ -30,6 +31,8 @@ mod chain_tests;
 mod dfpn_tests;
 #[cfg(test)]
 mod drawings;
+#[cfg(test)]
+mod fault_tests;
 #[cfg(test)]
 mod footprint_tables;
 #[cfg(test)]

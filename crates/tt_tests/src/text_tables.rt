@@ -75,6 +75,39 @@ bad|(;SQ[aa][])~\
 bad|(;SQ[aa:ab])~\
 ";
 
+/// Where a problem is refused: the number, the node, the value that can't be read, the point at fault.
+pub(crate) const FAULTS: &str = "\
+10 1 - -|(;GM[3]SZ[0];B[zz])~\
+11 1 - -|(;GM[1]SZ[20]TR[zz])~\
+12 2 AB[dd] -|(;SZ[3];AB[aa][bb][dd][ee]AW[zz])~\
+12 1 AW[bd] -|(;SZ[3]AB[aa]AW[bb:cc]AW[ac][bd]AE[zz]PL[X])~\
+12 1 AE[dd] -|(;SZ[3]AW[aa]AE[bb]AE[dd])~\
+12 1 PL[red] -|(;SZ[3]AW[aa]PL[red][B];B[zz])~\
+12 1 PL[] -|(;SZ[3]AW[aa][bb]AB[bb]PL[])~\
+12 2 B[a] -|(;SZ[3];B[a];B[zz])~\
+12 3 W[cd] -|(;SZ[3];B[aa];C[x]W[cd]TR[zz])~\
+12 1 TR[tt] -|(;SZ[3]AW[aa]TR[aa][tt]SQ[zz])~\
+12 2 SQ[] -|(;SZ[3]AW[aa];PL[W]TR[aa]SQ[bb][])~\
+13 1 - bb|(;SZ[3]AB[aa]AB[bb]AW[cc]AW[bb])~\
+13 2 - ba|(;SZ[3];AB[aa:cc]AW[bb]AE[ba];B[zz])~\
+13 1 - ca|(;SZ[3]AW[ca][ab]AE[ab][ca])~\
+14 2 - -|(;SZ[3];AB[aa]B[zz])~\
+14 3 - -|(;SZ[3];B[aa];W[bb]B[zz])~\
+14 2 - -|(;SZ[3];B[aa][bb])~\
+15 1 - aa|(;SZ[3]AB[aa][ba]AW[ca][ab][bb])~\
+15 2 - ba|(;SZ[3]AW[ba];AB[aa][bb][ca];B[zz])~\
+16 3 - aa|(;SZ[2];B[aa];W[aa])~\
+17 2 - aa|(;SZ[1];B[aa];B[zz])~\
+17 5 - aa|(;SZ[2:1];B[aa];W[ba];B[];W[aa])~\
+18 4 - -|(;SZ[2];B[];W[];B[aa];B[zz])~\
+18 3 - -|(;SZ[2];B[];B[aa])~\
+20 - - -|(;SZ[3]AW[aa])~\
+22 1 - bb|(;SZ[3]AW[aa]TR[aa][bb:cc];B[zz])~\
+22 2 - aa|(;SZ[2:1]AW[aa];B[ba]TR[aa])~\
+23 1 - ca|(;SZ[4:1]AB[aa]AW[ca]TR[aa][ca])~\
+23 2 - ba|(;SZ[3]AW[ba][cc]AB[aa];PL[W]TR[aa][ba][cc])~\
+";
+
 /// Black's points, White's and whether the game is over; or the number of the refusal.
 pub(crate) const RECORDS: &str = "\
 4 0 finished|(;GM[1]FF[4]SZ[2];B[aa];W[];B[])~\
