@@ -142,7 +142,8 @@ pub group_is : (s : Size) (c : Colouring) (k : Colour) (q : ℕ) (stones alone m
     → ((p : ℕ) → p < point_count s → Has (bit_in alone) p ↔ (p ≡ q)) → ((p : ℕ) → p < point_count s → Has (bit_in made) p ↔ IsReached s (Has (bit_in stones)) (Has (bit_in alone)) p)
     → (p : ℕ) → p < point_count s → Has (bit_in made) p ↔ IsOfGroup s c k q p
 group_is s c k q stones alone made b one reach p in_p = (
-  λ h. reached_wider s (Has (bit_in stones)) (Has (bit_in alone)) (HasStone s c k) (λ r. r ≡ q) (λ r in_r f. sym (b.below r in_r (small s r in_r)) ∙ f) (λ r in_r a. (one r in_r).0 a) p ((reach p in_p).0 h),
+  λ h. reached_wider s (Has (bit_in stones)) (Has (bit_in alone)) (HasStone s c k) (λ r. r ≡ q)
+      (λ r in_r f. sym (b.below r in_r (small s r in_r)) ∙ f) (λ r in_r a. (one r in_r).0 a) p ((reach p in_p).0 h),
   λ h. (reach p in_p).1 (reached_wider s (HasStone s c k) (λ r. r ≡ q) (Has (bit_in stones)) (Has (bit_in alone)) (λ r in_r f. b.below r in_r (small s r in_r) ∙ f) (λ r in_r a. (one r in_r).1 a) p h),
 )
 
@@ -241,7 +242,8 @@ module _ (s : Size) (c : Colouring) (k : Colour) (q : ℕ) (left inside safe gon
           | inr past ↦ absurd (true≢false (sym (and_parts (bit_in left p) (not (bit_in safe p)) (sym (gone_is p lt) ∙ on)).0 ∙ was.on_board p past lt))
         ] in
         let some = count_some (bit_in gone) (point_count s) p in_p on in
-        let sum = count_both (bit_in made) (bit_in gone) (bit_in left) (point_count s) (λ r in_r. split (bit_in left r) (bit_in safe r) (bit_in made r) (bit_in gone r) (made_is r (small s r in_r)) (gone_is r (small s r in_r))) in
+        let sum = count_both (bit_in made) (bit_in gone) (bit_in left) (point_count s)
+        (λ r in_r. split (bit_in left r) (bit_in safe r) (bit_in made r) (bit_in gone r) (made_is r (small s r in_r)) (gone_is r (small s r in_r))) in
         omega (arith, some, sum)
       where
         split : (l a m g : Bool) → m ≡ (l && a) → g ≡ (l && not a) → ((l ≡ m) × (g ≡ false)) ⊎ ((l ≡ true) × (m ≡ false) × (g ≡ true))
