@@ -10,6 +10,7 @@
 //! | `fault_tests` | `tt_game`: where main lines are refused |
 //! | `problem_tests`, `turn_tests`, `turn_tables` | `tt_game`: problems, their turns, and tables of these |
 //! | `life_tests` | `tt_life`: unconditional life |
+//! | `marks_tests` | `tt_marks`: groups, regions, and stones that close walls |
 //! | `proof_tests` | `tt_proof`: certificates and proofs |
 //! | `footprint_tests`, `footprint_tables` | `tt_proof`: footprints, and their tables |
 //! | `search_tests`, `trace_tests`, `trace_tables` | `tt_search`: searches, their traces, and tables of these |
@@ -41,6 +42,8 @@ mod footprint_tests;
 mod grants_tests;
 #[cfg(test)]
 mod life_tests;
+#[cfg(test)]
+mod marks_tests;
 #[cfg(test)]
 mod plain_board;
 #[cfg(test)]
