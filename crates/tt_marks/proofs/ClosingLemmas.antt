@@ -13,7 +13,7 @@ use Rattle.tt_board.specs.Setup.{AllHaveLiberties}
 use Rattle.tt_board.specs.Reach.{entry_at}
 use Rattle.tt_board.specs.Stones.{PointNumberSet}
 use Rattle.tt_marks.specs.Walls.{IsClosed, IsInner, IsRegion, IsWholeWall, empty_set}
-use Rattle.tt_marks.specs.Closings.{AreEmptyPoints, IsClosing, with_stones}
+use Rattle.tt_marks.specs.Closings.{AreEmptyPoints, ClosesWall, with_stones}
 use Rattle.tt_marks.proofs.SetLemmas.{has_passing, passing_below}
 
 empty_entry : (x : Option Colour) → is_empty x ≡ true → x ≡ None
@@ -37,7 +37,7 @@ empty_points_alone s c points left is none p h =
 pub closing_is : (s : Size) (c : Colouring) (k j : Colour) (q : ℕ) (stones wall region : PointNumberSet) (b : Position) → j ≡ other k → AreEmptyPoints s c stones
     → (b ≡ record { size = s; points = with_stones s c j stones }) × AllHaveLiberties s (with_stones s c j stones)
     → IsWholeWall b.size b.points k q (set.contains wall) → IsRegion b.size b.points k q (set.contains wall) (set.contains region) → IsClosed wall region
-    → IsInner b.size b.points region → IsClosing s c k q stones region
+    → IsInner b.size b.points region → ClosesWall s c k q stones region
 closing_is s c k j q stones wall region b same on_empty made whole within closed inner = record {
   on_empty = on_empty;
   alive = subst (λ x. AllHaveLiberties s (with_stones s c x stones)) same made.1;

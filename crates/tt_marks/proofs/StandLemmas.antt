@@ -12,8 +12,8 @@ use Rattle.tt_board.specs.Position.{Colouring}
 use Rattle.tt_board.specs.Reach.{Reaches, entry_at}
 use Rattle.tt_board.specs.ReachLaws.{reaches_beside, reaches_on}
 use Rattle.tt_board.specs.laws.ClearLaws.{cleared_kept_alive, cleared_kept_other, entry_at_clear}
-use Rattle.tt_marks.specs.Reached.{Points, first, next}
-use Rattle.tt_marks.specs.Walls.{HasLibertyOutside, IsWall, IsWithin}
+use Rattle.tt_marks.specs.Reached.{PointTest, first, next}
+use Rattle.tt_marks.specs.Walls.{HasOuterLiberty, IsWall, IsWithin}
 use Rattle.tt_marks.proofs.WallLemmas.{stone_of_liberty}
 
 stone_is : (x : Option Colour) (k : Colour) → is_stone_of x k ≡ true → x ≡ Some k
@@ -36,10 +36,10 @@ empty_not_stone k x h = λ e. let n : ◌≡◌ {A = Option Colour} (Some k) Non
 module _ (s : Size) (c : Colouring) (m : Colour) (IsInside : ℕ → Type 0) where
   -- what has a liberty outside stands on another colouring too, and the empty points outside are empty there
   pub record IsKept (d : Colouring) : Type 0 where
-    pub stands : (r : ℕ) → r < point_count s → HasLibertyOutside s c m IsInside r → entry_at d r ≡ Some m
+    pub stands : (r : ℕ) → r < point_count s → HasOuterLiberty s c m IsInside r → entry_at d r ≡ Some m
     pub bare : (e : ℕ) → e < point_count s → entry_at c e ≡ None → (IsInside e → ⊥) → entry_at d e ≡ None
 
-  kept_reaches : (d : Colouring) → IsKept d → (r : ℕ) → HasLibertyOutside s c m IsInside r → Reaches s d r None
+  kept_reaches : (d : Colouring) → IsKept d → (r : ℕ) → HasOuterLiberty s c m IsInside r → Reaches s d r None
   kept_reaches d kept r (first _ in_r h) =
       reaches_beside s d None r h.1.0 (stone_not_empty m _ (kept.stands r in_r (first r in_r h))) h.1.1 (kept.bare h.1.0 h.1.1.0 h.1.2 h.1.3)
   kept_reaches d kept r (next _ q in_r h near l) =
@@ -66,14 +66,14 @@ module _ (s : Size) (c : Colouring) (m : Colour) (IsInside : ℕ → Type 0) whe
   kept_played p j free inside = kept_cleared (clear s (set c p (Some j)) (other j)) j (kept_cleared (set c p (Some j)) (other j) (kept_put p j free inside))
 
   -- so it has a liberty outside there
-  kept_liberty : (d : Colouring) → IsKept d → (r : ℕ) → HasLibertyOutside s c m IsInside r → HasLibertyOutside s d m IsInside r
+  kept_liberty : (d : Colouring) → IsKept d → (r : ℕ) → HasOuterLiberty s c m IsInside r → HasOuterLiberty s d m IsInside r
   kept_liberty d kept r (first _ in_r h) =
       first r in_r (ap (λ x. is_stone_of x m) (kept.stands r in_r (first r in_r h)) ∙ is_stone m, (h.1.0, h.1.1, kept.bare h.1.0 h.1.1.0 h.1.2 h.1.3, h.1.3))
   kept_liberty d kept r (next _ q in_r h near l) =
       next r q in_r (ap (λ x. is_stone_of x m) (kept.stands r in_r (next r q in_r h near l)) ∙ is_stone m) near (kept_liberty d kept q l)
 
 -- a play within leaves the wall a wall
-pub wall_stands : (s : Size) (c : Colouring) (k : Colour) (q : ℕ) (wall : Points) → IsWall s c k q wall → (j : Colour) (p : ℕ) → entry_at c p ≡ None → IsWithin s q wall p
+pub wall_stands : (s : Size) (c : Colouring) (k : Colour) (q : ℕ) (wall : PointTest) → IsWall s c k q wall → (j : Colour) (p : ℕ) → entry_at c p ≡ None → IsWithin s q wall p
     → IsWall s (play_of s c j p) k q wall
 wall_stands s c k q wall is j p free inside w in_w on =
     kept_liberty s c (other k) (IsWithin s q wall) (play_of s c j p) (kept_played s c (other k) (IsWithin s q wall) p j free inside) w (is w in_w on)

@@ -15,8 +15,8 @@ use Rattle.tt_board.specs.Position.{Colouring}
 use Rattle.tt_board.specs.Reach.{IsPath, entry_at, path_end}
 use Rattle.tt_board.specs.laws.NearLaws.{near_back}
 use Rattle.tt_board.proofs.CountLemmas.{count_some, count_both}
-use Rattle.tt_marks.specs.Reached.{Has, IsReached, Points, first, next}
-use Rattle.tt_marks.specs.Walls.{HasLibertyOutside, HasStone, IsBesideOutside, IsOfGroup, IsRegion, IsWall, IsWholeWall, IsWithin}
+use Rattle.tt_marks.specs.Reached.{Has, IsReached, PointTest, first, next}
+use Rattle.tt_marks.specs.Walls.{HasOuterLiberty, HasStone, IsBesideOutside, IsOfGroup, IsRegion, IsWall, IsWholeWall, IsWithin}
 use Rattle.tt_marks.proofs.ReachedLemmas.{reached_wider, small}
 
 -- ---- bits
@@ -50,7 +50,7 @@ within_is s q all stones free alone inside on is one reach p in_p = (
 )
 
 -- a path that avoids the wall stays within
-pub stays_within : (s : Size) (q : ℕ) (wall : Points) (p : ℕ) (path : List ℕ) → p < point_count s → IsWithin s q wall p
+pub stays_within : (s : Size) (q : ℕ) (wall : PointTest) (p : ℕ) (path : List ℕ) → p < point_count s → IsWithin s q wall p
     → IsPath s p path → All (λ r. wall r ≡ false) path → IsWithin s q wall (path_end p path)
 stays_within s q wall p [] in_p h linked avoids = h
 stays_within s q wall p (r ∷ rest) in_p h linked avoids =
@@ -152,7 +152,7 @@ pub safe_is : (s : Size) (c : Colouring) (k : Colour) (stones empties inside lib
     → ((p : ℕ) → p < point_count s → Has (bit_in empties) p ↔ (entry_at c p ≡ None)) → ((q : ℕ) → q < BITS → bit_in liberties q ≡ (bit_in empties q && not (bit_in inside q)))
     → ((p : ℕ) → p < point_count s → Has (bit_in near) p ↔ IsBesideSome s liberties p) → ((q : ℕ) → q < BITS → bit_in begun q ≡ (bit_in near q && bit_in stones q))
     → ((p : ℕ) → p < point_count s → Has (bit_in made) p ↔ IsReached s (Has (bit_in stones)) (Has (bit_in begun)) p)
-    → (p : ℕ) → p < point_count s → Has (bit_in made) p ↔ HasLibertyOutside s c k (Has (bit_in inside)) p
+    → (p : ℕ) → p < point_count s → Has (bit_in made) p ↔ HasOuterLiberty s c k (Has (bit_in inside)) p
 safe_is s c k stones empties inside liberties near begun made b empty_are liberties_are near_are begun_are reach p in_p = (
   λ h. reached_wider s (Has (bit_in stones)) (Has (bit_in begun)) (HasStone s c k) (IsBesideOutside s c k (Has (bit_in inside))) stone_of liberty_of p ((reach p in_p).0 h),
   λ h. (reach p in_p).1 (reached_wider s (HasStone s c k) (IsBesideOutside s c k (Has (bit_in inside))) (Has (bit_in stones)) (Has (bit_in begun)) of_stone of_liberty p h),
@@ -180,25 +180,25 @@ safe_is s c k stones empties inside liberties near begun made b empty_are libert
 -- ---- the whole wall
 
 -- with more stones less is within
-within_fewer : (s : Size) (q : ℕ) (stones more : Points) → ((p : ℕ) → p < point_count s → Has stones p → Has more p) → (p : ℕ) → IsWithin s q more p → IsWithin s q stones p
+within_fewer : (s : Size) (q : ℕ) (stones more : PointTest) → ((p : ℕ) → p < point_count s → Has stones p → Has more p) → (p : ℕ) → IsWithin s q more p → IsWithin s q stones p
 within_fewer s q stones more wider = reached_wider s (λ r. more r ≡ false) (λ r. r ≡ q) (λ r. stones r ≡ false) (λ r. r ≡ q)
     (λ r in_r f. off_of (stones r) (λ h. true≢false (sym (wider r in_r h) ∙ f))) (λ r in_r e. e)
 
 -- and where less is inside more is outside
 outside_more : (s : Size) (c : Colouring) (k : Colour) (IsInside IsLess : ℕ → Type 0) → ((e : ℕ) → e < point_count s → IsLess e → IsInside e)
-    → (p : ℕ) → HasLibertyOutside s c k IsInside p → HasLibertyOutside s c k IsLess p
+    → (p : ℕ) → HasOuterLiberty s c k IsInside p → HasOuterLiberty s c k IsLess p
 outside_more s c k IsInside IsLess fewer = reached_wider s (HasStone s c k) (IsBesideOutside s c k IsInside) (HasStone s c k) (IsBesideOutside s c k IsLess)
     (λ r in_r f. f) (λ r in_r h. (h.0, (h.1.0, h.1.1, h.1.2, λ l. h.1.3 (fewer h.1.0 h.1.1.0 l))))
 
 -- what has a liberty outside is a stone
-pub stone_of_liberty : (s : Size) (c : Colouring) (k : Colour) (IsInside : ℕ → Type 0) (p : ℕ) → HasLibertyOutside s c k IsInside p → HasStone s c k p
+pub stone_of_liberty : (s : Size) (c : Colouring) (k : Colour) (IsInside : ℕ → Type 0) (p : ℕ) → HasOuterLiberty s c k IsInside p → HasStone s c k p
 stone_of_liberty s c k IsInside p (first _ in_p h) = h.0
 stone_of_liberty s c k IsInside p (next _ r in_p h near l) = h
 
 -- what is left so far has the stones of each wall
 pub record IsLeft (s : Size) (c : Colouring) (k : Colour) (q : ℕ) (left : List ℕ) : Type 0 where
   pub on_board : AreOn s left
-  pub most : (stones : Points) → IsWall s c k q stones → (p : ℕ) → p < point_count s → Has stones p → Has (bit_in left) p
+  pub most : (stones : PointTest) → IsWall s c k q stones → (p : ℕ) → p < point_count s → Has stones p → Has (bit_in left) p
 
 pub left_first : (s : Size) (c : Colouring) (k : Colour) (q : ℕ) (left : List ℕ) → AreBitsOf left (point_count s) (λ p. is_stone_of (entry_at c p) (other k)) → IsLeft s c k q left
 left_first s c k q left b = record {
@@ -208,7 +208,7 @@ left_first s c k q left b = record {
 
 module _ (s : Size) (c : Colouring) (k : Colour) (q : ℕ) (left inside safe gone : List ℕ) (was : IsLeft s c k q left)
     (inside_are : (p : ℕ) → p < point_count s → Has (bit_in inside) p ↔ IsWithin s q (bit_in left) p)
-    (safe_are : (p : ℕ) → p < point_count s → Has (bit_in safe) p ↔ HasLibertyOutside s c (other k) (Has (bit_in inside)) p)
+    (safe_are : (p : ℕ) → p < point_count s → Has (bit_in safe) p ↔ HasOuterLiberty s c (other k) (Has (bit_in inside)) p)
     (gone_is : (p : ℕ) → p < BITS → bit_in gone p ≡ (bit_in left p && not (bit_in safe p))) where
   -- where none goes it is the whole wall
   pub all_left : ((p : ℕ) → p < BITS → bit_in gone p ≡ false) → IsWholeWall s c k q (bit_in left)
@@ -263,7 +263,7 @@ region_is s c k q wall inside its points inside_are group_are points_are p in_p 
 
 -- ---- another set of the same points
 
-module _ (s : Size) (c : Colouring) (k : Colour) (q : ℕ) (wall other_wall : Points) (same : (p : ℕ) → p < point_count s → other_wall p ≡ wall p) where
+module _ (s : Size) (c : Colouring) (k : Colour) (q : ℕ) (wall other_wall : PointTest) (same : (p : ℕ) → p < point_count s → other_wall p ≡ wall p) where
   same_within : (p : ℕ) → IsWithin s q wall p → IsWithin s q other_wall p
   same_within = within_fewer s q other_wall wall (λ p in_p h. sym (same p in_p) ∙ h)
 
@@ -276,7 +276,7 @@ module _ (s : Size) (c : Colouring) (k : Colour) (q : ℕ) (wall other_wall : Po
     whole = λ stones is p in_p h. same p in_p ∙ w.whole stones is p in_p h;
   }
 
-  pub same_region : (points other_points : Points) → ((p : ℕ) → p < point_count s → other_points p ≡ points p) → IsRegion s c k q wall points → IsRegion s c k q other_wall other_points
+  pub same_region : (points other_points : PointTest) → ((p : ℕ) → p < point_count s → other_points p ≡ points p) → IsRegion s c k q wall points → IsRegion s c k q other_wall other_points
   same_region points other_points too r p in_p = (
     λ h. let two = (r p in_p).0 (sym (too p in_p) ∙ h) in (same_within p two.0, two.1),
     λ h. too p in_p ∙ (r p in_p).1 (back_within p h.0, h.1),
@@ -286,10 +286,10 @@ module _ (s : Size) (c : Colouring) (k : Colour) (q : ℕ) (wall other_wall : Po
 
 -- the stones without those that have a liberty outside
 pub danger_is : (s : Size) (c : Colouring) (k : Colour) (IsInside : ℕ → Type 0) (stones inside safe made : List ℕ) → AreBitsOf stones (point_count s) (λ p. is_stone_of (entry_at c p) k)
-    → ((p : ℕ) → p < point_count s → Has (bit_in safe) p ↔ HasLibertyOutside s c k (Has (bit_in inside)) p)
+    → ((p : ℕ) → p < point_count s → Has (bit_in safe) p ↔ HasOuterLiberty s c k (Has (bit_in inside)) p)
     → ((p : ℕ) → p < point_count s → Has (bit_in inside) p ↔ IsInside p)
     → ((p : ℕ) → p < BITS → bit_in made p ≡ (bit_in stones p && not (bit_in safe p)))
-    → (p : ℕ) → p < point_count s → Has (bit_in made) p ↔ (HasStone s c k p × (HasLibertyOutside s c k IsInside p → ⊥))
+    → (p : ℕ) → p < point_count s → Has (bit_in made) p ↔ (HasStone s c k p × (HasOuterLiberty s c k IsInside p → ⊥))
 danger_is s c k IsInside stones inside safe made b safe_are inside_are made_is p in_p = (
   λ h.
       let two = both_of (bit_in stones p) (bit_in safe p) (sym (made_is p (small s p in_p)) ∙ h) in (
@@ -305,10 +305,10 @@ danger_is s c k IsInside stones inside safe made b safe_are inside_are made_is p
 pub danger_around : (s : Size) (c : Colouring) (k : Colour) (q : ℕ) (stones inside near around safe made : List ℕ)
     → AreBitsOf stones (point_count s) (λ p. is_stone_of (entry_at c p) k)
     → ((p : ℕ) → p < point_count s → Has (bit_in inside) p ↔ IsWithin s q (bit_in stones) p)
-    → ((p : ℕ) → p < point_count s → Has (bit_in safe) p ↔ HasLibertyOutside s c k (Has (bit_in inside)) p)
+    → ((p : ℕ) → p < point_count s → Has (bit_in safe) p ↔ HasOuterLiberty s c k (Has (bit_in inside)) p)
     → ((p : ℕ) → p < BITS → bit_in around p ≡ (bit_in near p && bit_in stones p)) → ((p : ℕ) → p < BITS → bit_in made p ≡ (bit_in around p && not (bit_in safe p)))
     → (p : ℕ) → p < point_count s → Has (bit_in made) p
-    → HasStone s c k p × (HasLibertyOutside s c k (IsWithin s q (λ r. is_stone_of (entry_at c r) k)) p → ⊥)
+    → HasStone s c k p × (HasOuterLiberty s c k (IsWithin s q (λ r. is_stone_of (entry_at c r) k)) p → ⊥)
 danger_around s c k q stones inside near around safe made b inside_are safe_are around_is made_is p in_p h =
     let two = both_of (bit_in around p) (bit_in safe p) (sym (made_is p (small s p in_p)) ∙ h) in
     let stone = (and_parts (bit_in near p) (bit_in stones p) (sym (around_is p (small s p in_p)) ∙ two.0)).1 in (

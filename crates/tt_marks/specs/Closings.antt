@@ -24,7 +24,7 @@ AreEmptyPoints s c points = (p : ℕ) → set.contains points p ≡ true → (p 
 
 -- Stones of the other colour on these empty points close the wall around the group of the stone of colour k on q: then each stone has
 -- a liberty, and the region of the group is this one, closed and inner
-pub record IsClosing (s : Size) (c : Colouring) (k : Colour) (q : ℕ) (stones region : PointNumberSet) : Type 0 where
+pub record ClosesWall (s : Size) (c : Colouring) (k : Colour) (q : ℕ) (stones region : PointNumberSet) : Type 0 where
   pub on_empty : AreEmptyPoints s c stones
   pub alive : AllHaveLiberties s (with_stones s c (other k) stones)
   pub wall : PointNumberSet
@@ -35,4 +35,4 @@ pub record IsClosing (s : Size) (c : Colouring) (k : Colour) (q : ℕ) (stones r
 
 -- all of these close it
 abbrev pub AreClosings : Size → Colouring → Colour → ℕ → List Closing → Type 0
-AreClosings s c k q = All (λ m. IsClosing s c k q m.stones m.region)
+AreClosings s c k q = All (λ m. ClosesWall s c k q m.stones m.region)

@@ -5,11 +5,11 @@ use Rattle.tt_sgf.specs.Sizes.{point_count}
 use Rattle.tt_board.specs.Near.{IsNeighbour}
 
 -- a set of points, as the test of what is in it
-abbrev pub Points : Type 0
-Points = ℕ → Bool
+abbrev pub PointTest : Type 0
+PointTest = ℕ → Bool
 
 -- the set has the point
-abbrev pub Has : Points → ℕ → Type 0
+abbrev pub Has : PointTest → ℕ → Type 0
 Has points p = points p ≡ true
 
 -- p is a first point, or a free point adjacent to one that is reached

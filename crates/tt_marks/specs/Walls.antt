@@ -11,7 +11,7 @@ use Rattle.tt_board.specs.Position.{Colouring}
 use Rattle.tt_board.specs.Reach.{entry_at}
 use Rattle.tt_board.specs.Stones.{PointNumberSet}
 use Rattle.tt_marks.specs.declared.regions.TheConstants.{MOST_ENCLOSED_POINTS}
-use Rattle.tt_marks.specs.Reached.{Has, IsReached, Points}
+use Rattle.tt_marks.specs.Reached.{Has, IsReached, PointTest}
 
 module _ (s : Size) (c : Colouring) where
   -- a stone of colour k stands on p
@@ -27,25 +27,25 @@ module _ (s : Size) (c : Colouring) where
   IsBesideOutside k IsInside p = HasStone k p × ((e : ℕ) × IsNeighbour s p e × (entry_at c e ≡ None) × (IsInside e → ⊥))
 
   -- the chain of the stone of colour k on p has a liberty that isn't inside: plays inside don't take it
-  abbrev pub HasLibertyOutside : Colour → (ℕ → Type 0) → ℕ → Type 0
-  HasLibertyOutside k IsInside p = IsReached s (HasStone k) (IsBesideOutside k IsInside) p
+  abbrev pub HasOuterLiberty : Colour → (ℕ → Type 0) → ℕ → Type 0
+  HasOuterLiberty k IsInside p = IsReached s (HasStone k) (IsBesideOutside k IsInside) p
 
 -- what is within these stones: what is reached from the point q without passing one of them
-abbrev pub IsWithin : Size → ℕ → Points → ℕ → Type 0
+abbrev pub IsWithin : Size → ℕ → PointTest → ℕ → Type 0
 IsWithin s q stones p = IsReached s (λ r. stones r ≡ false) (λ r. r ≡ q) p
 
 module _ (s : Size) (c : Colouring) (k : Colour) (q : ℕ) where
   -- a wall around the group of the stone of colour k on q: stones of the other colour that plays within them don't take
-  abbrev pub IsWall : Points → Type 0
-  IsWall stones = (p : ℕ) → p < point_count s → Has stones p → HasLibertyOutside s c (other k) (IsWithin s q stones) p
+  abbrev pub IsWall : PointTest → Type 0
+  IsWall stones = (p : ℕ) → p < point_count s → Has stones p → HasOuterLiberty s c (other k) (IsWithin s q stones) p
 
   -- the whole wall: it has each stone of each wall around the group
-  pub record IsWholeWall (wall : Points) : Type 0 where
+  pub record IsWholeWall (wall : PointTest) : Type 0 where
     pub is_wall : IsWall wall
-    pub whole : (stones : Points) → IsWall stones → (p : ℕ) → p < point_count s → Has stones p → Has wall p
+    pub whole : (stones : PointTest) → IsWall stones → (p : ℕ) → p < point_count s → Has stones p → Has wall p
 
   -- the region of the group: what is within its whole wall but the group
-  abbrev pub IsRegion : Points → Points → Type 0
+  abbrev pub IsRegion : PointTest → PointTest → Type 0
   IsRegion wall points = (p : ℕ) → p < point_count s → Has points p ↔ (IsWithin s q wall p × (IsOfGroup s c k q p → ⊥))
 
 -- the empty points

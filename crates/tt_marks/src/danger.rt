@@ -7,7 +7,7 @@ ghost use Rattle.tt_board.specs.Play.{is_stone_of, other};
 ghost use Rattle.tt_board.specs.Reach.{entry_at};
 ghost use Rattle.tt_board.specs.Stones.{IsSetOnBoard};
 ghost use Rattle.tt_marks.specs.Reached.{Has};
-ghost use Rattle.tt_marks.specs.Walls.{HasLibertyOutside, HasStone, IsWithin};
+ghost use Rattle.tt_marks.specs.Walls.{HasOuterLiberty, HasStone, IsWithin};
 
 use crate::filling::beside;
 use crate::regions::{is_inner, set_of};
@@ -19,7 +19,7 @@ use tt_sgf::{Point, PointSet};
 pub fn stones_in_danger(board: &Board, colour: Colour, region: &PointSet) -> PointSet
     ensures those { (p : ℕ) → p < point_count board.now.size → Has (set.contains result) p
         ↔ (HasStone board.now.size board.now.points colour p
-        × (HasLibertyOutside board.now.size board.now.points colour (Has (set.contains region.now)) p → ⊥)) }
+        × (HasOuterLiberty board.now.size board.now.points colour (Has (set.contains region.now)) p → ⊥)) }
     ensures on_board { IsSetOnBoard board.now.size result }
 {
     let safe = stones_with_liberty_outside(board, colour, region.bits());
@@ -31,7 +31,7 @@ pub fn stones_in_danger(board: &Board, colour: Colour, region: &PointSet) -> Poi
 pub fn wall_in_danger(board: &Board, colour: Colour, stone: Point) -> PointSet
     requires { stone < point_count board.now.size }
     ensures taken { (p : ℕ) → p < point_count board.now.size → Has (set.contains result) p → HasStone board.now.size board.now.points (other colour) p
-        × (HasLibertyOutside board.now.size board.now.points (other colour)
+        × (HasOuterLiberty board.now.size board.now.points (other colour)
         (IsWithin board.now.size stone (λ r. is_stone_of (entry_at board.now.points r) (other colour))) p → ⊥) }
     ensures on_board { IsSetOnBoard board.now.size result }
 {

@@ -3,7 +3,7 @@
 ghost use Rattle.std.specs.Prelude.{◌≡◌, ◌<◌, IfSome, IfOk, IsTrue};
 ghost use Rattle.tt_sgf.specs.Sizes.{point_count};
 ghost use Rattle.tt_board.specs.Setup.{AllHaveLiberties};
-ghost use Rattle.tt_marks.specs.Closings.{AreClosings, AreEmptyPoints, IsClosing, with_stones};
+ghost use Rattle.tt_marks.specs.Closings.{AreClosings, AreEmptyPoints, ClosesWall, with_stones};
 
 use crate::regions::{empties, is_inner, region, set_of};
 use crate::ways::{Ways, neighbours};
@@ -59,7 +59,7 @@ fn rank_of(board: &Board, colour: Colour, stones: &Bits, region: &PointSet) -> u
 /// The closing by these stones, where they close the wall around the group of a stone of this colour.
 fn closing_by(board: &Board, colour: Colour, stone: Point, stones: &Bits) -> Option<Closing>
     requires { stone < point_count board.now.size }
-    ensures { IfSome result (λ m. IsClosing board.now.size board.now.points colour stone m.stones m.region) }
+    ensures { IfSome result (λ m. ClosesWall board.now.size board.now.points colour stone m.stones m.region) }
 {
     let points = set_of(board.size(), stones);
     if !are_empty(board, &points) {

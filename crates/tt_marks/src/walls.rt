@@ -7,7 +7,7 @@ ghost use Rattle.tt_board.specs.Around.{AreOn};
 ghost use Rattle.tt_board.specs.Reach.{entry_at};
 ghost use Rattle.tt_board.specs.Play.{other};
 ghost use Rattle.tt_marks.specs.Reached.{Has};
-ghost use Rattle.tt_marks.specs.Walls.{HasLibertyOutside, IsOfGroup, IsWholeWall, IsWithin};
+ghost use Rattle.tt_marks.specs.Walls.{HasOuterLiberty, IsOfGroup, IsWholeWall, IsWithin};
 
 use crate::filling::{beside, reached};
 use tt_board::{Board, Colour};
@@ -71,7 +71,7 @@ pub(crate) fn within(size: Size, stones: &Bits, point: Point) -> Bits
 /// The stones of a colour whose chains have a liberty that isn't inside.
 pub(crate) fn stones_with_liberty_outside(board: &Board, colour: Colour, inside: &Bits) -> Bits
     ensures those { (p : ℕ) → p < point_count board.now.size → Has (bit_in result.words) p
-        ↔ HasLibertyOutside board.now.size board.now.points colour (Has (bit_in inside.now.words)) p }
+        ↔ HasOuterLiberty board.now.size board.now.points colour (Has (bit_in inside.now.words)) p }
     ensures on_board { AreOn board.now.size result.words }
 {
     let stones = board.bits(colour);

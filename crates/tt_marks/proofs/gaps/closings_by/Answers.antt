@@ -1,11 +1,11 @@
 use Rattle.std.proofs.Common.{sym, subst}
 use Rattle.std.proofs.lemmas.List.Elements.{All-nil}
 use Rattle.std.proofs.lemmas.List.Sorted.{All-permutation}
-use Rattle.tt_marks.specs.Closings.{AreClosings, IsClosing}
+use Rattle.tt_marks.specs.Closings.{AreClosings, ClosesWall}
 use Rattle.tt_marks.proofs.gaps.closings_by.Goals as goal
 
 pub returns : goal.returns
 returns c =
-    All-permutation (λ m. IsClosing c.args.board.now.size c.args.board.now.points c.args.colour c.args.stone m.stones m.region) c.list_by.new.found.items c.sort_by_key.new.self.items
+    All-permutation (λ m. ClosesWall c.args.board.now.size c.args.board.now.points c.args.colour c.args.stone m.stones m.region) c.list_by.new.found.items c.sort_by_key.new.self.items
     c.in_ok-sort_by_key.ensures.permutation (c.list_by.ensures (subst (AreClosings c.args.board.now.size c.args.board.now.points c.args.colour c.args.stone) (sym c.new-found.ensures.items)
-    (All-nil (λ m. IsClosing c.args.board.now.size c.args.board.now.points c.args.colour c.args.stone m.stones m.region))))
+    (All-nil (λ m. ClosesWall c.args.board.now.size c.args.board.now.points c.args.colour c.args.stone m.stones m.region))))
