@@ -99,8 +99,8 @@ pub(crate) const FAULTS: &str = "\
 16 3 - aa|(;SZ[2];B[aa];W[aa])~\
 17 2 - aa|(;SZ[1];B[aa];B[zz])~\
 17 5 - aa|(;SZ[2:1];B[aa];W[ba];B[];W[aa])~\
-18 4 - -|(;SZ[2];B[];W[];B[aa];B[zz])~\
-18 3 - -|(;SZ[2];B[];B[aa])~\
+18 4 - aa|(;SZ[2];B[];W[];B[aa];B[zz])~\
+18 3 - aa|(;SZ[2];B[];B[aa])~\
 20 - - -|(;SZ[3]AW[aa])~\
 22 1 - bb|(;SZ[3]AW[aa]TR[aa][bb:cc];B[zz])~\
 22 2 - aa|(;SZ[2:1]AW[aa];B[ba]TR[aa])~\
