@@ -6,6 +6,7 @@
 //! | `input` | `read_input`: the whole input, or as much as tells that it is too long |
 //! | `output` | `write_bytes`: all bytes, or a beginning of them |
 //! | `fault` | `RunFault`: why a run ended without its whole answer |
+//! | `tests` | the words of each fault |
 #![tactic(auto)]
 
 mod fault;

@@ -1,4 +1,12 @@
 //! The program: reads its arguments, runs the command on the standard streams and ends with its status.
+//!
+//! | Module | What it has |
+//! |---|---|
+//! | `arguments`, `request` | the command line, and what it asks for |
+//! | `answer`, `task` | the answer to an input, tree by tree |
+//! | `progress` | what stands on standard error meanwhile |
+//! | `laws` | what a run writes; `headline` |
+//! | `command_tests`, `command_cases` | rows of words, input and answer |
 #![tactic(auto)]
 
 mod answer;

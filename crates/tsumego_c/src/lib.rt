@@ -1,5 +1,12 @@
 //! The solver for programs in other languages: bytes in, bytes out. Each call answers for one game tree, starts no thread and
 //! keeps nothing. `c/tsumego.h` says what callers owe; `c/tsumego.c` refuses null before it comes here.
+//!
+//! | Module | What it has |
+//! |---|---|
+//! | `call_options` | the options of a call |
+//! | `first_tree_text`, `in_caller_thread` | the answer for the first tree of an input, without threads |
+//! | `caller_buffer` | hands a text to the caller |
+//! | `laws` | the answer is that of a run of the program |
 #![tactic(auto)]
 
 mod call_options;

@@ -1,4 +1,19 @@
 //! The program: shows the problems of standard input as they were read.
+//!
+//! | Module | What it has |
+//! |---|---|
+//! | `running` | `run`, which reads an input and writes its text |
+//! | `arguments`, `mode` | the command line, and what it asks for |
+//! | `showing` | the text for an input |
+//! | `picture`, `hints` | the board as text, the hints |
+//! | `refusals` | why a tree is refused, where to look |
+//! | `certificates` | reads the strategy that follows a problem |
+//! | `strategy_listing`, `endings` | the strategy as text, the board after its first turn, how it ends at life |
+//! | `variations`, `depths` | the strategy as an SGF tree, the depth at which it is cut |
+//! | `diagram`, `windows`, `numbered_plays` | the diagram (SVG), the points it shows, numbered plays |
+//! | `marking`, `mark_proposals`, `regions` | `--mark`: the tree with marks, the group that is marked, the region around it |
+//! | `tree_bytes`, `points`, `writing` | the bytes of a tree, points by number, writing to memory |
+//! | `laws` | an input has one status, unless marks are wanted |
 #![tactic(auto)]
 
 mod arguments;

@@ -2,6 +2,16 @@
 //!
 //! A board takes no memory but its own: `BoardDeltas` alone asks for some, and says where there is none.
 //! A contract sees a board as a `Position`: its size, and its colouring as a list of entries, row by row.
+//!
+//! | Module | What it has |
+//! |---|---|
+//! | `colouring` | a colouring in twelve words; in its folder, the points around a point and what is reached from it |
+//! | `board` | `Board`: a colouring in which each stone reaches empty |
+//! | `counted` | `CountedBoard`, on which one plays: its chains are counted |
+//! | `boards` | `BoardDeltas`: boards one after another, kept by their differences |
+//! | `setup`, `area` | stones put over a board, the area score |
+//! | `near` | the points beside a point |
+//! | `laws` | facts about the definitions |
 #![tactic(auto)]
 
 ghost use Rattle.std.specs.Prelude.{◌≡◌};

@@ -4,6 +4,14 @@
 //! `find_proof` joins two halves that know each other by `Advice` alone. The finder searches with one table for all histories,
 //! which is fast and may err; it says what a side should play. The certifier makes a proof bottom up at the exact line, and
 //! believes nothing of that.
+//!
+//! | Module | What it has |
+//! |---|---|
+//! | `attempts` | `find_proof`: the finder says who wins, the certifier proves that; if the proof fails, both try again |
+//! | `advice` | the trait `Advice`, by which the certifier asks the finder |
+//! | `certifier` | makes a proof from the leaves up; it may end at life |
+//! | `memo` | the proofs that the certifier keeps, and which of them it may use at a `Line` |
+//! | `finder` | df-pn, with a board and tables of its own |
 
 #![tactic(auto)]
 

@@ -1,6 +1,17 @@
 //! The game of Go problems under Tromp-Taylor rules: histories of colourings with positional superko, legal turns, who
 //! has won, and how the main line of an SGF game tree becomes a record or a problem. Its tests stand in `tt_tests`:
 //! `record_tests`, `problem_tests` and `turn_tests`.
+//!
+//! | Module | What it has |
+//! |---|---|
+//! | `nodes`, `reading` | what the properties of a node say, and which of them can't be read |
+//! | `records`, `problems` | what a main line comes to: a record, a problem |
+//! | `faults`, `least_points` | why a turn or a main line is refused, and where |
+//! | `frame`, `line` | what a problem fixes; `Line`, a problem and its game so far |
+//! | `game`, `history` | a game without a region; the boards so far, superko |
+//! | `turns`, `plays` | the legal turns as a list; all plays one after the other, `MoveGenerator` |
+//! | `keys` | `Key` of a position, for tables |
+//! | `laws` | facts about the definitions |
 
 #![tactic(auto)]
 

@@ -1,4 +1,15 @@
 //! Strategy trees, their exact replay, proofs that win with their footprints, and certificates. Their tests stand in `tt_tests`: `proof_tests`.
+//!
+//! | Module | What it has |
+//! |---|---|
+//! | `tree`, `tree_builders`, `measures`, `measured_tree` | `Tree`, a strategy; its depth and number of nodes |
+//! | `replays` | whether a tree wins at a line |
+//! | `footprints`, `position_footprint` | on which boards of the history that rests |
+//! | `board_set`, `board_set_bounds` | sets of boards, which share them |
+//! | `proven`, `life_proof` | `Proof`: a tree that wins. `LifeProof`: one that may end at life |
+//! | `certificate_read`, `certificate_write` | a tree as text |
+//! | `outlines`, `outline_read`, `outline_write`, `outline_replay` | a tree with shared parts, as text and back; its replay |
+//! | `laws` | facts about trees and certificates |
 #![tactic(auto)]
 
 mod board_set;

@@ -6,6 +6,18 @@
 //! wins there, since it fits or by replay.
 //!
 //! Its tests stand in `tt_tests`: `search_tests`, `trace_tests`, `store_tests` and `grants_tests`.
+//!
+//! | Module | What it has |
+//! |---|---|
+//! | `search` | `Search`: a search within limits from one `Line` |
+//! | `limits` | a search's budget and depth, and what a step returns |
+//! | `grants` | the permission that a search asks for before it expands a node |
+//! | `growing` | a step: one leaf is expanded or closed, and the numbers above it are updated |
+//! | `descent` | what a step knows on its way from the root to a leaf |
+//! | `tree` | the search tree |
+//! | `leaves` | makes, expands and closes leaves |
+//! | `settled`, `footprints` | the strategy, proof and footprint of a settled node |
+//! | `store` | the trait `Store`. In its folder: `private`, a store for one thread; `key_index`, an index of proofs by key; `usable_proofs`, the proofs usable at a `Line` |
 
 #![tactic(auto)]
 

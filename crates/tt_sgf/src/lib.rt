@@ -4,8 +4,7 @@
 //! |---|---|
 //! | `trees` | `read_tree` and `has_tree`: from bytes to the nodes of the main line |
 //! | `properties`, `tokens` | what a node is made of |
-//! | `nodes`, `items` | `MainLine`, `Node`, `Property`, and the list that they are made of |
-//! | `small_bytes`, `values` | `SmallBytes` and `Values`: names and values, of which a few take no memory |
+//! | `nodes` | `MainLine`, `Node`, `Property`; in its folder the list that they are made of, names and values, of which a few take no memory |
 //! | `value_kinds` | `number`, `point` and `board_size`: what one value says |
 //! | `point_lists` | `point_set`: what the values of a point list say together |
 //! | `size`, `sets`, `bits` | `Size`, `Point`, `PointOrPass`, `PointSet`, and the `Bits` that it is made of |

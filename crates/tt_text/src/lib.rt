@@ -1,4 +1,12 @@
 //! The text on a game tree: what is said of a record, of a problem, of a certificate.
+//!
+//! | Module | What it has |
+//! |---|---|
+//! | `options` | how a problem is to be solved |
+//! | `solving` | solves a tree's problem |
+//! | `checking` | what is found on a certificate |
+//! | `verdict`, `outcome` | the text of a verdict; the lines of a tree |
+//! | `laws` | what the lines say of the definitions |
 
 #![tactic(auto)]
 
