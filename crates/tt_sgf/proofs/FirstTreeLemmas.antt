@@ -24,7 +24,7 @@ has_open-there [] r = refl
 has_open-there (x ∷ xs) r = elim (eqb x open_tree) as (λ b. (b || has_open (xs ++ (open_tree ∷ r))) ≡ true) [ true ↦ refl | false ↦ has_open-there xs r ]
 
 -- an `or` is false only where both sides are
-or_false : (a b : Bool) → (a || b) ≡ false → (a ≡ false) × (b ≡ false)
+pub or_false : (a b : Bool) → (a || b) ≡ false → (a ≡ false) × (b ≡ false)
 or_false true b h = absurd cc
 or_false false b h = (refl, h)
 

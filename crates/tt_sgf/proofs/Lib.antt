@@ -12,3 +12,4 @@ pub mod SizeLemmas
 pub mod BitLemmas
 pub mod ShiftLemmas
 pub mod EntryLemmas
+pub mod PlaceLemmas

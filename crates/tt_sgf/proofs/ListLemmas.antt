@@ -50,7 +50,7 @@ pub record IsValuesAt (bytes : List ℕ) (vs : List (List ℕ)) (r : List ℕ) :
 IsValuesAt-moved : (bytes : List ℕ) (vs us : List (List ℕ)) (r s : List ℕ) → us ≡ vs → s ≡ r → IsValuesAt bytes us s → IsValuesAt bytes vs r
 IsValuesAt-moved bytes vs us r s e f h = rw (← e, ← f) h
 
-four : (w v t r : List ℕ) → w ++ (open_value ∷ (v ++ (close_value ∷ (t ++ r)))) ≡ (w ++ (open_value ∷ (v ++ (close_value ∷ t)))) ++ r
+pub four : (w v t r : List ℕ) → w ++ (open_value ∷ (v ++ (close_value ∷ (t ++ r)))) ≡ (w ++ (open_value ∷ (v ++ (close_value ∷ t)))) ++ r
 four w v t r = simp append_assoc
 
 -- values that were read are the values of a text in the grammar, and no value follows

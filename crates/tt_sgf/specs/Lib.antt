@@ -7,6 +7,7 @@ pub mod Points
 pub mod PointLists
 pub mod MachineWords
 pub mod Faults
+pub mod Stops
 -- What crates above cite: laws of the definitions, with their proofs. Nobody has to believe these.
 pub mod laws
 -- What private contracts and proofs cite. Nobody has to believe these.

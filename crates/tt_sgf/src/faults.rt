@@ -27,6 +27,19 @@ impl SgfFault {
             SgfFault::NoMemory => 40,
         }
     }
+
+    /// Why there is no main line, and how to go on, in English words. No newline ends them.
+    pub fn reason(&self) -> &'static [u8] {
+        match self {
+            SgfFault::Syntax => {
+                b"no game tree can be read: a bracket is missing, or the ] of a value"
+            }
+            SgfFault::TooLong => {
+                b"the input has more than 1,048,576 bytes: give each problem a file of its own"
+            }
+            SgfFault::NoMemory => b"memory was refused",
+        }
+    }
 }
 
 impl From<AllocError> for SgfFault {

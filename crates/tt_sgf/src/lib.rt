@@ -8,6 +8,7 @@
 //! | `value_kinds` | `number`, `point` and `board_size`: what one value says |
 //! | `point_lists` | `point_set`: what the values of a point list say together |
 //! | `size`, `sets`, `bits` | `Size`, `Point`, `PointOrPass`, `PointSet`, and the `Bits` that it is made of |
+//! | `stops` | `stopping_byte`: where reading stopped |
 //! | `faults` | `SgfFault`, `BadPoint`, `NoMemory` |
 //! | `laws` | one tree a text, and one reading of the bytes |
 //!
@@ -22,6 +23,7 @@ mod point_lists;
 mod properties;
 mod sets;
 mod size;
+mod stops;
 mod tokens;
 mod trees;
 mod value_kinds;
@@ -35,6 +37,7 @@ pub use nodes::{MainLine, Node, Property};
 pub use point_lists::point_set;
 pub use sets::PointSet;
 pub use size::{MOST_POINTS, MOST_SIDE, Point, PointOrPass, Size};
+pub use stops::stopping_byte;
 pub use tokens::skip_blanks;
 pub use trees::{MAX_BYTES, has_tree, read_tree};
 pub use value_kinds::{board_size, number, point, trim};

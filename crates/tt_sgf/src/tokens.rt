@@ -19,7 +19,7 @@ pub(crate) fn is_blank(b: u8) -> bool
 }
 
 #[tactic(auto, unfolding(crate::specs::Grammar::is_upper))]
-fn is_upper(b: u8) -> bool
+pub(crate) fn is_upper(b: u8) -> bool
     ensures { result ≡ is_upper b }
 {
     b >= b'A' && b <= b'Z'
