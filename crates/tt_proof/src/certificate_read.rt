@@ -4,6 +4,7 @@ ghost use Rattle.std.specs.Prelude.{◌≡◌, ◌<◌, ◌≤◌, ◌+◌, ◌/
 ghost use Rattle.tt_sgf.specs.Bytes.{lower_a, semicolon};
 ghost use Rattle.tt_sgf.specs.Sizes.{point_count};
 ghost use Rattle.tt_sgf.specs.declared.size.TheConstants.{MOST_POINTS};
+ghost use Rattle.tt_game.specs.declared.frame.Side.{Side};
 ghost use Rattle.tt_game.specs.declared.turns.Turn.{Turn};
 ghost use Rattle.tt_proof.specs.Strategy.{strategy_of, entries_of_reply, turn_number_on_size, IsTurnOnBoardOfSize};
 ghost use Rattle.tt_proof.specs.CertificateText.{pick_symbol, replies_symbol, turn_text, side_prefix, IsCertificate, IsTooDeep};
@@ -11,10 +12,10 @@ ghost use Rattle.tt_proof.specs.inside.CertificateReading.{TreeAt, EntriesAt, Fa
 ghost use Rattle.tt_proof.specs.CertificateFaults.{IsCertFault, code_of};
 
 use crate::tree::{MOST_DEPTH, Tree};
-use std::alloc::Global;
+use std::alloc::{AllocFailed, Global};
 use std::sync::Arc;
 use tt_game::{Side, Turn};
-use tt_sgf::{Point, Size};
+use tt_sgf::{NoMemory, Point, Size};
 
 /// Why bytes are not a certificate.
 #[derive(Clone, Copy, Debug, PartialEq, Eq)]
@@ -38,6 +39,37 @@ impl CertFault {
             CertFault::NoMemory => 40,
         }
     }
+
+    /// Why bytes are not a certificate, in English words. No newline ends them.
+    pub fn reason(&self) -> &'static [u8] {
+        match *self {
+            CertFault::Syntax => {
+                b"the text is no certificate: a wrong symbol, turns out of order, a point off the board, or text after the end"
+            }
+            CertFault::TooDeep => b"the certificate goes deeper than 512 turns",
+            CertFault::NoMemory => b"memory was refused",
+        }
+    }
+}
+
+impl From<NoMemory> for CertFault {
+    ghost use Rattle.tt_proof.specs.declared.certificate_read.CertFault.TheVariants as faults;
+
+    ghost from_gives = { λ _ e. e ≡ faults.NoMemory };
+
+    fn from(_: NoMemory) -> CertFault {
+        CertFault::NoMemory
+    }
+}
+
+impl<T: Drop> From<AllocFailed<T>> for CertFault {
+    ghost use Rattle.tt_proof.specs.declared.certificate_read.CertFault.TheVariants as faults;
+
+    ghost from_gives = { λ _ e. e ≡ faults.NoMemory };
+
+    fn from(_: AllocFailed<T>) -> CertFault {
+        CertFault::NoMemory
+    }
 }
 
 /// The number of a letter below `end`, where `a` has 0.
@@ -58,13 +90,13 @@ fn read_point(first: u8, second: u8, size: Size) -> Option<Point>
         ((p : ℕ) → p < point_count size → first ≡ lower_a + p % size.columns → second ≡ lower_a + p / size.columns → ⊥)
         (λ p. (p < point_count size) × (first ≡ lower_a + p % size.columns) × (second ≡ lower_a + p / size.columns)) }
 {
-    match letter_index(first, size.columns()) {
-        None => None,
-        Some(column) => match letter_index(second, size.rows()) {
-            None => None,
-            Some(row) => size.point(row * size.columns() + column),
-        },
-    }
+    let Some(column) = letter_index(first, size.columns()) else {
+        return None;
+    };
+    let Some(row) = letter_index(second, size.rows()) else {
+        return None;
+    };
+    size.point(row * size.columns() + column)
 }
 
 /// The turn at the front of the bytes, its number, and what follows.
@@ -78,19 +110,17 @@ pub(crate) fn read_turn(bytes: &[u8], size: Size) -> Option<(Turn, u16, &[u8])>
     if *first == b'-' && *second == b'-' {
         return Some((Turn::Pass, size.point_count() as u16, rest));
     }
-    match read_point(*first, *second, size) {
-        None => None,
-        Some(p) => Some((Turn::Play(p), p.number(), rest)),
-    }
+    let p = read_point(*first, *second, size)?;
+    Some((Turn::Play(p), p.number(), rest))
 }
 
 /// What follows the end of a reply, where that is at the front of the bytes.
 pub(crate) fn strip_reply_end(bytes: &[u8]) -> Option<&[u8]>
     ensures { MatchOption result ((y : List ℕ) → bytes.now ≡ semicolon ∷ y → ⊥) (λ r. bytes.now ≡ semicolon ∷ r.now) }
 {
-    match bytes.split_first() {
-        None => None,
-        Some((first, rest)) => if *first == b';' { Some(rest) } else { None },
+    match bytes {
+        [b';', rest @ ..] => Some(rest),
+        _ => None,
     }
 }
 
@@ -126,21 +156,14 @@ fn read_pick(alloc: Global, bytes: &[u8], size: Size, left: u16) -> Result<(Tree
     ensures { MatchResult result (λ r. TreeAt size left (strategy_of r.0) (pick_symbol ∷ bytes.now) r.1.now)
         (λ e. FaultAt size left (pick_symbol ∷ bytes.now) e) }
 {
-    match read_turn(bytes, size) {
-        None => Err(CertFault::Syntax),
-        Some((turn, _, after)) => {
-            if left == 0 {
-                return Err(CertFault::TooDeep);
-            }
-            match read_strategy(alloc, after, size, left - 1) {
-                Err(fault) => Err(fault),
-                Ok((child, rest)) => match Tree::pick(alloc, turn, child) {
-                    Ok(tree) => Ok((tree, rest)),
-                    Err(_) => Err(CertFault::NoMemory),
-                },
-            }
-        }
+    let Some((turn, _, after)) = read_turn(bytes, size) else {
+        return Err(CertFault::Syntax);
+    };
+    if left == 0 {
+        return Err(CertFault::TooDeep);
     }
+    let (child, rest) = read_strategy(alloc, after, size, left - 1)?;
+    Ok((Tree::pick(alloc, turn, child)?, rest))
 }
 
 #[cycle(read)]
@@ -153,13 +176,8 @@ fn read_reply(
     ensures { MatchResult result (λ r. TreeAt size left (strategy_of r.0) (replies_symbol ∷ bytes.now) r.1.now)
         (λ e. FaultAt size left (replies_symbol ∷ bytes.now) e) }
 {
-    match read_entries(alloc, bytes, size, left) {
-        Err(fault) => Err(fault),
-        Ok((list, rest)) => match Arc::new(alloc, list) {
-            Ok(list) => Ok((Tree::Reply(list), rest)),
-            Err(_) => Err(CertFault::NoMemory),
-        },
-    }
+    let (entries, rest) = read_entries(alloc, bytes, size, left)?;
+    Ok((Tree::Reply(Arc::new(alloc, entries)?), rest))
 }
 
 /// The entries up to the end of a reply, and what follows.
@@ -177,39 +195,42 @@ fn read_entries(
     let mut now = bytes;
     let mut least = 0;
     loop {
-        match strip_reply_end(now) {
-            Some(rest) => return Ok((list, rest)),
-            None => match read_turn(now, size) {
-                None => return Err(CertFault::Syntax),
-                Some((turn, number, middle)) => {
-                    if number < least {
-                        return Err(CertFault::Syntax);
-                    }
-                    if left == 0 {
-                        return Err(CertFault::TooDeep);
-                    }
-                    match read_strategy(alloc, middle, size, left - 1) {
-                        Err(fault) => return Err(fault),
-                        Ok((tree, after)) => {
-                            if list.push((turn, tree)).is_err() {
-                                return Err(CertFault::NoMemory);
-                            }
-                            least = number + 1;
-                            now = after;
-                        }
-                    }
-                }
-            },
+        if let Some(rest) = strip_reply_end(now) {
+            return Ok((list, rest));
         }
+        let Some((turn, number, middle)) = read_turn(now, size) else {
+            return Err(CertFault::Syntax);
+        };
+        if number < least {
+            return Err(CertFault::Syntax);
+        }
+        if left == 0 {
+            return Err(CertFault::TooDeep);
+        }
+        let (tree, after) = read_strategy(alloc, middle, size, left - 1)?;
+        list.push((turn, tree))?;
+        least = number + 1;
+        now = after;
     }
 }
 
 /// What follows the side's word, where that is at the front of the bytes.
-pub(crate) fn strip_side_prefix(bytes: &[u8], s: Side) -> Option<&[u8]>
+fn strip_side_prefix(bytes: &[u8], s: Side) -> Option<&[u8]>
     ensures { MatchOption result ((y : List ℕ) → bytes.now ≡ side_prefix s ++ y → ⊥) (λ r. bytes.now ≡ side_prefix s ++ r.now) }
 {
     let blank = bytes.strip_prefix(s.verdict_word())?;
     blank.strip_prefix(b" ".as_slice())
+}
+
+/// The side whose word is at the front of the bytes, and what follows.
+pub(crate) fn split_side(bytes: &[u8]) -> Option<(Side, &[u8])>
+    ensures { MatchOption result ((s : Side) (y : List ℕ) → bytes.now ≡ side_prefix s ++ y → ⊥) (λ r. bytes.now ≡ side_prefix r.0 ++ r.1.now) }
+{
+    if let Some(rest) = strip_side_prefix(bytes, Side::Attacker) {
+        return Some((Side::Attacker, rest));
+    }
+    let rest = strip_side_prefix(bytes, Side::Defender)?;
+    Some((Side::Defender, rest))
 }
 
 /// The side and the tree that the bytes spell, where `rest` follows the side's word.
@@ -225,14 +246,11 @@ fn read_cert_for_side(
         (λ r. IsCertificate size bytes.now r.0 (strategy_of r.1) × (IsTooDeep size bytes.now → ⊥))
         (λ e. IsCertFault size bytes.now e) }
 {
-    match read_strategy(alloc, rest, size, MOST_DEPTH) {
-        Err(fault) => Err(fault),
-        Ok((tree, more)) => {
-            if more.is_empty() {
-                return Ok((s, tree));
-            }
-            Err(CertFault::Syntax)
-        }
+    let (tree, more) = read_strategy(alloc, rest, size, MOST_DEPTH)?;
+    if more.is_empty() {
+        Ok((s, tree))
+    } else {
+        Err(CertFault::Syntax)
     }
 }
 
@@ -243,11 +261,8 @@ pub fn read_cert(alloc: Global, bytes: &[u8], size: Size) -> Result<(Side, Tree)
         (λ r. IsCertificate size bytes.now r.0 (strategy_of r.1) × (IsTooDeep size bytes.now → ⊥))
         (λ e. IsCertFault size bytes.now e) }
 {
-    match strip_side_prefix(bytes, Side::Attacker) {
-        Some(rest) => read_cert_for_side(alloc, bytes, rest, Side::Attacker, size),
-        None => match strip_side_prefix(bytes, Side::Defender) {
-            Some(rest) => read_cert_for_side(alloc, bytes, rest, Side::Defender, size),
-            None => Err(CertFault::Syntax),
-        },
-    }
+    let Some((side, rest)) = split_side(bytes) else {
+        return Err(CertFault::Syntax);
+    };
+    read_cert_for_side(alloc, bytes, rest, side, size)
 }

@@ -9,7 +9,7 @@ ghost use Rattle.tt_proof.specs.Outlines.{IsSharedCertificate, outline_of, unfol
 ghost use Rattle.tt_proof.specs.CertificateFaults.{IsSharedCertFault};
 ghost use Rattle.tt_proof.specs.inside.OutlineReading.{HasNoDigitInFront, DigitsAt, ReadsOutline, ReadsBranches, OutlineFaultAt, BranchesFaultAt, with_depth};
 
-use crate::certificate_read::{CertFault, read_turn, strip_reply_end, strip_side_prefix};
+use crate::certificate_read::{CertFault, read_turn, split_side, strip_reply_end};
 use crate::outlines::Outline;
 use crate::tree::MOST_DEPTH;
 use std::alloc::Global;
@@ -76,18 +76,16 @@ fn read_part_reference<'a>(
         (λ r. ReadsOutline size left depths.now.items depths.now.items (outline_of r.0) r.1 (part_symbol ∷ bytes.now) r.2.now)
         (λ e. OutlineFaultAt size left depths.now.items (part_symbol ∷ bytes.now) e) }
 {
-    match read_name(bytes) {
-        None => Err(CertFault::Syntax),
-        Some((number, rest)) => match depths.get(number) {
-            None => Err(CertFault::Syntax),
-            Some(depth) => {
-                if *depth > left {
-                    return Err(CertFault::TooDeep);
-                }
-                Ok((Outline::Part(number), *depth, rest))
-            }
-        },
+    let Some((number, rest)) = read_name(bytes) else {
+        return Err(CertFault::Syntax);
+    };
+    let Some(depth) = depths.get(number) else {
+        return Err(CertFault::Syntax);
+    };
+    if *depth > left {
+        return Err(CertFault::TooDeep);
     }
+    Ok((Outline::Part(number), *depth, rest))
 }
 
 /// The outline at the front of the bytes, the depth of its tree, which is at most `left`, and what follows. `depths` are those of the
@@ -167,24 +165,16 @@ fn read_pick<'a>(
         (λ r. ReadsOutline size left depths.old.items depths.new.items (outline_of r.0) r.1 (naming_text named ++ (pick_symbol ∷ bytes.now)) r.2.now)
         (λ e. OutlineFaultAt size left depths.old.items (naming_text named ++ (pick_symbol ∷ bytes.now)) e) }
 {
-    match read_turn(bytes, size) {
-        None => Err(CertFault::Syntax),
-        Some((turn, _, after)) => {
-            if left == 0 {
-                return Err(CertFault::TooDeep);
-            }
-            match read_outline(alloc, after, size, left - 1, depths) {
-                Err(fault) => Err(fault),
-                Ok((child, depth, rest)) => match Outline::pick(alloc, named, turn, child) {
-                    Err(_) => Err(CertFault::NoMemory),
-                    Ok(outline) => match put_depth_if_named(depths, named, depth + 1) {
-                        Err(_) => Err(CertFault::NoMemory),
-                        Ok(()) => Ok((outline, depth + 1, rest)),
-                    },
-                },
-            }
-        }
+    let Some((turn, _, after)) = read_turn(bytes, size) else {
+        return Err(CertFault::Syntax);
+    };
+    if left == 0 {
+        return Err(CertFault::TooDeep);
     }
+    let (child, depth, rest) = read_outline(alloc, after, size, left - 1, depths)?;
+    let outline = Outline::pick(alloc, named, turn, child)?;
+    put_depth_if_named(depths, named, depth + 1)?;
+    Ok((outline, depth + 1, rest))
 }
 
 #[cycle(outline)]
@@ -200,16 +190,10 @@ fn read_reply<'a>(
         (λ r. ReadsOutline size left depths.old.items depths.new.items (outline_of r.0) r.1 (naming_text named ++ (replies_symbol ∷ bytes.now)) r.2.now)
         (λ e. OutlineFaultAt size left depths.old.items (naming_text named ++ (replies_symbol ∷ bytes.now)) e) }
 {
-    match read_branches(alloc, bytes, size, left, depths) {
-        Err(fault) => Err(fault),
-        Ok((list, depth, rest)) => match Outline::reply(alloc, named, list) {
-            Err(_) => Err(CertFault::NoMemory),
-            Ok(outline) => match put_depth_if_named(depths, named, depth) {
-                Err(_) => Err(CertFault::NoMemory),
-                Ok(()) => Ok((outline, depth, rest)),
-            },
-        },
-    }
+    let (branches, depth, rest) = read_branches(alloc, bytes, size, left, depths)?;
+    let outline = Outline::reply(alloc, named, branches)?;
+    put_depth_if_named(depths, named, depth)?;
+    Ok((outline, depth, rest))
 }
 
 /// The branches up to the end of a reply, the depth of the reply, and what follows.
@@ -230,31 +214,23 @@ fn read_branches<'a>(
     let mut least = 0;
     let mut most = 0u16;
     loop {
-        match strip_reply_end(now) {
-            Some(rest) => return Ok((list, most, rest)),
-            None => match read_turn(now, size) {
-                None => return Err(CertFault::Syntax),
-                Some((turn, number, middle)) => {
-                    if number < least {
-                        return Err(CertFault::Syntax);
-                    }
-                    if left == 0 {
-                        return Err(CertFault::TooDeep);
-                    }
-                    match read_outline(alloc, middle, size, left - 1, depths) {
-                        Err(fault) => return Err(fault),
-                        Ok((outline, depth, after)) => {
-                            if list.push((turn, outline)).is_err() {
-                                return Err(CertFault::NoMemory);
-                            }
-                            most = most.max(depth + 1);
-                            least = number + 1;
-                            now = after;
-                        }
-                    }
-                }
-            },
+        if let Some(rest) = strip_reply_end(now) {
+            return Ok((list, most, rest));
         }
+        let Some((turn, number, middle)) = read_turn(now, size) else {
+            return Err(CertFault::Syntax);
+        };
+        if number < least {
+            return Err(CertFault::Syntax);
+        }
+        if left == 0 {
+            return Err(CertFault::TooDeep);
+        }
+        let (outline, depth, after) = read_outline(alloc, middle, size, left - 1, depths)?;
+        list.push((turn, outline))?;
+        most = most.max(depth + 1);
+        least = number + 1;
+        now = after;
     }
 }
 
@@ -274,14 +250,11 @@ fn read_shared_cert_for_side(
     ensures fault { IfErr result (λ e. IsSharedCertFault size most_depth bytes.now e) }
 {
     let mut depths = Vec::new(alloc);
-    match read_outline(alloc, rest, size, most_depth, &mut depths) {
-        Err(fault) => Err(fault),
-        Ok((outline, _, more)) => {
-            if more.is_empty() {
-                return Ok((s, outline));
-            }
-            Err(CertFault::Syntax)
-        }
+    let (outline, _, more) = read_outline(alloc, rest, size, most_depth, &mut depths)?;
+    if more.is_empty() {
+        Ok((s, outline))
+    } else {
+        Err(CertFault::Syntax)
     }
 }
 
@@ -297,27 +270,10 @@ pub(crate) fn read_shared_cert_to_depth(
     ensures shallow { IfOk result (λ r. depth (unfolded [] (outline_of r.1)) ≤ most_depth) }
     ensures fault { IfErr result (λ e. IsSharedCertFault size most_depth bytes.now e) }
 {
-    match strip_side_prefix(bytes, Side::Attacker) {
-        Some(rest) => read_shared_cert_for_side(
-            alloc,
-            bytes,
-            rest,
-            Side::Attacker,
-            size,
-            most_depth,
-        ),
-        None => match strip_side_prefix(bytes, Side::Defender) {
-            Some(rest) => read_shared_cert_for_side(
-                alloc,
-                bytes,
-                rest,
-                Side::Defender,
-                size,
-                most_depth,
-            ),
-            None => Err(CertFault::Syntax),
-        },
-    }
+    let Some((side, rest)) = split_side(bytes) else {
+        return Err(CertFault::Syntax);
+    };
+    read_shared_cert_for_side(alloc, bytes, rest, side, size, most_depth)
 }
 
 /// The side and the outline that the bytes are the certificate of, on a board of this size.

@@ -24,17 +24,17 @@ each_option : {A : Type 0} (r : Option A) (N N' : Type 0) (P P' : A → Type 0) 
 each_option None N N' P P' n p h = n h
 each_option (Some x) N N' P P' n p h = p x h
 
-pub returns-in-None : goal.returns-in-None
-returns-in-None c = λ p lt a b. c.in-None.ensures (p % c.args.size.columns) (omega (arith, c.args.size.columns_in.0)) a
+pub returns-in_default : goal.returns-in_default
+returns-in_default c = λ p lt a b. c.in_default.ensures (p % c.args.size.columns) (omega (arith, c.args.size.columns_in.0)) a
 
-pub returns-in-None-letter_index : goal.returns-in-None-letter_index
-returns-in-None-letter_index c =
-    λ p lt a b. c.in-None-letter_index.ensures (p / c.args.size.columns)
+pub returns-in_default-letter_index : goal.returns-in_default-letter_index
+returns-in_default-letter_index c =
+    λ p lt a b. c.in_default-letter_index.ensures (p / c.args.size.columns)
     (rw c.rows.ensures (row_below p c.args.size.columns c.args.size.rows c.args.size.columns_in.0 lt)) b
 
-pub returns-in-Some-letter_index : goal.returns-in-Some-letter_index
-returns-in-Some-letter_index c =
-    let columns = c.columns-in-Some-letter_index.ensures in
+pub returns : goal.returns
+returns c =
+    let columns = c.columns-2.ensures in
     let column : c.in-Some.column < c.args.size.columns = rw c.columns.ensures at c.in-Some.ensures.0 in
     let row : c.in-Some-letter_index.row < c.args.size.rows = rw c.rows.ensures at c.in-Some-letter_index.ensures.0 in
     let within = inside c.args.size.columns c.args.size.rows c.in-Some.column c.in-Some-letter_index.row column row in

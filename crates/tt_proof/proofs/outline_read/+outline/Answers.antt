@@ -7,6 +7,7 @@ use Rattle.tt_proof.proofs.TextLemmas.{heads}
 use Rattle.tt_proof.proofs.OutlineLemmas.{outline_of_done}
 use Rattle.tt_proof.proofs.OutlineReadLemmas.{reads_done, walked_more, walked_end}
 use Rattle.tt_proof.proofs.OutlineFaultLemmas.{no_outline, no_named, no_turn, no_room, pick_fault, reply_fault, no_branches, not_rising, no_room_below, branch_fault, walked_fault}
+use Rattle.std.proofs.lemmas.Result.{err_from_is_err_and}
 use Rattle.tt_proof.proofs.outline_read.+outline.Goals as goal
 
 pub read_outline-returns-then-first-eq46 : goal.read_outline-returns-then-first-eq46
@@ -24,14 +25,14 @@ pub read_branches-loop-rest-preserved : goal.read_branches-loop-rest-preserved
 read_branches-loop-rest-preserved t c =
     let turn = c.in-Some-read_turn in
     let here = turn.ensures in
-    let read = c.in-Ok.ensures in
+    let read = c.in_ok-outline.ensures in
     let low = read.shallow in
-    let items : c.push.new.self.items ≡ c.loop-rest.list.items ++ ((turn.turn, c.in-Ok.outline) ∷ []) = search rules in
-    let deeper : c.max-most.result ≡ max c.loop-rest.most (c.in-Ok.depth + 1) = search rules in
+    let items : c.push.new.self.items ≡ c.loop-rest.list.items ++ ((turn.turn, c.in_ok-outline.outline) ∷ []) = search rules in
+    let deeper : c.max-most.result ≡ max c.loop-rest.most (c.in_ok-outline.depth + 1) = search rules in
     record {
       walked = λ us h.
           walked_more c.args.size us c.loop-rest.least turn.number c.args.left (c.args.left - 1) c.args.bytes.now c.loop-rest.now.now turn.middle.now
-          c.in-Ok.after.now c.loop-rest.list.items c.push.new.self.items turn.turn c.in-Ok.outline c.loop-rest.most c.max-most.result c.in-Ok.depth
+          c.in_ok-outline.after.now c.loop-rest.list.items c.push.new.self.items turn.turn c.in_ok-outline.outline c.loop-rest.most c.max-most.result c.in_ok-outline.depth
           c.loop-rest.depths.items c.read_outline.new.depths.items (c.loop-rest.invariant.walked us h) c.if-number-least.false here.1 here.0 here.3 read items deeper;
       shallow = let some = c.if-left-eq0.false in omega (arith, low, deeper, some, c.loop-rest.invariant.shallow);
       small = omega (arith, here.2);
@@ -72,8 +73,8 @@ read_named_outline-returns-else-first-eq63 t c =
     (λ b y e. let same = heads (sym c.in-Some.ensures.cases.0 ∙ e) in
     (not_first _ b _ same c.if-first-eq33.false, not_first _ b _ same c.if-first-eq63.false))
 
-pub read_pick-returns-in-None : goal.read_pick-returns-in-None
-read_pick-returns-in-None t c = no_turn c.args.size c.args.named c.args.left c.args.depths.now.items c.args.bytes.now c.in-None.ensures
+pub read_pick-returns-in_default : goal.read_pick-returns-in_default
+read_pick-returns-in_default t c = no_turn c.args.size c.args.named c.args.left c.args.depths.now.items c.args.bytes.now c.in_default.ensures
 
 pub read_pick-returns-then-left-eq0 : goal.read_pick-returns-then-left-eq0
 read_pick-returns-then-left-eq0 t c =
@@ -81,22 +82,25 @@ read_pick-returns-then-left-eq0 t c =
     (sym c.if-left-eq0.true)
     (no_room c.args.size c.args.named c.args.depths.now.items c.in-Some.turn c.args.bytes.now c.in-Some.after.now c.in-Some.ensures.0 c.in-Some.ensures.3)
 
-pub read_pick-returns-in-Err : goal.read_pick-returns-in-Err
-read_pick-returns-in-Err t c =
-    subst (λ k. OutlineFaultAt c.args.size k c.args.depths.now.items (naming_text c.args.named ++ (pick_symbol ∷ c.args.bytes.now)) c.in-Err.fault)
+pub read_pick-returns-in_err-child : goal.read_pick-returns-in_err-child
+read_pick-returns-in_err-child t c =
+    let p = err_from_is_err_and c.from_residual.result c.from_residual.ensures.1 in
+    let fault = c.in_err-child.field-0.0 in
+    rw (p.1, p.2) (subst (λ k. OutlineFaultAt c.args.size k c.args.depths.now.items (naming_text c.args.named ++ (pick_symbol ∷ c.args.bytes.now)) fault)
     (sym (one_more c.args.left c.if-left-eq0.false))
-    (pick_fault c.args.size c.args.named (c.args.left - 1) c.args.depths.now.items c.in-Some.turn c.args.bytes.now c.in-Some.after.now c.in-Err.fault
-    c.in-Some.ensures.0 c.in-Some.ensures.3 c.in-Err.ensures)
+    (pick_fault c.args.size c.args.named (c.args.left - 1) c.args.depths.now.items c.in-Some.turn c.args.bytes.now c.in-Some.after.now fault
+    c.in-Some.ensures.0 c.in-Some.ensures.3 c.in_err-child.ensures))
 
-pub read_reply-returns-in-Err : goal.read_reply-returns-in-Err
-read_reply-returns-in-Err t c =
-    reply_fault c.args.size c.args.named c.args.left c.args.depths.now.items c.args.bytes.now c.in-Err.fault c.in-Err.ensures
+pub read_reply-returns-in_err-branches : goal.read_reply-returns-in_err-branches
+read_reply-returns-in_err-branches t c =
+    let p = err_from_is_err_and c.from_residual.result c.from_residual.ensures.1 in
+    rw (p.1, p.2) (reply_fault c.args.size c.args.named c.args.left c.args.depths.now.items c.args.bytes.now c.in_err-branches.field-0.0 c.in_err-branches.ensures)
 
-pub read_branches-returns-in-None-read_turn : goal.read_branches-returns-in-None-read_turn
-read_branches-returns-in-None-read_turn t c =
+pub read_branches-returns-in_default-read_turn : goal.read_branches-returns-in_default-read_turn
+read_branches-returns-in_default-read_turn t c =
     walked_fault c.args.size c.args.left c.loop-rest.least c.loop-rest.most c.args.depths.now.items c.loop-rest.depths.items c.args.bytes.now
     c.loop-rest.now.now c.loop-rest.list.items Syntax c.loop-rest.invariant.walked c.loop-rest.invariant.shallow
-    (no_branches c.args.size c.args.left c.loop-rest.depths.items c.loop-rest.least c.loop-rest.now.now c.in-None.ensures c.in-None-read_turn.ensures)
+    (no_branches c.args.size c.args.left c.loop-rest.depths.items c.loop-rest.least c.loop-rest.now.now c.in_default.ensures c.in_default-read_turn.ensures)
 
 pub read_branches-returns-then-number-least : goal.read_branches-returns-then-number-least
 read_branches-returns-then-number-least t c =
@@ -116,12 +120,14 @@ read_branches-returns-then-left-eq0 t c =
     (no_room_below c.args.size c.loop-rest.depths.items c.loop-rest.least c.loop-rest.now.now turn.middle.now turn.turn turn.ensures.3 turn.ensures.0
     (subst (λ n. c.loop-rest.least ≤ n) turn.ensures.1 c.if-number-least.false)))
 
-pub read_branches-returns-in-Err : goal.read_branches-returns-in-Err
-read_branches-returns-in-Err t c =
+pub read_branches-returns-in_err-outline : goal.read_branches-returns-in_err-outline
+read_branches-returns-in_err-outline t c =
     let turn = c.in-Some-read_turn in
-    walked_fault c.args.size c.args.left c.loop-rest.least c.loop-rest.most c.args.depths.now.items c.loop-rest.depths.items c.args.bytes.now
-    c.loop-rest.now.now c.loop-rest.list.items c.in-Err.fault c.loop-rest.invariant.walked c.loop-rest.invariant.shallow
-    (subst (λ k. BranchesFaultAt c.args.size k c.loop-rest.depths.items c.loop-rest.least c.loop-rest.now.now c.in-Err.fault)
+    let p = err_from_is_err_and c.from_residual.result c.from_residual.ensures.1 in
+    let fault = c.in_err-outline.field-0.0 in
+    rw (p.1, p.2) (walked_fault c.args.size c.args.left c.loop-rest.least c.loop-rest.most c.args.depths.now.items c.loop-rest.depths.items c.args.bytes.now
+    c.loop-rest.now.now c.loop-rest.list.items fault c.loop-rest.invariant.walked c.loop-rest.invariant.shallow
+    (subst (λ k. BranchesFaultAt c.args.size k c.loop-rest.depths.items c.loop-rest.least c.loop-rest.now.now fault)
     (sym (one_more c.args.left c.if-left-eq0.false))
     (branch_fault c.args.size c.loop-rest.depths.items c.loop-rest.least c.loop-rest.now.now turn.middle.now turn.turn turn.ensures.3
-    (c.args.left - 1) c.in-Err.fault turn.ensures.0 (subst (λ n. c.loop-rest.least ≤ n) turn.ensures.1 c.if-number-least.false) c.in-Err.ensures))
+    (c.args.left - 1) fault turn.ensures.0 (subst (λ n. c.loop-rest.least ≤ n) turn.ensures.1 c.if-number-least.false) c.in_err-outline.ensures)))

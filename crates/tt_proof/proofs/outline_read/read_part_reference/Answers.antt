@@ -4,11 +4,11 @@ use Rattle.tt_proof.proofs.OutlineReadLemmas.{reads_part}
 use Rattle.tt_proof.proofs.OutlineFaultLemmas.{no_name, name_ahead, name_deep}
 use Rattle.tt_proof.proofs.outline_read.read_part_reference.Goals as goal
 
-pub returns-in-None : goal.returns-in-None
-returns-in-None c = no_name c.args.size c.args.left c.args.depths.now.items c.args.bytes.now c.in-None.ensures
+pub returns-in_default : goal.returns-in_default
+returns-in_default c = no_name c.args.size c.args.left c.args.depths.now.items c.args.bytes.now c.in_default.ensures
 
-pub returns-in-None-get : goal.returns-in-None-get
-returns-in-None-get c =
+pub returns-in_default-get : goal.returns-in_default-get
+returns-in_default-get c =
     let name = c.in-Some in
     let ahead : length c.args.depths.now.items ≤ name.number = search rules in
     name_ahead c.args.size c.args.left c.args.depths.now.items c.args.bytes.now name.rest.now name.number name.ensures.0 name.ensures.1 name.ensures.2 ahead
@@ -22,8 +22,8 @@ returns-then-depth-left c =
     name_deep c.args.size c.args.left ds c.args.bytes.now name.rest.now name.number name.ensures.0 name.ensures.1 name.ensures.2
     c.in-Some-get.depth.now within stands c.if-depth-left.true
 
-pub returns-else-depth-left : goal.returns-else-depth-left
-returns-else-depth-left c =
+pub returns : goal.returns
+returns c =
     let name = c.in-Some in
     let ds = c.args.depths.now.items in
     let within : name.number < length ds = search rules in
