@@ -1,5 +1,6 @@
 -- The trees that the constructors make win.
-use Rattle.std.proofs.Common.{◌≡◌, ◌≤◌, ◌↔◌, ◌+◌, ◌++◌, ℕ, inl, inr, arith, None, List, [], ◌∷◌, Contains, refl, sym, ap, subst}
+use Rattle.std.proofs.Common.{◌≡◌, ◌∙◌, ◌≤◌, ◌↔◌, ◌+◌, ◌++◌, ℕ, inl, inr, arith, None, List, [], ◌∷◌, Contains, length, refl, sym, ap, subst}
+use Rattle.std.proofs.lemmas.List.{append-nil}
 use Rattle.tt_game.specs.Turns.{legal_turns}
 use Rattle.tt_game.specs.laws.TurnLaws.{RisesFrom, contains-legal_turns, legal_turn_is_on_board, legal_turns_rise_from_0}
 use Rattle.tt_game.specs.Game.{State, IsLegal, after, winner_of, opponent}
@@ -12,6 +13,7 @@ use Rattle.tt_proof.specs.declared.tree.TheConstants.{MOST_DEPTH}
 use Rattle.tt_proof.specs.EndRules.{EndRule, MayEnd}
 use Rattle.tt_proof.specs.ProofClaim.{ProofClaim, IsWinningTreeUnder, IsChild, AreReplyChildren, turns_of, trees_by_turn}
 use Rattle.tt_proof.specs.inside.Replaying.{HasEntry, LegalWin}
+use Rattle.tt_proof.specs.inside.WonChildren.{AllWon}
 use Rattle.tt_proof.specs.Strategy.{done, pick, reply, entries_of, depth_of_entries, AreInOrder, turn_number_on_size}
 use Rattle.tt_proof.proofs.WinsLemmas.{reply_wins}
 use Rattle.tt_game.specs.laws.Members.{IsIn, in_of_contains}
@@ -50,11 +52,6 @@ won_pick rule f f' s s' t p same_f same_s l h w =
 opponent_twice : (a : Side) → a ≡ opponent (opponent a)
 opponent_twice Attacker = refl
 opponent_twice Defender = refl
-
--- each child's tree wins for its side from its own state
-abbrev pub AllWon : EndRule → List (Turn × ProofClaim) → Type 0
-AllWon rule [] = Unit {0}
-AllWon rule (e ∷ es) = IsWinningTreeUnder rule e.1.side e.1.frame e.1.state e.1.tree × AllWon rule es
 
 module _ (rule : EndRule) (f : Frame) (s : State) where
   -- each child's tree that is won wins after its turn
@@ -113,3 +110,8 @@ all_won_push rule (x ∷ es) e h w = (h.0, all_won_push rule es e h.1 w)
 pub trees_of_push : (es : List (Turn × ProofClaim)) (e : Turn × ProofClaim) → trees_by_turn (es ++ e ∷ []) ≡ trees_by_turn es ++ ((e.0, e.1.tree) ∷ [])
 trees_of_push [] e = refl
 trees_of_push (x ∷ es) e = ap (λ r. (x.0, x.1.tree) ∷ r) (trees_of_push es e)
+
+-- what was taken is all where nothing is left
+pub at_end : {X : Type 0} (xs ys zs : List X) → xs ++ ys ≡ zs → length ys ≡ 0 → xs ≡ zs
+at_end xs [] zs e h = sym (append-nil xs) ∙ e
+at_end xs (y ∷ ys) zs e h = absurd (omega (arith, h))

@@ -1,6 +1,6 @@
 -- Strategy trees, footprints and proofs may cross threads and be shared. Trees hold trees, so they are taken layer by layer.
 use denote.RattleType.{RattleType}
-use denote.Struct.Field.{u16-field, u64-field}
+use denote.Struct.Field.{bool-field, u16-field, u64-field}
 use denote.Hole.FixSend.{Crosses, both_send, both_sync}
 use denote.Param.Send.{IsSend, IsSync, view_send, view_sync, sendable}
 use denote.Param.SendFields.{as_row_send, as_row_sync, declared_send, declared_sync}
@@ -17,6 +17,8 @@ use Rattle.tt_proof.specs.contracts.measured_tree.MeasuredTree as MeasuredTree
 use Rattle.tt_proof.specs.contracts.measured_tree.MeasuredTree.TheInside as Planned
 use Rattle.tt_proof.specs.contracts.board_set.BoardSet as BoardSet
 use Rattle.tt_proof.specs.contracts.footprints.Footprint as Footprint
+use Rattle.tt_proof.specs.contracts.life_proof.LifeProof as LifeProof
+use Rattle.tt_proof.specs.contracts.life_proof.LifeProof.TheInside as LifeInside
 use Rattle.tt_proof.specs.contracts.proven.Proof as Proof
 use Rattle.tt_proof.specs.contracts.proven.Proof.TheInside as Inside
 
@@ -68,11 +70,31 @@ footprint_send = search (sendable, crosses, boards_send) depth 40
 pub footprint_sync : IsSync Footprint.the_row
 footprint_sync = search (sendable, crosses, boards_sync) depth 40
 
+life_proof_send : IsSend LifeProof.the_row
+life_proof_send =
+    view_send _ _ _ _ _ (declared_send LifeInside.the_type (
+      as_row_send Snapshot.the_field snapshot_send,
+      (
+        side_send,
+        (as_row_send MeasuredTree.the_field measured_tree_send, (footprint_send, (as_row_send bool-field (search sendable depth 20), tt))),
+      ),
+    ))
+
+life_proof_sync : IsSync LifeProof.the_row
+life_proof_sync =
+    view_sync _ _ _ _ _ (declared_sync LifeInside.the_type (
+      as_row_sync Snapshot.the_field snapshot_sync,
+      (
+        side_sync,
+        (as_row_sync MeasuredTree.the_field measured_tree_sync, (footprint_sync, (as_row_sync bool-field (search sendable depth 20), tt))),
+      ),
+    ))
+
 pub proof_send : IsSend Proof.the_row
-proof_send = view_send _ _ _ _ _ (declared_send Inside.the_type (as_row_send Snapshot.the_field snapshot_send, (side_send, (as_row_send MeasuredTree.the_field measured_tree_send, (footprint_send, tt)))))
+proof_send = view_send _ _ _ _ _ (declared_send Inside.the_type (as_row_send LifeProof.the_field life_proof_send, tt))
 
 pub proof_sync : IsSync Proof.the_row
-proof_sync = view_sync _ _ _ _ _ (declared_sync Inside.the_type (as_row_sync Snapshot.the_field snapshot_sync, (side_sync, (as_row_sync MeasuredTree.the_field measured_tree_sync, (footprint_sync, tt)))))
+proof_sync = view_sync _ _ _ _ _ (declared_sync Inside.the_type (as_row_sync LifeProof.the_field life_proof_sync, tt))
 
 -- so are proofs held through a handle
 pub shared_send : IsSend (Arc.the_row Proof.the_row Global.the_row ghosts)

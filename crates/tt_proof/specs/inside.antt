@@ -4,3 +4,4 @@ pub mod Collecting
 pub mod CertificateReading
 pub mod OutlineReading
 pub mod OutlineReplaying
+pub mod WonChildren

@@ -1,28 +1,30 @@
 //! Proofs whose trees, if they are the defender's, may also end at life: where the attacker is to move and the targets are
 //! unconditionally alive.
 
-ghost use Rattle.std.specs.Prelude.{◌≡◌, ◌≢◌, ◌≤◌, ◌↔◌, IfOk, IfSome, IsTrue, None, Ok};
-ghost use Rattle.tt_game.specs.Game.{winner_of, opponent, IsLegal};
+ghost use Rattle.std.specs.Prelude.{◌≡◌, ◌≢◌, ◌≤◌, ◌↔◌, All, Contains, IfOk, IfSome, IsTrue, None};
+ghost use Rattle.tt_game.specs.Game.{winner_of, opponent, history, IsLegal};
 ghost use Rattle.tt_game.specs.Turns.{legal_turns};
 ghost use Rattle.tt_game.specs.Keys.{key_of};
 ghost use Rattle.tt_game.specs.KeyHash.{hash_of_key};
 ghost use Rattle.tt_game.specs.declared.turns.Turn.{Turn};
 ghost use Rattle.tt_life.specs.Life.{HasWonOrLives};
 ghost use Rattle.tt_proof.specs.declared.tree.TheConstants.{MOST_DEPTH};
+ghost use Rattle.tt_proof.specs.BoardSetBounds.{MayContainBoard};
 ghost use Rattle.tt_proof.specs.EndRules.{at_win_or_life};
 ghost use Rattle.tt_proof.specs.Strategy.{pick, reply, done, depth, strategy_of, entries_of};
 ghost use Rattle.tt_proof.specs.ProofClaim.{IsWinningTree, IsWinningTreeUnder, StandsAt, IsChild, AreReplyChildren, turns_of, trees_by_turn, first_turn_of};
 ghost use Rattle.tt_proof.specs.Footprints.{FitsAt};
 ghost use Rattle.tt_proof.specs.KeptFootprints.{IsFootprint};
 
+use crate::board_set_bounds::{BoardSetBound, is_board_within};
 use crate::footprints::Footprint;
 use crate::measured_tree::{MeasuredTree, ReplyBuilder};
-use crate::proven::{Proof, are_outside_or_in_snapshot};
+use crate::proven::Proof;
 use crate::tree::Tree;
 use std::alloc::Global;
 use std::marker::Model;
 use tt_board::Board;
-use tt_game::{Line, Side, Snapshot, Turn};
+use tt_game::{Key, Line, Side, Snapshot, Turn};
 use tt_sgf::NoMemory;
 
 /// A tree that wins for its side from where a line stood, and may end at life: of a depth of at most 512, with rising turns and
@@ -73,6 +75,14 @@ impl LifeProof {
         self.measured_tree.tree()
     }
 
+    /// The tree with its measures.
+    pub(crate) fn measured_tree(&self) -> &MeasuredTree
+        ensures measured_tree { result.now ≡ self.now.tree }
+        ensures wins { IsWinningTreeUnder at_win_or_life self.now.side self.now.frame self.now.state self.now.tree }
+    {
+        &self.measured_tree
+    }
+
     /// The turn that the side plays first, where it is to move.
     pub fn first(&self) -> Option<Turn>
         ensures { result ≡ first_turn_of self.now.tree }
@@ -88,7 +98,14 @@ impl LifeProof {
         self.measured_tree.depth()
     }
 
-    /// The hash of the key of the proof's own position.
+    /// The key of the proof's own position.
+    pub(crate) fn key(&self) -> Key
+        ensures { result ≡ key_of self.now.frame self.now.state }
+    {
+        self.snapshot.key()
+    }
+
+    /// The hash of that key. No board is made for it.
     pub fn key_hash(&self) -> u32
         ensures { result ≡ hash_of_key (key_of self.now.frame self.now.state) }
     {
@@ -102,15 +119,29 @@ impl LifeProof {
         self.snapshot.has_key_of(line)
     }
 
+    /// Whether the line has the proof's frame, history, side to move and pass count.
+    pub(crate) fn stands_at(&self, line: &Line) -> bool
+        ensures { IsTrue result ↔ StandsAt self.now line.now.frame line.now.state }
+    {
+        self.snapshot.is_state_of(line)
+    }
+
+    /// What the tree needs in its own history, and what it avoids there.
+    pub(crate) fn footprint(&self) -> &Footprint
+        ensures { IsFootprint self.now.frame self.now.state self.now.tree result.now }
+    {
+        &self.footprint
+    }
+
     /// The board of the proof's own position, made anew.
-    fn present(&self) -> Board
+    pub(crate) fn present(&self) -> Board
         ensures { result ≡ record { size = self.now.frame.size; points = self.now.state.present } }
     {
         self.snapshot.present()
     }
 
     /// Whether the tree may be moved to the line: see `Proof::fits`.
-    fn fits(&self, line: &Line) -> bool
+    pub(crate) fn fits(&self, line: &Line) -> bool
         ensures { IsTrue result ↔ FitsAt self.now line.now.frame line.now.state }
     {
         if !self.snapshot.is_position_of(line) {
@@ -124,7 +155,7 @@ impl LifeProof {
 
     /// The proof's own footprint where that is the tree's at the line, too, as is seen without a walk through the tree: see
     /// `Proof::footprint_if_known`. There the tree wins by the rule by which it wins where the proof stands.
-    fn footprint_if_known(&self, line: &Line) -> Option<&Footprint>
+    pub(crate) fn footprint_if_known(&self, line: &Line) -> Option<&Footprint>
         ensures wins { IfSome result (λ _. IsWinningTreeUnder at_win_or_life self.now.side line.now.frame line.now.state self.now.tree) }
         ensures at_wins { IfSome result (λ _. IsWinningTree self.now.side self.now.frame self.now.state self.now.tree
             → IsWinningTree self.now.side line.now.frame line.now.state self.now.tree) }
@@ -132,7 +163,7 @@ impl LifeProof {
         ensures stands { StandsAt self.now line.now.frame line.now.state → result ≢ None }
     {
         let own = &self.footprint;
-        if self.snapshot.is_state_of(line) {
+        if self.stands_at(line) {
             return Some(own);
         }
         let behind = &line.history()[self.snapshot.known_common_history_length(line)..];
@@ -257,21 +288,36 @@ impl LifeProof {
         })
     }
 
-    /// The same as a `Proof`, where the tree ends at wins alone.
-    pub fn into_proof(self) -> Option<Proof>
-        ensures { IfSome result (λ p. p ≡ self) }
+    /// The proof of a measured tree that wins where the snapshot is, of its footprint there, where the tree ends at wins alone.
+    pub(crate) fn of_win(
+        snapshot: Snapshot,
+        side: Side,
+        measured_tree: MeasuredTree,
+        footprint: Footprint,
+    ) -> LifeProof
+        requires wins { IsWinningTree side snapshot.frame snapshot.state measured_tree }
+        requires footprint { IsFootprint snapshot.frame snapshot.state measured_tree footprint }
+        ensures stands { StandsAt result snapshot.frame snapshot.state }
+        ensures side { result.side ≡ side }
+        ensures tree { result.tree ≡ measured_tree }
     {
-        let LifeProof {
+        LifeProof {
             snapshot,
             side,
             measured_tree,
             footprint,
-            ends_at_wins,
-        } = self;
-        if !ends_at_wins {
+            ends_at_wins: true,
+        }
+    }
+
+    /// The same as a `Proof`, where the tree ends at wins alone.
+    pub fn into_proof(self) -> Option<Proof>
+        ensures { IfSome result (λ p. p ≡ self) }
+    {
+        if !self.ends_at_wins {
             return None;
         }
-        Some(Proof::from_parts(snapshot, side, measured_tree, footprint))
+        Some(Proof::from_life_proof(self))
     }
 }
 
@@ -279,4 +325,34 @@ fn are_both(one: bool, other: bool) -> bool
     ensures { IsTrue result → IsTrue one × IsTrue other }
 {
     one && other
+}
+
+/// Whether the board lies outside the bound, or was made where the snapshot is.
+fn is_outside_or_in_snapshot(
+    bound: &Option<BoardSetBound>,
+    snapshot: &Snapshot,
+    board: &Board,
+) -> bool
+    ensures { IsTrue result → MayContainBoard bound.now board.now → Contains (history snapshot.now.state) board.now.points }
+{
+    if is_board_within(bound, board) {
+        return snapshot.has_later_board(board);
+    }
+    true
+}
+
+/// Whether each of the boards lies outside the bound, or was made where the snapshot is.
+fn are_outside_or_in_snapshot(
+    bound: &Option<BoardSetBound>,
+    snapshot: &Snapshot,
+    boards: &[Board],
+) -> bool
+    ensures { IsTrue result → All (λ b. MayContainBoard bound.now b → Contains (history snapshot.now.state) b.points) boards.now }
+{
+    for board in boards {
+        if !is_outside_or_in_snapshot(bound, snapshot, board) {
+            return false;
+        }
+    }
+    true
 }

@@ -1,7 +1,7 @@
 //! Proofs: trees that win.
 
-ghost use Rattle.std.specs.Prelude.{◌≡◌, ◌≢◌, ◌↔◌, ◌≤◌, ◌+◌, ◌-◌, ◌^◌, min, All, Contains, IfOk, IfErr, IfSome, IsTrue, true, None, Some, Ok};
-ghost use Rattle.tt_game.specs.Game.{winner_of, opponent, history, IsLegal, after};
+ghost use Rattle.std.specs.Prelude.{◌≡◌, ◌≢◌, ◌↔◌, ◌≤◌, ◌-◌, ◌^◌, min, IfOk, IfErr, IfSome, IsTrue, true, None, Some, Ok};
+ghost use Rattle.tt_game.specs.Game.{winner_of, opponent, IsLegal};
 ghost use Rattle.tt_game.specs.Turns.{legal_turns};
 ghost use Rattle.tt_game.specs.Keys.{key_of};
 ghost use Rattle.tt_game.specs.KeyHash.{hash_of_key};
@@ -9,15 +9,16 @@ ghost use Rattle.tt_game.specs.declared.turns.Turn.{Turn};
 ghost use Rattle.tt_proof.specs.declared.tree.TheConstants.{MOST_DEPTH};
 ghost use Rattle.tt_proof.specs.Strategy.{pick, reply, done, depth, strategy_of, IsInOrder, entries_of};
 ghost use Rattle.tt_proof.specs.Nodes.{nodes};
-ghost use Rattle.tt_proof.specs.BoardSetBounds.{MayContainBoard};
+ghost use Rattle.tt_proof.specs.EndRules.{at_win};
 ghost use Rattle.tt_proof.specs.ProofClaim.{IsWinningTree, StandsAt, IsChild, AreReplyChildren, turns_of, trees_by_turn, first_turn_of};
 ghost use Rattle.tt_proof.specs.Footprints.{FitsAt};
 ghost use Rattle.tt_proof.specs.KeptFootprints.{IsFootprint};
 ghost use Rattle.tt_proof.specs.Rejections.{IsRejected};
+ghost use Rattle.tt_proof.specs.inside.WonChildren.{AllWon};
 
-use crate::board_set_bounds::{BoardSetBound, is_board_within};
 use crate::footprints::{Footprint, footprint_of};
-use crate::measured_tree::{MeasuredTree, ReplyBuilder};
+use crate::life_proof::LifeProof;
+use crate::measured_tree::MeasuredTree;
 use crate::replays::replay;
 use crate::tree::Tree;
 use std::alloc::Global;
@@ -27,30 +28,25 @@ use tt_game::{Key, Line, Side, Snapshot, Turn};
 use tt_sgf::NoMemory;
 
 /// A tree that wins for its side from where a line stood: of a depth of at most 512, with rising turns and points on
-/// the board. Its footprint says at which other histories of the position it wins too.
+/// the board. Its footprint says at which other histories of the position it wins too. It is a `LifeProof` that doesn't end at life.
 #[derive(Drop)]
 pub struct Proof {
-    snapshot: Snapshot,
-    side: Side,
-    measured_tree: MeasuredTree,
-    footprint: Footprint,
+    life_proof: LifeProof,
 }
 
 impl Model for Proof {
     ghost use Rattle.std.specs.Coded.{codes};
     ghost use Rattle.tt_sgf.specs.contracts.sets.PointSet as points;
-    ghost use Rattle.tt_proof.specs.ProofClaim.{ProofClaim};
-    ghost use Rattle.tt_proof.specs.EndRules.{at_win};
-    ghost use Rattle.tt_proof.specs.KeptFootprints.{WinsWithFootprint};
+    ghost use Rattle.tt_proof.specs.ProofClaim.{ProofClaim, IsWinningTree};
     ghost use Rattle.tt_proof.specs.laws.StrategyCode.{strategy_code};
 
     ghost Value = { ProofClaim };
 
     ghost coded = { Prim.hlevel (codes, points.the_row.coded, strategy_code) };
 
-    ghost view = { λ p. record { frame = p.snapshot.frame; state = p.snapshot.state; side = p.side; tree = p.measured_tree } };
+    ghost view = { λ p. p.life_proof };
 
-    ghost invariant = { λ p. WinsWithFootprint at_win p.side p.snapshot.frame p.snapshot.state p.measured_tree p.footprint };
+    ghost invariant = { λ p. IsWinningTree p.life_proof.side p.life_proof.frame p.life_proof.state p.life_proof.tree };
 }
 
 /// Why a tree was not made a proof. The tree comes back.
@@ -66,7 +62,7 @@ impl Proof {
         ensures side { result ≡ self.now.side }
         ensures wins { IsWinningTree self.now.side self.now.frame self.now.state self.now.tree }
     {
-        self.side
+        self.life_proof.side()
     }
 
     /// The tree.
@@ -74,7 +70,7 @@ impl Proof {
         ensures tree { strategy_of result.now ≡ self.now.tree }
         ensures wins { IsWinningTree self.now.side self.now.frame self.now.state self.now.tree }
     {
-        self.measured_tree.tree()
+        self.life_proof.tree()
     }
 
     /// The tree with its measures.
@@ -82,29 +78,14 @@ impl Proof {
         ensures measured_tree { result.now ≡ self.now.tree }
         ensures wins { IsWinningTree self.now.side self.now.frame self.now.state self.now.tree }
     {
-        &self.measured_tree
-    }
-
-    /// The tree with its measures, and its footprint, and nothing of where the proof stood.
-    fn into_tree_and_footprint(self) -> (MeasuredTree, Footprint)
-        ensures measured_tree { result.0 ≡ self.tree }
-        ensures wins { IsWinningTree self.side self.frame self.state self.tree }
-        ensures footprint { IsFootprint self.frame self.state self.tree result.1 }
-    {
-        let Proof {
-            snapshot: _,
-            side: _,
-            measured_tree,
-            footprint,
-        } = self;
-        (measured_tree, footprint)
+        self.life_proof.measured_tree()
     }
 
     /// The turn that the side plays first, where it is to move.
     pub fn first(&self) -> Option<Turn>
         ensures { result ≡ first_turn_of self.now.tree }
     {
-        self.measured_tree.tree().first()
+        self.life_proof.first()
     }
 
     /// How many turns the longest way down the tree has: at most 512.
@@ -112,63 +93,63 @@ impl Proof {
         ensures depth { result ≡ depth self.now.tree }
         ensures shallow { result ≤ MOST_DEPTH }
     {
-        self.measured_tree.depth()
+        self.life_proof.depth()
     }
 
     /// How many nodes the tree has, or the greatest `u64` where they are more.
     pub fn nodes(&self) -> u64
         ensures { result ≡ min (nodes self.now.tree) (2 ^ 64 - 1) }
     {
-        self.measured_tree.nodes()
+        self.life_proof.measured_tree().nodes()
     }
 
     /// The key of the proof's own position.
     pub fn key(&self) -> Key
         ensures { result ≡ key_of self.now.frame self.now.state }
     {
-        self.snapshot.key()
+        self.life_proof.key()
     }
 
     /// The hash of that key. No board is made for it.
     pub fn key_hash(&self) -> u32
         ensures { result ≡ hash_of_key (key_of self.now.frame self.now.state) }
     {
-        self.snapshot.key_hash()
+        self.life_proof.key_hash()
     }
 
     /// Whether the proof's own position has this key.
     pub fn has_key(&self, k: &Key) -> bool
         ensures { IsTrue result ↔ (key_of self.now.frame self.now.state ≡ k.now) }
     {
-        self.snapshot.key().same(k)
+        self.life_proof.key().same(k)
     }
 
     /// Whether the proof's own position has the key of the line's.
     pub fn has_key_of(&self, line: &Line) -> bool
         ensures { IsTrue result ↔ (key_of self.now.frame self.now.state ≡ key_of line.now.frame line.now.state) }
     {
-        self.snapshot.has_key_of(line)
+        self.life_proof.has_key_of(line)
     }
 
     /// Whether the line has the proof's frame, history, side to move and pass count.
     pub fn stands_at(&self, line: &Line) -> bool
         ensures { IsTrue result ↔ StandsAt self.now line.now.frame line.now.state }
     {
-        self.snapshot.is_state_of(line)
+        self.life_proof.stands_at(line)
     }
 
     /// The board of the proof's own position, made anew.
     pub fn present(&self) -> Board
         ensures { result ≡ record { size = self.now.frame.size; points = self.now.state.present } }
     {
-        self.snapshot.present()
+        self.life_proof.present()
     }
 
     /// What the tree needs in its own history, and what it avoids there.
     pub fn footprint(&self) -> &Footprint
         ensures { IsFootprint self.now.frame self.now.state self.now.tree result.now }
     {
-        &self.footprint
+        self.life_proof.footprint()
     }
 
     /// Whether the tree may be moved to the line: the line has the proof's frame, present colouring, side to move and pass
@@ -178,13 +159,7 @@ impl Proof {
         ensures fits { IsTrue result ↔ FitsAt self.now line.now.frame line.now.state }
         ensures wins { IsTrue result → IsWinningTree self.now.side line.now.frame line.now.state self.now.tree }
     {
-        if !self.snapshot.is_position_of(line) {
-            return false;
-        }
-        if !self.footprint.needs.all_in_history(line) {
-            return false;
-        }
-        self.footprint.avoids.none_in_history(line)
+        self.life_proof.fits(line)
     }
 
     /// Whether the tree wins at the line, too: it does where it fits, and otherwise a replay decides. The line has a board of the
@@ -210,16 +185,7 @@ impl Proof {
         ensures exact { IfSome result (λ x. IsFootprint line.now.frame line.now.state self.now.tree x.now) }
         ensures stands { StandsAt self.now line.now.frame line.now.state → result ≢ None }
     {
-        let own = &self.footprint;
-        if self.stands_at(line) {
-            return Some(own);
-        }
-        let behind = &line.history()[self.snapshot.known_common_history_length(line)..];
-        let earlier = &behind[..behind.len().saturating_sub(1)];
-        if self.fits(line) && are_outside_or_in_snapshot(&own.met, &self.snapshot, earlier) {
-            return Some(own);
-        }
-        None
+        self.life_proof.footprint_if_known(line)
     }
 
     /// The footprint of the tree at the line, where it wins: the proof's own where that is seen without a walk, else it is
@@ -248,12 +214,10 @@ impl Proof {
             Err(_) => Err(Rejected::NoMemory(t)),
             Ok(false) => Err(Rejected::NotWinning(t)),
             Ok(true) => match snapshot_and_footprint(alloc, &t, line) {
-                Ok((snapshot, footprint)) => Ok(Proof {
-                    snapshot,
-                    side: s,
-                    measured_tree: MeasuredTree::of(t),
-                    footprint,
-                }),
+                Ok((snapshot, footprint)) => {
+                    let life_proof = LifeProof::of_win(snapshot, s, MeasuredTree::of(t), footprint);
+                    Ok(Proof { life_proof })
+                }
                 Err(_) => Err(Rejected::NoMemory(t)),
             },
         }
@@ -267,13 +231,8 @@ impl Proof {
     {
         match line.winner() {
             Some(side) => {
-                let snapshot = line.snapshot()?;
-                Ok(Proof {
-                    snapshot,
-                    side,
-                    measured_tree: MeasuredTree::done(),
-                    footprint: Footprint::empty(alloc),
-                })
+                let life_proof = LifeProof::done(alloc, line, side)?;
+                Ok(Proof { life_proof })
             }
             None => unreachable!(),
         }
@@ -287,18 +246,9 @@ impl Proof {
         ensures { IfOk result (λ p. StandsAt p line.now.frame line.now.state × (p.side ≡ child.side)
             × (p.tree ≡ pick t child.tree)) }
     {
-        let board = child.present();
-        let side = child.side();
-        let (below, behind) = child.into_tree_and_footprint();
-        let footprint = Footprint::picked(alloc, line, &t, &board, behind)?;
-        let snapshot = line.snapshot()?;
-        let measured_tree = MeasuredTree::pick(alloc, t, below)?;
-        Ok(Proof {
-            snapshot,
-            side,
-            measured_tree,
-            footprint,
-        })
+        let child = child.into_life_proof();
+        let life_proof = LifeProof::pick(alloc, line, t, child)?;
+        Ok(Proof { life_proof })
     }
 
     /// The proof that answers each turn of the other side with that turn's child. The children are those of all legal
@@ -315,22 +265,9 @@ impl Proof {
         ensures { IfOk result (λ p. StandsAt p line.now.frame line.now.state × (p.side ≡ opponent line.now.state.to_move)
             × (p.tree ≡ reply (entries_of (trees_by_turn children.items)))) }
     {
-        let mut footprint = Footprint::of_empty_reply(alloc, line)?;
-        let mut replies = ReplyBuilder::with_capacity(alloc, children.len())?;
-        for (turn, child) in children {
-            let board = child.present();
-            let (measured_tree, behind) = child.into_tree_and_footprint();
-            footprint.join_reply_turn(line, &turn, &board, behind)?;
-            replies.push(turn, measured_tree)?;
-        }
-        let snapshot = line.snapshot()?;
-        let measured_tree = replies.into_measured_tree(alloc)?;
-        Ok(Proof {
-            snapshot,
-            side: line.to_move().opponent(),
-            measured_tree,
-            footprint,
-        })
+        let children = life_proofs_of(alloc, children)?;
+        let life_proof = LifeProof::reply(alloc, line, children)?;
+        Ok(Proof { life_proof })
     }
 
     /// A proof of the same tree at the line, where it wins: its footprint is taken over where that is seen to be that there without a
@@ -340,30 +277,26 @@ impl Proof {
         ensures made { IfOk result (λ p. StandsAt p line.old.frame line.old.state × (p.side ≡ self.now.side) × (p.tree ≡ self.now.tree)) }
         ensures same { line.new ≡ line.old }
     {
-        let measured_tree = self.measured_tree.try_clone()?;
+        let measured_tree = self.measured_tree().try_clone()?;
         let footprint = self.footprint_at(alloc, line)?;
-        Proof::from_known_win(line, self.side, measured_tree, footprint)
+        Proof::from_known_win(line, self.side(), measured_tree, footprint)
     }
 
-    /// The proof of a measured tree that wins where the snapshot is, and of its footprint there.
-    pub(crate) fn from_parts(
-        snapshot: Snapshot,
-        side: Side,
-        measured_tree: MeasuredTree,
-        footprint: Footprint,
-    ) -> Proof
-        requires wins { IsWinningTree side snapshot.frame snapshot.state measured_tree }
-        requires footprint { IsFootprint snapshot.frame snapshot.state measured_tree footprint }
-        ensures stands { StandsAt result snapshot.frame snapshot.state }
-        ensures side { result.side ≡ side }
-        ensures tree { result.tree ≡ measured_tree }
+    /// The same, as a proof whose tree might end at life.
+    fn into_life_proof(self) -> LifeProof
+        ensures same { result ≡ self }
+        ensures wins { IsWinningTree self.side self.frame self.state self.tree }
     {
-        Proof {
-            snapshot,
-            side,
-            measured_tree,
-            footprint,
-        }
+        let Proof { life_proof } = self;
+        life_proof
+    }
+
+    /// The same as a proof whose tree is known to end at wins alone.
+    pub(crate) fn from_life_proof(life_proof: LifeProof) -> Proof
+        requires { IsWinningTree life_proof.side life_proof.frame life_proof.state life_proof.tree }
+        ensures { result ≡ life_proof }
+    {
+        Proof { life_proof }
     }
 
     /// The proof of a measured tree that is known to win at the line, and of its footprint there. No turn is played for it, and its
@@ -379,43 +312,24 @@ impl Proof {
         ensures { IfOk result (λ p. StandsAt p line.now.frame line.now.state × (p.side ≡ s) × (p.tree ≡ measured_tree)) }
     {
         let snapshot = line.snapshot()?;
-        Ok(Proof {
-            snapshot,
-            side: s,
-            measured_tree,
-            footprint,
-        })
+        let life_proof = LifeProof::of_win(snapshot, s, measured_tree, footprint);
+        Ok(Proof { life_proof })
     }
 }
 
-/// Whether the board lies outside the bound, or was made where the snapshot is.
-fn is_outside_or_in_snapshot(
-    bound: &Option<BoardSetBound>,
-    snapshot: &Snapshot,
-    board: &Board,
-) -> bool
-    ensures { IsTrue result → MayContainBoard bound.now board.now → Contains (history snapshot.now.state) board.now.points }
+/// The children as proofs whose trees might end at life.
+fn life_proofs_of(
+    alloc: Global,
+    children: Vec<(Turn, Proof)>,
+) -> Result<Vec<(Turn, LifeProof)>, NoMemory>
+    ensures same { IfOk result (λ r. r.items ≡ children.items) }
+    ensures won { IfOk result (λ r. AllWon at_win r.items) }
 {
-    if is_board_within(bound, board) {
-        return snapshot.has_later_board(board);
+    let mut made = Vec::with_capacity(alloc, children.len())?;
+    for (turn, child) in children {
+        made.push((turn, child.into_life_proof()))?;
     }
-    true
-}
-
-/// Whether each of the boards lies outside the bound, or was made where the snapshot is.
-pub(crate) fn are_outside_or_in_snapshot(
-    bound: &Option<BoardSetBound>,
-    snapshot: &Snapshot,
-    boards: &[Board],
-) -> bool
-    ensures { IsTrue result → All (λ b. MayContainBoard bound.now b → Contains (history snapshot.now.state) b.points) boards.now }
-{
-    for board in boards {
-        if !is_outside_or_in_snapshot(bound, snapshot, board) {
-            return false;
-        }
-    }
-    true
+    Ok(made)
 }
 
 /// Where the line stands, and the footprint of the tree there. The line stands as before.

@@ -1,6 +1,5 @@
-use Rattle.std.proofs.Common.{◌≡◌, ◌∙◌, ◌++◌, [], ◌∷◌, ◌↔◌, List, length, inl, inr, arith, refl, sym, ap, subst, Contains}
+use Rattle.std.proofs.Common.{◌∙◌, ◌++◌, [], ◌∷◌, ◌↔◌, inl, inr, arith, refl, sym, ap, subst, Contains}
 use Rattle.std.proofs.Math.Seq.{append_snoc}
-use Rattle.std.proofs.lemmas.List.{append-nil}
 use Rattle.tt_game.specs.Game.{IsLegal, after, opponent}
 use Rattle.tt_game.specs.Line.{SnapshotState}
 use Rattle.tt_game.specs.laws.TurnLaws.{contains-legal_turns}
@@ -11,12 +10,9 @@ use Rattle.tt_proof.specs.Strategy.{reply, entries_of}
 use Rattle.tt_game.specs.laws.Members.{IsIn, contains_of_in}
 use Rattle.tt_proof.proofs.FittingLemmas.{foot_moved, board_there}
 use Rattle.tt_proof.specs.EndRules.{at_win, at_win_or_life}
-use Rattle.tt_proof.proofs.ProvenLemmas.{AllWon, won_reply, all_won_push, trees_of_push}
+use Rattle.tt_proof.proofs.ProvenLemmas.{at_end, won_reply, all_won_push, trees_of_push}
+use Rattle.tt_proof.specs.inside.WonChildren.{AllWon}
 use Rattle.tt_proof.proofs.life_proof.LifeProof.reply.Goals as goal
-
-at_end : {X : Type 0} (xs ys zs : List X) → xs ++ ys ≡ zs → length ys ≡ 0 → xs ≡ zs
-at_end xs [] zs e h = sym (append-nil xs) ∙ e
-at_end xs (y ∷ ys) zs e h = absurd (omega (arith, h))
 
 pub join_reply_turn-requires-clause-legal : goal.join_reply_turn-requires-clause-legal
 join_reply_turn-requires-clause-legal c =

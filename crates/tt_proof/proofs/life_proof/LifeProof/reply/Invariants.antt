@@ -7,7 +7,7 @@ use Rattle.tt_proof.specs.ProofClaim.{AreReplyChildren, trees_by_turn, turns_of}
 use Rattle.tt_proof.specs.KeptFootprints.{IsFootprint}
 use Rattle.tt_game.specs.laws.Members.{IsIn}
 use Rattle.tt_proof.specs.EndRules.{at_win, at_win_or_life}
-use Rattle.tt_proof.proofs.ProvenLemmas.{AllWon}
+use Rattle.tt_proof.specs.inside.WonChildren.{AllWon}
 use Rattle.tt_proof.proofs.life_proof.LifeProof.reply.Given as goal
 
 abbrev pub invariant-loop-turn : goal.invariant-loop-turn

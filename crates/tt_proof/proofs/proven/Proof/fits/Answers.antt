@@ -1,40 +1,12 @@
-use Rattle.std.proofs.Common.{◌≡◌, ◌↔◌, ◌∙◌, Bool, false, IsTrue, true≢false, sym, subst}
+use Rattle.std.proofs.Common.{subst}
 use Rattle.tt_proof.specs.EndRules.{at_win}
-use Rattle.tt_proof.specs.ProofClaim.{ProofClaim, IsWinningTree}
 use Rattle.tt_proof.specs.Footprints.{FitsAt}
-use Rattle.tt_proof.proofs.FittingLemmas.{fits_yes, fits_needs, fits_avoids, won_where_fits}
+use Rattle.tt_proof.specs.ProofClaim.{ProofClaim, IsWinningTree}
+use Rattle.tt_proof.proofs.FittingLemmas.{won_where_fits}
 use Rattle.tt_proof.proofs.proven.Proof.fits.Goals as goal
-
-refused : (b : Bool) (P Q : Type 0) → b ≡ false → (IsTrue b ↔ P) → (Q → P) → IsTrue false ↔ Q
-refused b P Q e h from = (λ t. absurd (true≢false (sym t)), λ q. absurd (true≢false (sym (h.1 (from q)) ∙ e)))
-
-pub returns-then-not-is_position_of-clause-fits : goal.returns-then-not-is_position_of-clause-fits
-returns-then-not-is_position_of-clause-fits c =
-    let i = c.self.inside in
-    subst (λ (p : ProofClaim). IsTrue false ↔ FitsAt p c.args.line.now.frame c.args.line.now.state) c.self.view_is
-    (refused c.is_position_of.result _ _ c.if-not-is_position_of.true c.is_position_of.ensures (λ h. (h.0, h.1.present, h.1.to_move, h.1.passes)))
-
-pub returns-then-not-all_in_history-clause-fits : goal.returns-then-not-all_in_history-clause-fits
-returns-then-not-all_in_history-clause-fits c =
-    let i = c.self.inside in
-    subst (λ (p : ProofClaim). IsTrue false ↔ FitsAt p c.args.line.now.frame c.args.line.now.state) c.self.view_is
-    (refused c.all_in_history.result _ _ c.if-not-all_in_history.true c.all_in_history.ensures
-    (fits_needs (record { frame = i.snapshot.frame; state = i.snapshot.state; side = i.side; tree = i.measured_tree }) _ _ i.footprint c.self.invariant.footprint))
-
-pub returns-clause-fits : goal.returns-clause-fits
-returns-clause-fits c =
-    let i = c.self.inside in
-    let f = c.args.line.now.frame in
-    let s = c.args.line.now.state in
-    let p : ProofClaim = record { frame = i.snapshot.frame; state = i.snapshot.state; side = i.side; tree = i.measured_tree } in
-    subst (λ (q : ProofClaim). IsTrue c.none_in_history.result ↔ FitsAt q f s) c.self.view_is (
-      λ e. fits_yes p f s i.footprint c.self.invariant.footprint
-          (c.is_position_of.ensures.0 c.if-not-is_position_of.false) (c.all_in_history.ensures.0 c.if-not-all_in_history.false) (c.none_in_history.ensures.0 e),
-      λ at. c.none_in_history.ensures.1 (fits_avoids p f s i.footprint c.self.invariant.footprint at),
-    )
 
 pub returns-clause-wins : goal.returns-clause-wins
 returns-clause-wins c =
-    let won = subst (λ (p : ProofClaim). IsWinningTree p.side p.frame p.state p.tree) c.self.view_is c.self.invariant.won in
-    let exact = returns-clause-fits c in
-    λ e. won_where_fits at_win _ _ _ won (exact.0 e)
+    let line = c.args.line.now in
+    let won = subst (λ (p : ProofClaim). IsWinningTree p.side p.frame p.state p.tree) c.self.view_is c.self.invariant in
+    λ e. won_where_fits at_win _ line.frame line.state won (subst (λ (p : ProofClaim). FitsAt p line.frame line.state) c.self.view_is (c.fits.ensures.0 e))

@@ -1,6 +1,6 @@
 use Rattle.std.proofs.Common.{sym, ◌∙◌}
 use Rattle.std.proofs.lemmas.Bool.{false≢true}
-use Rattle.tt_proof.proofs.proven.is_outside_or_in_snapshot.Goals as goal
+use Rattle.tt_proof.proofs.life_proof.is_outside_or_in_snapshot.Goals as goal
 
 pub returns-then-is_board_within : goal.returns-then-is_board_within
 returns-then-is_board_within c = λ y _. c.has_later_board.ensures y

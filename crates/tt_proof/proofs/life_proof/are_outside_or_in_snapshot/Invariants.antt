@@ -2,7 +2,7 @@ use Rattle.std.proofs.Common.{ℕ, ◌<◌, get_or, Contains}
 use Rattle.tt_board.specs.Position.{Position}
 use Rattle.tt_game.specs.Game.{history}
 use Rattle.tt_proof.specs.BoardSetBounds.{MayContainBoard}
-use Rattle.tt_proof.proofs.proven.are_outside_or_in_snapshot.Given as goal
+use Rattle.tt_proof.proofs.life_proof.are_outside_or_in_snapshot.Given as goal
 
 abbrev pub invariant-loop-board : goal.invariant-loop-board
 invariant-loop-board l =

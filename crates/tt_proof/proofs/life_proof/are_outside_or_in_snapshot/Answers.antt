@@ -3,7 +3,7 @@ use Rattle.tt_board.specs.Position.{Position}
 use Rattle.tt_game.specs.Game.{history}
 use Rattle.tt_proof.specs.BoardSetBounds.{MayContainBoard}
 use Rattle.tt_proof.proofs.SharedLemmas.{shown_at, one_more_place}
-use Rattle.tt_proof.proofs.proven.are_outside_or_in_snapshot.Goals as goal
+use Rattle.tt_proof.proofs.life_proof.are_outside_or_in_snapshot.Goals as goal
 
 pub loop-board-preserved : goal.loop-board-preserved
 loop-board-preserved c =
