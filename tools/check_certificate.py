@@ -275,21 +275,39 @@ def read_problem(nodes):
 
 class Footprint:
     """Where a tree that wins at a position wins too: at the same position behind other boards, if all that it needs are
-    among them, boards that plays of the other side may not repeat, and none that it avoids, which its own plays make."""
+    among them, boards that plays of the other side may not repeat, and none that it avoids, which its own plays make.
+    A shared one is another's too, and is copied before it changes."""
 
     def __init__(self, needs=(), avoids=()):
-        self.needs, self.avoids = set(needs), set(avoids)
+        self.needs, self.avoids, self.is_shared = set(needs), set(avoids), False
 
-    def join(self, other):
-        self.needs, self.avoids = union(self.needs, other.needs), union(self.avoids, other.avoids)
+    def share(self):
+        """The same once more. It is copied where one of both changes."""
+        other = Footprint()
+        other.needs, other.avoids = self.needs, self.avoids
+        self.is_shared = other.is_shared = True
+        return other
 
+    def unshare(self):
+        if self.is_shared:
+            self.needs, self.avoids, self.is_shared = set(self.needs), set(self.avoids), False
 
-def union(one, other):
-    """Both sets in one; the smaller one is put into the larger."""
-    if len(one) < len(other):
-        one, other = other, one
-    one |= other
-    return one
+    def step_back(self, board, is_own):
+        """Goes in front of the play that made the board, which is the side's own or isn't."""
+        if board in self.needs or is_own and board not in self.avoids:
+            self.unshare()
+            self.needs.discard(board)
+            if is_own:
+                self.avoids.add(board)
+
+    def joined(self, other):
+        """Both in one; the smaller one is put into the larger, if it isn't there already."""
+        one, two = (self, other) if len(self.avoids) >= len(other.avoids) else (other, self)
+        if not (two.avoids is one.avoids or two.avoids <= one.avoids) or not two.needs <= one.needs:
+            one.unshare()
+            one.needs |= two.needs
+            one.avoids |= two.avoids
+        return one
 
 
 class Certificate:
@@ -335,8 +353,7 @@ class Certificate:
         if turn != game.passing:
             game.earlier.remove(board)
             if found:
-                found.needs.discard(board)
-                found.avoids |= {board} if game.to_move == self.side else set()
+                found.step_back(board, game.to_move == self.side)
         return found
 
     def tree(self, level, is_reached):
@@ -366,7 +383,7 @@ class Certificate:
             answer = self.tree_after(turn, unanswered.pop(turn), level)
             wins = wins and answer is not None
             if wins and self.has_parts:
-                found.join(answer)
+                found = found.joined(answer)
         return found if wins and not unanswered else None
 
     # -- Life and parts
@@ -381,7 +398,7 @@ class Certificate:
             raise Refused(30)
         outside, self.deepest = self.deepest, level - 1
         found = self.tree(level, is_reached)
-        kept = Footprint(found.needs, found.avoids) if found else None
+        kept = found.share() if found else None
         self.named.append((kept, self.game.position(), self.deepest - level + 1))
         self.deepest = max(outside, self.deepest)
         return found
@@ -397,7 +414,7 @@ class Certificate:
             return None
         earlier = self.game.earlier
         if kept and position == self.game.position() and kept.needs <= earlier and kept.avoids.isdisjoint(earlier):
-            return Footprint(kept.needs, kept.avoids)
+            return kept.share()
         self.all_fit = False
         return None
 
