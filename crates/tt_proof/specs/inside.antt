@@ -5,3 +5,4 @@ pub mod CertificateReading
 pub mod OutlineReading
 pub mod OutlineReplaying
 pub mod WonChildren
+pub mod RisingHashes

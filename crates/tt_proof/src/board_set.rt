@@ -7,6 +7,7 @@ ghost use Rattle.tt_board.specs.Position.{Position};
 ghost use Rattle.tt_game.specs.Line.{HasBoardInHistory};
 ghost use Rattle.tt_game.specs.Mixing.{board_hash};
 ghost use Rattle.tt_proof.specs.inside.Collecting.{IsOneLess};
+ghost use Rattle.tt_proof.specs.inside.RisingHashes.{DoHashesRise, AreLessBefore, hash_of_board};
 
 use std::alloc::Global;
 use std::marker::Model;
@@ -55,6 +56,13 @@ impl SharedBoard {
             hash: self.hash,
             board: Arc::try_clone(&self.board)?,
         })
+    }
+
+    /// The board's hash.
+    fn hash(&self) -> u64
+        ensures { result ≡ hash_of_board self.now }
+    {
+        self.hash
     }
 
     /// The board.
@@ -300,15 +308,39 @@ impl BoardSet {
         }
     }
 
+    /// The hash of the board at an index.
+    fn hash_at(&self, k: usize) -> u64
+        requires { k < length self.now }
+        ensures { (d : Position) → result ≡ hash_of_board (get_or self.now k d) }
+    {
+        self.boards[k].hash()
+    }
+
+    /// Whether the hashes rise.
+    pub(crate) fn do_hashes_rise(&self) -> bool
+        ensures { IsTrue result → DoHashesRise self.now }
+    {
+        for k in 1..self.boards.len() {
+            let last = self.hash_at(k - 1);
+            let next = self.hash_at(k);
+            if next < last {
+                return false;
+            }
+        }
+        true
+    }
+
     /// The index of the first board whose hash isn't less, where the hashes rise.
     fn insertion_index(&self, hash: u64) -> usize
-        ensures { result ≤ length self.now }
+        ensures within { result ≤ length self.now }
+        ensures less { DoHashesRise self.now → AreLessBefore self.now result hash }
     {
         let mut low = 0;
         let mut high = self.boards.len();
         while low < high {
             let middle = low + (high - low) / 2;
-            if self.boards[middle].hash < hash {
+            let there = self.hash_at(middle);
+            if there < hash {
                 low = middle + 1;
             } else {
                 high = middle;
@@ -330,6 +362,80 @@ impl BoardSet {
             }
         }
         false
+    }
+
+    /// Whether the board is one of those from an index on, where the hashes rise and all before are less than its own.
+    fn has_from(&self, from: usize, board: &Board) -> bool
+        ensures there { IsTrue result → Contains self.now board.now }
+        ensures all { DoHashesRise self.now → AreLessBefore self.now from (hash_of_board board.now) → Contains self.now board.now → IsTrue result }
+    {
+        let hash = board_hash(board);
+        for k in from..self.boards.len() {
+            let there = self.hash_at(k);
+            if hash < there {
+                return false;
+            }
+            if self.boards[k].is(hash, board) {
+                return true;
+            }
+        }
+        false
+    }
+
+    /// Whether the board is held, where the hashes rise: by halving.
+    pub(crate) fn has_by_halving(&self, board: &Board) -> bool
+        ensures there { IsTrue result → Contains self.now board.now }
+        ensures all { DoHashesRise self.now → Contains self.now board.now → IsTrue result }
+    {
+        let from = self.insertion_index(board_hash(board));
+        self.has_from(from, board)
+    }
+
+    /// Whether none is one of the boards, where the hashes rise.
+    pub(crate) fn has_none_of(&self, boards: &[Board]) -> bool
+        requires { DoHashesRise self.now }
+        ensures { IsTrue result ↔ ((b : Position) → Contains self.now b → Contains boards.now b → ⊥) }
+    {
+        for board in boards {
+            if self.has_by_halving(board) {
+                return false;
+            }
+        }
+        true
+    }
+
+    /// The first index from `from` on whose hash isn't less.
+    fn index_behind_lesser(&self, from: usize, hash: u64) -> usize {
+        for k in from..self.boards.len() {
+            if self.boards[k].hash >= hash {
+                return k;
+            }
+        }
+        self.boards.len()
+    }
+
+    /// Whether each of the others is held, as one walk over both lists sees where their hashes rise.
+    pub(crate) fn has_all_of(&self, others: &BoardSet) -> bool
+        ensures { IsTrue result → (b : Position) → Contains others.now b → Contains self.now b }
+    {
+        if self.boards.len() < others.boards.len() {
+            return false;
+        }
+        let mut from = 0;
+        for other in &others.boards {
+            from = self.index_behind_lesser(from, other.hash);
+            if !self.has_in_hash_run(from, other) {
+                return false;
+            }
+        }
+        true
+    }
+
+    /// How many boards are held.
+    pub(crate) fn len(&self) -> usize
+        ensures { result ≡ length self.now }
+    {
+        self.boards.len()
     }
 
     /// Adds a board at an index.

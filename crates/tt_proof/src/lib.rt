@@ -28,6 +28,7 @@ mod outlines;
 mod position_footprint;
 mod proven;
 mod replays;
+mod shared_board_set;
 mod tree;
 mod tree_builders;
 

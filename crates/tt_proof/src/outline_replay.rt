@@ -28,7 +28,11 @@ pub(crate) enum ReplayResult {
 }
 
 /// What is found on two trees together: one that doesn't fit comes before one that doesn't win.
-fn combine_results(first: ReplayResult, second: ReplayResult) -> Result<ReplayResult, NoMemory>
+fn combine_results(
+    alloc: Global,
+    first: ReplayResult,
+    second: ReplayResult,
+) -> Result<ReplayResult, NoMemory>
     ensures { IfOk result (CombinesTo first second) }
 {
     match first {
@@ -41,7 +45,7 @@ fn combine_results(first: ReplayResult, second: ReplayResult) -> Result<ReplayRe
         ReplayResult::Won(one) => match second {
             ReplayResult::Unfit => Ok(ReplayResult::Unfit),
             ReplayResult::Lost => Ok(ReplayResult::Lost),
-            ReplayResult::Won(other) => match one.joined(other) {
+            ReplayResult::Won(other) => match one.joined(alloc, other) {
                 Ok(basis) => Ok(ReplayResult::Won(basis)),
                 Err(e) => Err(e),
             },
@@ -71,35 +75,39 @@ fn result_of_pick(
 }
 
 /// What is found on the branch of a legal turn, which leads to the board, by what is found behind it.
-fn result_of_branch(line: &Line, turn: &Turn, board: &Board, found: ReplayResult) -> ReplayResult
+fn result_of_branch(
+    alloc: Global,
+    line: &Line,
+    turn: &Turn,
+    board: &Board,
+    found: ReplayResult,
+) -> Result<ReplayResult, NoMemory>
     requires { IsBoardAfter line.now.frame line.now.state turn.now board.now }
-    ensures { IsResultBeforeTurn (RestsBeforeOpposingTurn line.now.frame line.now.state turn.now) found result }
+    ensures { IfOk result (IsResultBeforeTurn (RestsBeforeOpposingTurn line.now.frame line.now.state turn.now) found) }
 {
     match found {
-        ReplayResult::Won(basis) => ReplayResult::Won(basis.before_opposing_turn(
-            line, turn, board,
-        )),
-        ReplayResult::Lost => ReplayResult::Lost,
-        ReplayResult::Unfit => ReplayResult::Unfit,
+        ReplayResult::Won(behind) => match behind.before_opposing_turn(alloc, line, turn, board) {
+            Ok(basis) => Ok(ReplayResult::Won(basis)),
+            Err(e) => Err(e),
+        },
+        ReplayResult::Lost => Ok(ReplayResult::Lost),
+        ReplayResult::Unfit => Ok(ReplayResult::Unfit),
     }
 }
 
 /// What is found on the outline of nothing more to play.
-fn result_of_done(alloc: Global, s: Side, line: &Line) -> ReplayResult
-    ensures { IsResultOfDone s line.now.frame line.now.state result }
+fn result_of_done(alloc: Global, s: Side, line: &Line) -> Result<ReplayResult, NoMemory>
+    ensures { IfOk result (IsResultOfDone s line.now.frame line.now.state) }
 {
     if has_won_or_lives(s, line) {
-        return ReplayResult::Won(PositionFootprint::of(alloc, line));
+        let basis = PositionFootprint::of(alloc, line)?;
+        return Ok(ReplayResult::Won(basis));
     }
-    ReplayResult::Lost
+    Ok(ReplayResult::Lost)
 }
 
 /// What is found on the part with this name, whose tree wins where this basis is met.
-fn result_of_part(
-    alloc: Global,
-    name: &Option<PositionFootprint>,
-    line: &Line,
-) -> Result<ReplayResult, NoMemory>
+fn result_of_part(name: &Option<PositionFootprint>, line: &Line) -> Result<ReplayResult, NoMemory>
     ensures { IfOk result (IsResultOfPart line.now.frame name.now line.now.state) }
 {
     match name {
@@ -107,7 +115,7 @@ fn result_of_part(
             if !basis.fits_line(line) {
                 return Ok(ReplayResult::Unfit);
             }
-            match basis.try_clone(alloc) {
+            match basis.try_clone() {
                 Ok(basis) => Ok(ReplayResult::Won(basis)),
                 Err(e) => Err(e),
             }
@@ -117,14 +125,11 @@ fn result_of_part(
 }
 
 /// What is kept of a tree with a name, by what is found on it.
-fn footprint_to_keep(
-    alloc: Global,
-    found: &ReplayResult,
-) -> Result<Option<PositionFootprint>, NoMemory>
+fn footprint_to_keep(found: &ReplayResult) -> Result<Option<PositionFootprint>, NoMemory>
     ensures { IfOk result (λ n. n ≡ kept_footprint found.now) }
 {
     match found {
-        ReplayResult::Won(basis) => match basis.try_clone(alloc) {
+        ReplayResult::Won(basis) => match basis.try_clone() {
             Ok(basis) => Ok(Some(basis)),
             Err(e) => Err(e),
         },
@@ -135,7 +140,6 @@ fn footprint_to_keep(
 
 /// Keeps what is found on a tree, where the tree has a name.
 fn put_footprint_if_named(
-    alloc: Global,
     named: bool,
     found: &ReplayResult,
     names: &mut Vec<Option<PositionFootprint>>,
@@ -143,7 +147,7 @@ fn put_footprint_if_named(
     ensures { OnOk result (names.new.items ≡ with_named_footprint named (kept_footprint found.now) names.old.items) }
 {
     if named {
-        let name = footprint_to_keep(alloc, found)?;
+        let name = footprint_to_keep(found)?;
         names.push(name)?;
     }
     Ok(())
@@ -255,13 +259,14 @@ fn replay_branch(
             let found = replay_outline(alloc, child, s, line, names);
             line.pop();
             match found {
-                Ok(behind) => Ok(result_of_branch(line, &turn, &board, behind)),
+                Ok(behind) => result_of_branch(alloc, line, &turn, &board, behind),
                 Err(e) => Err(e),
             }
         }
         Err(Refused::Illegal(_)) => {
             skip(child, names)?;
-            Ok(ReplayResult::Won(PositionFootprint::of(alloc, line)))
+            let basis = PositionFootprint::of(alloc, line)?;
+            Ok(ReplayResult::Won(basis))
         }
         Err(Refused::NoMemory) => Err(NoMemory),
     }
@@ -284,7 +289,7 @@ fn replay_branches(
     let mut found = ReplayResult::Won(basis);
     for (turn, child) in list {
         let next = replay_branch(alloc, *turn, child, s, line, names)?;
-        found = combine_results(found, next)?;
+        found = combine_results(alloc, found, next)?;
     }
     Ok(found)
 }
@@ -361,19 +366,19 @@ fn replay_outline(
     ensures same { line.new ≡ line.old }
 {
     match o {
-        Outline::Done => Ok(result_of_done(alloc, s, line)),
+        Outline::Done => result_of_done(alloc, s, line),
         Outline::Part(k) => match names.get(*k) {
-            Some(name) => result_of_part(alloc, name, line),
+            Some(name) => result_of_part(name, line),
             None => Ok(ReplayResult::Unfit),
         },
         Outline::Pick(named, turn, child) => {
             let found = replay_pick(alloc, *turn, child, s, line, names)?;
-            put_footprint_if_named(alloc, *named, &found, names)?;
+            put_footprint_if_named(*named, &found, names)?;
             Ok(found)
         }
         Outline::Reply(named, list) => {
             let found = replay_reply(alloc, list, s, line, names)?;
-            put_footprint_if_named(alloc, *named, &found, names)?;
+            put_footprint_if_named(*named, &found, names)?;
             Ok(found)
         }
     }

@@ -1,11 +1,14 @@
 //! What a tree rests on: it wins wherever that is met.
 
-ghost use Rattle.std.specs.Prelude.{◌≡◌, ◌↔◌, IfOk, IsTrue};
+ghost use Rattle.std.specs.Prelude.{◌≡◌, ◌↔◌, ◌⊎◌, Contains, IfOk, IsTrue};
+ghost use Rattle.tt_board.specs.Position.{Position};
 ghost use Rattle.tt_proof.specs.KeptFootprints.{IsBoardAfter};
+ghost use Rattle.tt_proof.specs.inside.Collecting.{IsPassedUp, IsPlayed};
 ghost use Rattle.tt_proof.specs.SharedParts.{FootprintFits, RestsOnPositionAlone, RestsOnRepeats, RestsBeforePick, RestsBeforeOpposingTurn, RestsOnBoth};
 
 use crate::board_set::BoardSet;
-use crate::footprints::{Footprint, add_made_board, remove_made_board};
+use crate::footprints::Footprint;
+use crate::shared_board_set::SharedBoardSet;
 use std::alloc::Global;
 use tt_board::Board;
 use tt_game::{Line, Side, Turn};
@@ -17,22 +20,54 @@ pub(crate) struct PositionFootprint {
     board: Board,
     to_move: Side,
     passes: u8,
-    needs: BoardSet,
-    avoids: BoardSet,
+    needs: SharedBoardSet,
+    avoids: SharedBoardSet,
+}
+
+/// Of what the child of a turn needs, which led to the board, only that which it needs in its parent's history too.
+fn without_made_board(
+    alloc: Global,
+    needs: SharedBoardSet,
+    turn: &Turn,
+    board: &Board,
+) -> Result<SharedBoardSet, NoMemory>
+    ensures { IfOk result (λ s. (b : Position) → Contains s b ↔ IsPassedUp turn.now board.now needs b) }
+{
+    match turn {
+        Turn::Pass => Ok(needs),
+        Turn::Play(_) => needs.without(alloc, board),
+    }
+}
+
+/// With the board that a play made; a pass made none.
+fn with_made_board(
+    alloc: Global,
+    avoids: SharedBoardSet,
+    turn: &Turn,
+    board: &Board,
+) -> Result<SharedBoardSet, NoMemory>
+    ensures { IfOk result (λ s. (b : Position) → Contains s b ↔ (Contains avoids b ⊎ IsPlayed turn.now board.now b)) }
+{
+    match turn {
+        Turn::Pass => Ok(avoids),
+        Turn::Play(_) => avoids.with(alloc, board),
+    }
 }
 
 impl PositionFootprint {
     /// The line's position with any history.
-    pub(crate) fn of(alloc: Global, line: &Line) -> PositionFootprint
-        ensures { RestsOnPositionAlone line.now.frame line.now.state result }
+    pub(crate) fn of(alloc: Global, line: &Line) -> Result<PositionFootprint, NoMemory>
+        ensures { IfOk result (λ x. RestsOnPositionAlone line.now.frame line.now.state x) }
     {
-        PositionFootprint {
+        let needs = SharedBoardSet::of(alloc, BoardSet::new(alloc))?;
+        let avoids = SharedBoardSet::of(alloc, BoardSet::new(alloc))?;
+        Ok(PositionFootprint {
             board: line.present().copy(),
             to_move: line.to_move(),
             passes: line.passes(),
-            needs: BoardSet::new(alloc),
-            avoids: BoardSet::new(alloc),
-        }
+            needs,
+            avoids,
+        })
     }
 
     /// The line's position with a history that has the boards which plays would repeat.
@@ -44,6 +79,8 @@ impl PositionFootprint {
             avoids,
             met: _,
         } = Footprint::of_empty_reply(alloc, line)?;
+        let needs = SharedBoardSet::of(alloc, needs)?;
+        let avoids = SharedBoardSet::of(alloc, avoids)?;
         Ok(PositionFootprint {
             board: line.present().copy(),
             to_move: line.to_move(),
@@ -68,11 +105,11 @@ impl PositionFootprint {
             board: _,
             to_move: _,
             passes: _,
-            mut needs,
-            mut avoids,
+            needs,
+            avoids,
         } = self;
-        remove_made_board(&mut needs, turn, board);
-        add_made_board(alloc, &mut avoids, turn, board)?;
+        let needs = without_made_board(alloc, needs, turn, board)?;
+        let avoids = with_made_board(alloc, avoids, turn, board)?;
         Ok(PositionFootprint {
             board: line.present().copy(),
             to_move: line.to_move(),
@@ -85,40 +122,45 @@ impl PositionFootprint {
     /// What a tree that rests on this rests on in front of the turn of the other side, which leads to the board.
     pub(crate) fn before_opposing_turn(
         self,
+        alloc: Global,
         line: &Line,
         turn: &Turn,
         board: &Board,
-    ) -> PositionFootprint
+    ) -> Result<PositionFootprint, NoMemory>
         requires { IsBoardAfter line.now.frame line.now.state turn.now board.now }
-        ensures { RestsBeforeOpposingTurn line.now.frame line.now.state turn.now self result }
+        ensures { IfOk result (λ x. RestsBeforeOpposingTurn line.now.frame line.now.state turn.now self x) }
     {
         let PositionFootprint {
             board: _,
             to_move: _,
             passes: _,
-            mut needs,
+            needs,
             avoids,
         } = self;
-        remove_made_board(&mut needs, turn, board);
-        PositionFootprint {
+        let needs = without_made_board(alloc, needs, turn, board)?;
+        Ok(PositionFootprint {
             board: line.present().copy(),
             to_move: line.to_move(),
             passes: line.passes(),
             needs,
             avoids,
-        }
+        })
     }
 
     /// What two trees rest on together that stand at one position.
-    pub(crate) fn joined(self, other: PositionFootprint) -> Result<PositionFootprint, NoMemory>
+    pub(crate) fn joined(
+        self,
+        alloc: Global,
+        other: PositionFootprint,
+    ) -> Result<PositionFootprint, NoMemory>
         ensures { IfOk result (λ x. RestsOnBoth self other x) }
     {
         let PositionFootprint {
             board,
             to_move,
             passes,
-            mut needs,
-            mut avoids,
+            needs,
+            avoids,
         } = self;
         let PositionFootprint {
             board: _,
@@ -127,8 +169,8 @@ impl PositionFootprint {
             needs: more_needs,
             avoids: more_avoids,
         } = other;
-        needs.join(more_needs)?;
-        avoids.join(more_avoids)?;
+        let needs = needs.joined(alloc, more_needs)?;
+        let avoids = avoids.joined(alloc, more_avoids)?;
         Ok(PositionFootprint {
             board,
             to_move,
@@ -139,11 +181,11 @@ impl PositionFootprint {
     }
 
     /// The same once more.
-    pub(crate) fn try_clone(&self, alloc: Global) -> Result<PositionFootprint, NoMemory>
+    pub(crate) fn try_clone(&self) -> Result<PositionFootprint, NoMemory>
         ensures { IfOk result (λ x. x ≡ self.now) }
     {
-        let needs = self.needs.try_clone(alloc)?;
-        let avoids = self.avoids.try_clone(alloc)?;
+        let needs = self.needs.try_clone()?;
+        let avoids = self.avoids.try_clone()?;
         Ok(PositionFootprint {
             board: self.board.copy(),
             to_move: self.to_move,

@@ -56,16 +56,16 @@ impl Draft {
     fn put_done(&mut self, alloc: Global, line: &Line) -> Result<Option<TreeFacts>, NoMemory> {
         self.text.push(b'.')?;
         Ok(Some(TreeFacts {
-            basis: PositionFootprint::of(alloc, line),
+            basis: PositionFootprint::of(alloc, line)?,
             depth: 0,
         }))
     }
 
     /// Writes the part that stands for the tree at the index.
-    fn put_part(&mut self, alloc: Global, index: usize) -> Result<Option<TreeFacts>, NoMemory> {
+    fn put_part(&mut self, index: usize) -> Result<Option<TreeFacts>, NoMemory> {
         self.text.push(b'*')?;
         self.marked.push(index)?;
-        self.kept.use_part(alloc, index)
+        self.kept.use_part(index)
     }
 
     /// Begins a tree, and answers where its index stands in the list.
@@ -80,7 +80,6 @@ impl Draft {
     /// Ends the tree whose index stands there in the list. The line stands where the tree begins.
     fn end_tree(
         &mut self,
-        alloc: Global,
         number: usize,
         line: &Line,
         written: Option<TreeFacts>,
@@ -88,7 +87,7 @@ impl Draft {
         let Some(written) = written else {
             return Ok(None);
         };
-        let index = self.kept.keep(alloc, line, &written)?;
+        let index = self.kept.keep(line, &written)?;
         if let Some(kept_index) = self.marked.get_mut(number) {
             *kept_index = index;
         }
@@ -155,6 +154,7 @@ fn written_pick(
 
 /// What is known of a reply with one branch more, whose turn leads to the board.
 fn written_with_branch(
+    alloc: Global,
     line: &Line,
     turn: &Turn,
     board: &Board,
@@ -168,8 +168,9 @@ fn written_with_branch(
         basis: others,
         depth: most,
     } = before;
+    let basis = basis.before_opposing_turn(alloc, line, turn, board)?;
     Ok(TreeFacts {
-        basis: others.joined(basis.before_opposing_turn(line, turn, board))?,
+        basis: others.joined(alloc, basis)?,
         depth: most.max(depth.saturating_add(1)),
     })
 }
@@ -199,7 +200,9 @@ fn walk_branch(
             let behind = walk(alloc, child, left - 1, line, draft)?;
             line.pop();
             match behind {
-                Some(behind) => Ok(Some(written_with_branch(line, &turn, &board, before, behind)?)),
+                Some(behind) => Ok(Some(written_with_branch(
+                    alloc, line, &turn, &board, before, behind,
+                )?)),
                 None => Ok(None),
             }
         }
@@ -283,19 +286,19 @@ fn walk(
     ensures same { OnOk result (line.new ≡ line.old) }
 {
     if let Some(index) = draft.kept.find_winning_index(line, left) {
-        return draft.put_part(alloc, index);
+        return draft.put_part(index);
     }
     match t {
         Tree::Done => draft.put_done(alloc, line),
         Tree::Pick(turn, child) => {
             let number = draft.begin_tree(b'!')?;
             let written = walk_pick(alloc, *turn, child, left, line, draft)?;
-            draft.end_tree(alloc, number, line, written)
+            draft.end_tree(number, line, written)
         }
         Tree::Reply(list) => {
             let number = draft.begin_tree(b'?')?;
             let written = walk_reply(alloc, list, left, line, draft)?;
-            draft.end_tree(alloc, number, line, written)
+            draft.end_tree(number, line, written)
         }
     }
 }

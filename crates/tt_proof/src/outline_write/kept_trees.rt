@@ -20,9 +20,9 @@ pub(crate) struct TreeFacts {
 
 impl TreeFacts {
     /// The same once more.
-    fn try_clone(&self, alloc: Global) -> Result<TreeFacts, NoMemory> {
+    fn try_clone(&self) -> Result<TreeFacts, NoMemory> {
         Ok(TreeFacts {
-            basis: self.basis.try_clone(alloc)?,
+            basis: self.basis.try_clone()?,
             depth: self.depth,
         })
     }
@@ -84,16 +84,11 @@ impl KeptTrees {
     }
 
     /// Keeps a tree that is written at the line, and answers its index.
-    pub(crate) fn keep(
-        &mut self,
-        alloc: Global,
-        line: &Line,
-        written: &TreeFacts,
-    ) -> Result<usize, NoMemory> {
+    pub(crate) fn keep(&mut self, line: &Line, written: &TreeFacts) -> Result<usize, NoMemory> {
         let hash = board_hash(line.present());
         let index = self.trees.len();
         let kept = KeptTree {
-            written: written.try_clone(alloc)?,
+            written: written.try_clone()?,
             hash,
             before: self.newest_index_in_bucket(hash),
             is_used: false,
@@ -106,16 +101,12 @@ impl KeptTrees {
     }
 
     /// What is known of the tree at the index, for which a part stands from now on.
-    pub(crate) fn use_part(
-        &mut self,
-        alloc: Global,
-        index: usize,
-    ) -> Result<Option<TreeFacts>, NoMemory> {
+    pub(crate) fn use_part(&mut self, index: usize) -> Result<Option<TreeFacts>, NoMemory> {
         let Some(tree) = self.trees.get_mut(index) else {
             return Ok(None);
         };
         tree.is_used = true;
-        Ok(Some(tree.written.try_clone(alloc)?))
+        Ok(Some(tree.written.try_clone()?))
     }
 
     /// Whether a part stands for the tree at the index.

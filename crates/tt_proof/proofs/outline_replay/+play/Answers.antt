@@ -17,7 +17,7 @@ use Rattle.tt_proof.proofs.OutlineReplayLemmas.{Replayed, replayed_start, replay
 use Rattle.tt_proof.proofs.outline_replay.+play.Goals as goal
 
 pub replay_outline-returns-in-Done-clause-found : goal.replay_outline-returns-in-Done-clause-found
-replay_outline-returns-in-Done-clause-found t c = rw (c.in-Done.is, outline_of_done) (c.result_of_done.ensures, refl)
+replay_outline-returns-in-Done-clause-found t c = rw (c.in-Done.is, outline_of_done) (if_ok c.result_of_done.result _ _ (λ r g. (g, refl)) c.result_of_done.ensures)
 
 pub replay_outline-returns-in-Some-clause-found : goal.replay_outline-returns-in-Some-clause-found
 replay_outline-returns-in-Some-clause-found t c =
@@ -101,19 +101,19 @@ replay_branch-returns-in-Ok-found-clause-found t c =
     let o = outline_of c.args.child.now in
     let behind = subst (λ (l : LineWithUndo). IsReplayOfOutline s l.frame c.args.names.now.items o l.state c.in-Ok-found.behind c.replay_outline-found.new.names.items)
     c.in-Ok.ensures.ok.1 c.in-Ok-found.ensures.found in
-    let more = subst (λ (l : LineWithUndo). IsResultBeforeTurn (RestsBeforeOpposingTurn l.frame l.state turn) c.in-Ok-found.behind c.result_of_branch.result)
+    let more = subst (λ (l : LineWithUndo). IfOk c.result_of_branch.result (IsResultBeforeTurn (RestsBeforeOpposingTurn l.frame l.state turn) c.in-Ok-found.behind))
     same c.result_of_branch.ensures in
-    inl (c.in-Ok.ensures.ok.0, (c.in-Ok-found.behind, (behind, more)))
+    if_ok c.result_of_branch.result _ _ (λ r g. inl (c.in-Ok.ensures.ok.0, (c.in-Ok-found.behind, (behind, g)))) more
 
-pub replay_branch-returns-in_ok-skip-in-Err-Illegal-clause-found : goal.replay_branch-returns-in_ok-skip-in-Err-Illegal-clause-found
-replay_branch-returns-in_ok-skip-in-Err-Illegal-clause-found t c =
+pub replay_branch-returns-in_ok-basis-in-Err-Illegal-clause-found : goal.replay_branch-returns-in_ok-basis-in-Err-Illegal-clause-found
+replay_branch-returns-in_ok-basis-in-Err-Illegal-clause-found t c =
     let f = c.args.line.now.frame in
     let at = c.args.line.now.state in
     let same : c.push.new.self ≡ c.args.line.now = search rules in
-    let stands = subst (λ (l : LineWithUndo). RestsOnPositionAlone l.frame l.state c.of.result) same c.of.ensures in
+    let stands = subst (λ (l : LineWithUndo). RestsOnPositionAlone l.frame l.state c.in_ok-basis-in-Err-Illegal.basis) same c.in_ok-basis-in-Err-Illegal.ensures in
     inr (
       refused_bars f at c.args.turn c.in-Err-Illegal.field-0-0 (rw c.in-Err-Illegal.field-0-is at c.in-Err-Illegal.ensures.why),
-      (c.of.result, (refl, stands)),
+      (c.in_ok-basis-in-Err-Illegal.basis, (refl, stands)),
       c.in_ok-skip-in-Err-Illegal.ensures,
     )
 

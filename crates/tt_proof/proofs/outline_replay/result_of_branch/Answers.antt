@@ -1,5 +1,5 @@
 use Rattle.std.proofs.Common.{refl}
 use Rattle.tt_proof.proofs.outline_replay.result_of_branch.Goals as goal
 
-pub returns-in-Won : goal.returns-in-Won
-returns-in-Won c = rw c.in-Won.is (c.before_opposing_turn.result, (refl, c.before_opposing_turn.ensures))
+pub returns-in-Ok : goal.returns-in-Ok
+returns-in-Ok c = rw c.in-Won.is (c.in-Ok.basis, (refl, c.in-Ok.ensures))

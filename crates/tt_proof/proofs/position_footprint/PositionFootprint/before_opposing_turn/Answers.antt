@@ -8,6 +8,6 @@ returns c =
     let s = c.args.line.now.state in
     record {
       position = has_position f s _ (search rules) (search rules) (search rules) (search rules);
-      needs = λ b. iff_chain (c.remove_made_board.ensures b) (passed_up f s c.args.turn.now c.args.board.now c.requires c.args.self.needs b);
+      needs = λ b. iff_chain (c.in_ok-needs.ensures b) (passed_up f s c.args.turn.now c.args.board.now c.requires c.args.self.needs b);
       avoids = refl;
     }

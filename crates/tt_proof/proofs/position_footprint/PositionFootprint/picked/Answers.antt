@@ -9,6 +9,6 @@ returns c =
     let t = c.args.turn.now in
     record {
       position = has_position f s _ (search rules) (search rules) (search rules) (search rules);
-      needs = λ b. iff_chain (c.remove_made_board.ensures b) (passed_up f s t c.args.board.now c.requires c.args.self.needs b);
-      avoids = λ b. or_second (c.in_ok-add_made_board.ensures b) (made_board f s t c.args.board.now c.requires b);
+      needs = λ b. iff_chain (c.in_ok-needs.ensures b) (passed_up f s t c.args.board.now c.requires c.args.self.needs b);
+      avoids = λ b. or_second (c.in_ok-avoids.ensures b) (made_board f s t c.args.board.now c.requires b);
     }
