@@ -1,4 +1,6 @@
 //! The certifier: proofs made bottom up at the exact line, after advice that nobody has to believe.
+//!
+//! It is up to 512 turns deep. What isn't on the way down is never inlined, so that it takes no stack at each turn.
 
 ghost use Rattle.std.specs.Prelude.{◌≡◌, ◌≤◌, ◌<◌, ◌+◌, true, false, IfOk, IfSome, None};
 ghost use Rattle.tt_game.specs.Game.{winner_of, opponent, IsLegal};
@@ -68,6 +70,7 @@ pub fn certify<A: Advice>(
 /// The same where nobody has won and nothing is known: a visit. A proof is kept where the side is to move: fewer lines lead to the
 /// others.
 #[cycle(certifying)]
+#[inline(never)]
 fn proof_by_visit<A: Advice>(
     alloc: Global,
     line: &mut Line,
@@ -97,6 +100,7 @@ fn proof_by_visit<A: Advice>(
 }
 
 /// The proof where the winner has won, if this is the side.
+#[inline(never)]
 fn proof_if_won(
     alloc: Global,
     line: &Line,
@@ -115,6 +119,7 @@ fn proof_if_won(
 }
 
 /// The proof where the side has won or lives.
+#[inline(never)]
 fn proof_that_ends(alloc: Global, line: &Line, side: Side) -> Result<Option<LifeProof>, NoMemory>
     requires { HasWonOrLives side line.now.frame line.now.state }
     ensures stands { IfOk result (λ o. IfSome o (λ p. StandsAt p line.now.frame line.now.state)) }
@@ -127,6 +132,7 @@ fn proof_that_ends(alloc: Global, line: &Line, side: Side) -> Result<Option<Life
 
 /// The proof behind a legal turn, for the side, or none. The line stands as before.
 #[cycle(certifying)]
+#[inline(never)]
 fn proof_after<A: Advice>(
     alloc: Global,
     line: &mut Line,
@@ -165,6 +171,7 @@ fn is_legal(line: &Line, turn: &Turn) -> bool
 /// The proof that plays an advised turn, where the side is to move. Each turn that is refused is asked for again. Where the proof may end
 /// at life, a defender whose targets live passes.
 #[cycle(certifying)]
+#[inline(never)]
 fn proof_by_advice<A: Advice>(
     alloc: Global,
     line: &mut Line,
@@ -201,6 +208,7 @@ fn proof_by_advice<A: Advice>(
 
 /// The proof that plays this turn, where it is legal and the side wins behind it.
 #[cycle(certifying)]
+#[inline(never)]
 fn proof_by_turn<A: Advice>(
     alloc: Global,
     line: &mut Line,
@@ -228,6 +236,7 @@ fn proof_by_turn<A: Advice>(
 }
 
 /// The proof that plays the turn and goes on with the child, where there is one.
+#[inline(never)]
 fn proof_from_child(
     alloc: Global,
     line: &Line,
@@ -251,6 +260,7 @@ fn proof_from_child(
 
 /// The proof that answers each legal turn, where the other side is to move.
 #[cycle(certifying)]
+#[inline(never)]
 fn proof_by_reply<A: Advice>(
     alloc: Global,
     line: &mut Line,

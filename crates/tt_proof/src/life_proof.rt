@@ -229,6 +229,7 @@ impl LifeProof {
     }
 
     /// The proof that plays the turn and goes on with the child: see `Proof::pick`.
+    #[inline(never)]
     pub fn pick(
         alloc: Global,
         line: &Line,
@@ -256,6 +257,7 @@ impl LifeProof {
     }
 
     /// The proof that answers each turn of the other side with that turn's child: see `Proof::reply`.
+    #[inline(never)]
     pub fn reply(
         alloc: Global,
         line: &Line,

@@ -299,6 +299,7 @@ impl Advisor {
 }
 
 impl Advice for Advisor {
+    #[inline(never)]
     fn advise(
         &mut self,
         line: &Line,

@@ -371,7 +371,8 @@ impl Finder {
     }
 
     /// Whether the attacker's position that wasn't searched yet is lost, as the targets live unconditionally. Else its turns are
-    /// refuted that leave the defender a life at once.
+    /// refuted that leave the defender a life at once. It isn't inlined, so that its sets of points take no stack at each level.
+    #[inline(never)]
     fn is_hopeless_or_threatened(&mut self, attacker: Colour, list: &mut Vec<Child>) -> bool {
         if self.are_targets_alive() {
             return true;
