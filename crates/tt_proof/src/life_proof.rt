@@ -133,6 +133,16 @@ impl LifeProof {
         &self.footprint
     }
 
+    /// How many boards its footprint holds: most of what it takes in memory.
+    pub fn footprint_len(&self) -> usize {
+        let Footprint {
+            needs,
+            avoids,
+            met: _,
+        } = &self.footprint;
+        needs.len().saturating_add(avoids.len())
+    }
+
     /// The board of the proof's own position, made anew.
     pub(crate) fn present(&self) -> Board
         ensures { result ≡ record { size = self.now.frame.size; points = self.now.state.present } }
