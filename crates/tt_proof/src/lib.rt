@@ -5,7 +5,7 @@
 //! | `tree`, `tree_builders`, `measures`, `measured_tree` | `Tree`, a strategy; its depth and number of nodes |
 //! | `replays` | whether a tree wins at a line |
 //! | `footprints`, `position_footprint` | on which boards of the history that rests |
-//! | `board_set`, `board_set_bounds` | sets of boards, which share them |
+//! | `board_set`, `board_set_bounds`, `shared_board_set` | sets of boards, which share them |
 //! | `proven`, `life_proof` | `Proof`: a tree that wins. `LifeProof`: one that may end at life |
 //! | `certificate_read`, `certificate_write` | a tree as text |
 //! | `outlines`, `outline_read`, `outline_write`, `outline_replay` | a tree with shared parts, as text and back; its replay |
