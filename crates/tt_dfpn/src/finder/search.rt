@@ -278,22 +278,29 @@ impl Finder {
     }
 
     /// The attacker's play that takes the first target's chain at once.
-    fn first_target_capture(&self, mover: Colour) -> Option<u16> {
+    fn first_target_capture(&self, attacker: Colour) -> Option<u16> {
         let target = *self.region.targets.first()?;
         let p = self.board.only_liberty(target)?;
         if !self.region.inside[index(p)] {
             return None;
         }
-        let effect = self.board.preview_play(mover, p);
+        let effect = self.board.preview_play(attacker, p);
         if effect.takes_target && !effect.is_suicide && !self.board.history().has(effect.hash) {
             return Some(p);
         }
         None
     }
 
-    /// Adds a play on the empty point to a list, where it is worth a look; whether it wins at once.
+    /// Adds a play on the empty point to a list, where it is worth a look; whether it wins at once. A defender in atari, whose target
+    /// would be taken at once, plays on its liberty or takes something.
     #[inline]
-    fn add_play_or_win(&mut self, list: &mut Vec<Child>, mover: Colour, p: u16) -> bool {
+    fn add_play_or_win(
+        &mut self,
+        list: &mut Vec<Child>,
+        mover: Colour,
+        p: u16,
+        atari: Option<u16>,
+    ) -> bool {
         let attacks = mover != self.region.defender;
         let effect = self.board.preview_play(mover, p);
         if (effect.is_suicide && self.prunes) || self.board.history().has(effect.hash) {
@@ -302,12 +309,14 @@ impl Finder {
         if effect.takes_target {
             return attacks;
         }
-        if !attacks
-            && self.prunes
-            && effect.captures == 0
-            && self.board.is_eye_of_one_chain(mover, p)
-        {
-            return false;
+        if !attacks && self.prunes && effect.captures == 0 {
+            let is_useless = match atari {
+                Some(liberty) => p != liberty,
+                None => self.board.is_eye_of_one_chain(mover, p),
+            };
+            if is_useless {
+                return false;
+            }
         }
         let history = self.board.history().combined_hash_with(effect.hash);
         let hashes = hashes_of(effect.hash, mover.other(), history);
@@ -337,22 +346,22 @@ impl Finder {
         list: &mut Vec<Child>,
     ) -> Option<u16> {
         let attacks = mover != self.region.defender;
-        if attacks {
-            if let Some(p) = self.first_target_capture(mover) {
-                return Some(p);
-            }
+        let capture = self.first_target_capture(self.region.defender.other());
+        if attacks && capture.is_some() {
+            return capture;
         }
+        let atari = if self.prunes { capture } else { None };
         self.read_rows_ahead(mover);
         for k in 0..self.region.points.len() {
             let Some(point) = self.region.points.get(k) else {
                 break;
             };
             let p = *point;
-            if self.board.is_empty_point(p) && self.add_play_or_win(list, mover, p) {
+            if self.board.is_empty_point(p) && self.add_play_or_win(list, mover, p, atari) {
                 return Some(p);
             }
         }
-        if !attacks {
+        if !attacks && atari.is_none() {
             let hashes = self.hashes_of_position(mover.other());
             self.add_child(list, mover, PASS, hashes);
         }
