@@ -6,7 +6,7 @@ use crate::tree_bytes::from_first_parenthesis;
 use crate::writing::written;
 use std::io::Write;
 use tt_game::{GameFault, said_size};
-use tt_sgf::{NoMemory, Node, PointSet};
+use tt_sgf::{NoMemory, Node, PointSet, SgfFault, stopping_byte};
 
 /// The longest value that is written as it is.
 const MOST_VALUE_BYTES: usize = 20;
@@ -95,7 +95,31 @@ fn newline_count(bytes: &[u8]) -> usize {
     bytes.iter().filter(|byte| **byte == b'\n').count()
 }
 
-/// Writes that no game tree can be read in the rest of an input, and where it begins, behind the text. Bytes and lines count from 1.
+/// Writes the byte of this index and its line behind the text. Bytes and lines count from 1.
+fn put_byte_and_line(out: &mut Vec<u8>, input: &[u8], index: usize) -> Result<(), NoMemory> {
+    let front = &input[..index.min(input.len())];
+    let byte = front.len().saturating_add(1);
+    let line = newline_count(front).saturating_add(1);
+    written(write!(out, "byte {byte} in line {line}"))
+}
+
+/// Writes at which byte the reading of the rest of an input stops and where its tree begins, behind the text, if one begins.
+fn put_stopping_byte(out: &mut Vec<u8>, input: &[u8], rest: &[u8]) -> Result<(), NoMemory>
+    requires { length rest.now ≤ length input.now }
+{
+    let opened = from_first_parenthesis(rest);
+    if opened.is_empty() {
+        return Ok(());
+    }
+    let start = input.len() - opened.len();
+    out.extend_from_slice(b"look at: ")?;
+    put_byte_and_line(out, input, start.saturating_add(stopping_byte(opened)))?;
+    out.extend_from_slice(b", of the tree from ")?;
+    put_byte_and_line(out, input, start)?;
+    Ok(out.extend_from_slice(b" on; later trees weren't read\n")?)
+}
+
+/// Writes that no game tree can be read in the rest of an input, and where it stops, behind the text.
 pub fn put_no_tree(
     out: &mut Vec<u8>,
     number: usize,
@@ -104,25 +128,19 @@ pub fn put_no_tree(
 ) -> Result<(), NoMemory>
     requires { length rest.now ≤ length input.now }
 {
-    put_refusal_line(out, number, 1)?;
+    put_unread(out, number, SgfFault::Syntax)?;
+    put_stopping_byte(out, input, rest)
+}
+
+/// Writes the refusal of an input that has no game tree, and why, behind the text.
+fn put_unread(out: &mut Vec<u8>, number: usize, fault: SgfFault) -> Result<(), NoMemory> {
+    put_refusal_line(out, number, fault.code())?;
     out.extend_from_slice(b"why: ")?;
-    let opened = from_first_parenthesis(rest);
-    if opened.is_empty() {
-        return Ok(out.extend_from_slice(b"no bracket opens a game tree\n")?);
-    }
-    let front = &input[..input.len() - opened.len()];
-    let byte = front.len().saturating_add(1);
-    let line = newline_count(front).saturating_add(1);
-    written(writeln!(
-        out,
-        "the tree that begins at byte {byte} in line {line} can't be read: a bracket is missing, or the ] of a value; later trees weren't read"
-    ))
+    out.extend_from_slice(fault.reason())?;
+    Ok(out.push(b'\n')?)
 }
 
 /// Writes that an input is too long behind the text.
 pub fn put_too_long(out: &mut Vec<u8>, number: usize) -> Result<(), NoMemory> {
-    put_refusal_line(out, number, 2)?;
-    Ok(out.extend_from_slice(
-        b"why: the input has more than 1,048,576 bytes: give each problem a file of its own\n",
-    )?)
+    put_unread(out, number, SgfFault::TooLong)
 }
