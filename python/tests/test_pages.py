@@ -6,10 +6,10 @@ from pathlib import Path
 
 import pytest
 
-from tsumego import __version__, ask, book
+from tsumego import __version__, ask, book, gtp
 
 TOP = Path(__file__).resolve().parents[2]
-COMMANDS = {"tsumego-ask": ask.parser, "tsumego-book": book.parser}
+COMMANDS = {"tsumego-ask": ask.parser, "tsumego-book": book.parser, "tsumego-gtp": gtp.parser}
 
 
 @pytest.mark.parametrize("name", COMMANDS)

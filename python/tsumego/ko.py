@@ -23,9 +23,8 @@ from typing import Dict, FrozenSet, List, Optional, Set, Tuple
 from .answers import KILLED, LIVES, Answer, Ko, Verdict
 from .board import OTHER, Board
 from .points import PASS, sgf_name
-from .problems import Problem
+from .problems import Problem, set_up
 from .programs import in_parallel
-from .sgf import Node
 from .solving import Clock, first_turns, verdict
 from .strategy import Strategy
 
@@ -92,7 +91,7 @@ def leaning_on_repetition(problem: Problem, ours: Strategy) -> Optional[List[Pro
     while waiting:
         board, colour, each = waiting.pop()
         if each.replies and any(board.copy().play(colour, point) != {point} for point in region - board.stones.keys() - each.replies.keys()):
-            found[board.key()] = replace(problem, nodes=(_setup(board, colour),))
+            found[board.key()] = replace(problem, nodes=(set_up(board, colour),))
         if len(found) > MOST_LEANING or len(seen) > LONGEST:
             return None
         for turn, then in each.branches():
@@ -214,8 +213,4 @@ class _TakingBack:
 
 def _anew(problem: Problem) -> Problem:
     """The position set up anew: what was there before may be repeated."""
-    return replace(problem, nodes=(_setup(*problem.position()),))
-
-
-def _setup(board: Board, to_move: str) -> Node:
-    return Node().add("AB", *board.of("B")).add("AW", *board.of("W")).add("PL", to_move)
+    return replace(problem, nodes=(set_up(*problem.position()),))
