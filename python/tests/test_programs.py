@@ -3,7 +3,7 @@ import os
 import threading
 import time
 from pathlib import Path
-from typing import Callable, List
+from typing import Callable, Iterator, List
 
 import pytest
 
@@ -77,3 +77,18 @@ def test_a_stop_ends_what_runs_and_begins_nothing(stand_in: Callable[[str, str],
     stand_in("tsumego", "echo 1")
     assert programs.in_parallel(str, [1]) == ["1"] and programs.run("tsumego", ["solve"], b"").text == "1\n"
     assert sorted(map(str, faults)) == ["stopped", "stopped", "tsumego: ended by signal 9"] and (tmp_path / "log").read_text() == "\n"
+
+
+def test_nothing_begins_behind_ctrl_c(stand_in: Callable[[str, str], Path]) -> None:
+    stand_in("tsumego", "echo 1")
+
+    def interrupted() -> Iterator[int]:
+        yield 1
+        raise KeyboardInterrupt
+
+    with pytest.raises(KeyboardInterrupt):
+        programs.in_parallel(str, interrupted())
+    # A thread may have been begun that the pool didn't know yet.
+    with pytest.raises(programs.ProgramError, match="^stopped$"):
+        programs.run("tsumego", ["solve"], b"")
+    assert programs.in_parallel(lambda text: programs.run("tsumego", ["solve"], text).text, [b""]) == ["1\n"]

@@ -141,6 +141,9 @@ def _run(command: List[str], name: str, text: bytes, seconds: Optional[float]) -
 def in_parallel(ask: Callable[[Given], Found], given: Iterable[Given], jobs: int = JOBS) -> List[Found]:
     """What is asked of each, in their order; so many are asked at a time. Ctrl-C ends the programs that run, and begins no other."""
     futures: List["Future[Found]"] = []
+    is_main = threading.current_thread() is threading.main_thread()
+    if is_main:
+        _stopping.clear()
     with ThreadPoolExecutor(max(1, jobs)) as pool:
         try:
             futures.extend(pool.submit(ask, each) for each in given)
@@ -149,9 +152,11 @@ def in_parallel(ask: Callable[[Given], Found], given: Iterable[Given], jobs: int
             for future in futures:
                 future.cancel()
             if not isinstance(fault, Exception):
+                # (a thread that the pool doesn't know yet may begin later: so what stops it stays)
+                is_main = False
                 stop()
             raise
         finally:
             pool.shutdown()
-            if threading.current_thread() is threading.main_thread():
+            if is_main:
                 _stopping.clear()
