@@ -177,7 +177,10 @@ def test_what_is_not_known_is_an_error(words: Tuple[str, ...], tmp_path: Path) -
 def test_after_the_end(tmp_path: Path) -> None:
     engine = loaded("(;SZ[7]PL[B]AW[aa]AB[ba]TR[aa]SQ[ab])", tmp_path)
     assert engine.respond("genmove", ["b"]) == "A6"
-    assert engine.respond("genmove", ["w"]) == "PASS"
+    for words in (["dragon_status"], ["owl_attack"], ["tsumego-turns"], ["lz-analyze", "w"], ["tsumego-line", "b"], ["tsumego-region"]):
+        with pytest.raises(GtpError, match="the group is taken"):
+            engine.respond(words[0], words[1:])
+    assert engine.respond("genmove", ["w"]) == "PASS" and "no stone" not in engine.respond("showboard", [])
     engine = loaded(next(row[3] for row in data.SHAPES if row[0] == "centre_bent_four_B"), tmp_path)
     for colour in ("b", "w"):
         engine.respond("play", [colour, "pass"])

@@ -358,6 +358,8 @@ class Engine:
     def marks(self, stone: Optional[str] = None) -> Problem:
         """The problem with marks: around the stone, if it isn't of the marked group. Marks that are made stay, whatever is played."""
         problem, board = self.problem, self.problem.position()[0]
+        if stone is None and self.is_taken():
+            raise GtpError("the group is taken")
         if problem.targets and problem.region and (stone is None or any(each in board.stones and stone in board.chain(each) for each in problem.targets)):
             return problem
         named = stone or self.named
@@ -375,15 +377,17 @@ class Engine:
             self.problem = made
         return made
 
+    def is_taken(self) -> bool:
+        """Whether a stone of the marked group is gone."""
+        board, _ = self.problem.position()
+        return any(target not in board.stones for target in self.problem.targets)
+
     def to_begin(self, problem: Problem, colour: str) -> Problem:
         return problem if problem.to_move == colour else problem.with_other_side()
 
     def verdict(self, problem: Problem, colour: str) -> Verdict:
         """Who wins where the colour begins. Raises GtpError where that isn't known."""
         asked = self.to_begin(problem, colour)
-        board, _ = asked.position()
-        if any(target not in board.stones for target in asked.targets):
-            return Verdict(KILLED)
         if is_ended(asked):
             return Verdict(LIVES)
         text = asked.text()
@@ -405,15 +409,14 @@ class Engine:
             self.answers[text] = answer(GameTree(problem.marked_nodes()), None, self.limit)
         found = self.answers[text]
         if not found.verdict.is_settled:
-            raise GtpError("the group is taken" if found.verdict.detail == "22" else f"unsettled {found.why}".strip())
+            raise GtpError(f"unsettled {found.why}".strip())
         return found
 
     def turn(self, colour: str) -> str:
         """A turn that wins; a pass where the group lives without, or is taken; else the one that can be resisted longest."""
-        problem = self.to_begin(self.marks(), colour)
-        board, _ = problem.position()
-        if any(target not in board.stones for target in problem.targets):
+        if self.is_taken():
             return PASS
+        problem = self.to_begin(self.marks(), colour)
         found = self.verdict(problem, colour)
         if (found.word == LIVES) == (colour == problem.defender):
             is_safe = colour == problem.defender and self.verdict(problem, problem.attacker).word == LIVES
