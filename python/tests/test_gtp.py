@@ -12,6 +12,7 @@ import pytest
 
 from tsumego.gtp import ANALYZE, Engine, GtpError, serve
 from tsumego.problems import problem_of
+from tsumego.programs import ProgramError
 from tsumego.sgf import trees_of
 
 TOP = Path(__file__).resolve().parents[2]
@@ -147,6 +148,7 @@ def test_a_number_of_moves(tmp_path: Path) -> None:
         (["play b I5"], "invalid vertex"),
         (["play b A1", "play w A1"], "illegal move"),
         (["undo"], "cannot undo"),
+        (["set_free_handicap A1 pass"], "invalid vertex"),
         (["loadsgf /nowhere.sgf"], "cannot open or parse the file"),
         (["gogui-setup b A1 w"], "syntax error"),
         (["gogui-setup b A19 w B19 w A18"], "a stone has no liberty"),
@@ -185,3 +187,22 @@ def test_after_the_end(tmp_path: Path) -> None:
     for colour in ("b", "w"):
         engine.respond("play", [colour, "pass"])
     assert engine.respond("dragon_status", []) == "alive"
+
+
+WORDS = ["b", "w", "A1", "B2", "C3", "C2", "B3", "pass", "D4", "A9", "5", "auto", "x", "allow", "1", str(TOP / "examples/straight_three_black.sgf")]
+
+
+@pytest.mark.parametrize("seed", range(4))
+def test_no_words_break_the_engine(seed: int) -> None:
+    chance, engine = random.Random(seed), Engine(0.2)
+    engine.respond("boardsize", ["5"])
+    commands = [name for name in engine.commands() if name != "quit"] + ["play", "undo", "loadsgf"] * 3
+    answered = 0
+    for _ in range(80):
+        words = [chance.choice("bw"), chance.choice(WORDS)] if chance.random() < 0.6 else chance.choices(WORDS, k=chance.randrange(4))
+        try:
+            engine.respond(chance.choice(commands), words)
+            answered += 1
+        except (GtpError, ProgramError):
+            pass
+    assert answered > 20

@@ -165,9 +165,7 @@ class Engine:
         return NAMES[self.problem.to_move].lower()
 
     def do_gogui__setup(self, *words: str) -> str:
-        pairs = [(colour_of(colour), self.point(word)) for colour, word in self.pairs(words)]
-        stones = {turn: colour for colour, turn in pairs if turn != PASS}
-        self.set_up(stones, BLACK)
+        self.set_up({self.point(word): colour_of(colour) for colour, word in self.pairs(words)}, BLACK)
         return ""
 
     def do_gogui__setup_player(self, word: str = "", *_: str) -> str:
@@ -179,7 +177,7 @@ class Engine:
         return ""
 
     def do_play(self, colour: str = "", word: str = "", *_: str) -> str:
-        self.play(colour_of(colour), self.point(word))
+        self.play(colour_of(colour), self.turn_of(word))
         return ""
 
     def do_gogui__play_sequence(self, *words: str) -> str:
@@ -300,7 +298,7 @@ class Engine:
         found = self.answer(colour_of(words[0]) if has_colour else self.problem.to_move)
         problem = found.problem
         assert problem
-        allowed = {self.point(each) for at, word in enumerate(words) if word == "allow" for each in "".join(words[at + 2 : at + 3]).split(",") if each}
+        allowed = {self.turn_of(each) for at, word in enumerate(words) if word == "allow" for each in "".join(words[at + 2 : at + 3]).split(",") if each}
         shown = [(turn, 1, "") for turn in found.winning] + [(each.turn, 0, each.answer or "") for each in found.failing]
         parts: List[str] = []
         for turn, wins, then in shown:
@@ -316,10 +314,12 @@ class Engine:
             raise GtpError("syntax error: a color and a vertex are wanted for each stone")
         return zip(words[::2], words[1::2])
 
+    def turn_of(self, word: str) -> str:
+        """A turn, of a vertex."""
+        return PASS if word.lower() == PASS else self.point(word)
+
     def point(self, word: str) -> str:
-        """A point or a pass, of a vertex."""
-        if word.lower() == PASS:
-            return PASS
+        """A point, of a vertex."""
         if not re.fullmatch("[A-HJ-Ta-hj-t][0-9]{1,2}", word):
             raise GtpError("invalid vertex")
         try:
