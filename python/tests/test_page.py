@@ -33,7 +33,7 @@ def browser(files: Path) -> Iterator[Any]:
 
 @pytest.fixture(scope="module")
 def service() -> Iterator[Served]:
-    with served("--at-once", "2") as found:
+    with served("--at-once", "2", "--seconds", "60") as found:
         yield found
 
 
@@ -205,19 +205,26 @@ def losing() -> List[List[str]]:
     return sorted(found, key=len)[1::2][:20]
 
 
+# Clicks the points (or buttons) one after the other, each when what was asked is answered, until the page says that it is over.
+PLAYER = """const [turns, done] = arguments, said = [], part = (id) => document.getElementById(id);
+    const step = () => {
+        if (part('ask').textContent === 'Stop') return setTimeout(step, 2);
+        said.push(part('say').textContent + part('error').textContent);
+        if (!turns.length || /is captured|is alive|have passed/.test(said[said.length - 1])) return done(said);
+        part(turns.shift()).dispatchEvent(new MouseEvent('click', { bubbles: true }));
+        return step();
+    };
+    step();"""
+
+
 def test_a_random_player_never_beats_the_page(page: Page) -> None:
     choose = random.Random(7)
     for name, verdict, text, *region in losing():
         page.paste(text)
         page.press("tool-P")
-        for _ in range(60):
-            turn = choose.choice(region + ["pass"])
-            page.press("pass" if turn == "pass" else f"p-{turn}")
-            said = page.text("say")
-            assert page.text("error") == "" and " is right" not in said, (name, said)
-            if "is captured" in said or "is alive" in said or "have passed" in said:
-                break
-        assert ("is captured" in said) == (verdict == "killed"), (name, said)
+        turns = [choose.choice([f"p-{point}" for point in region] + ["pass"]) for _ in range(200)]
+        said = page.browser.execute_async_script(PLAYER, turns)
+        assert ("is captured" in said[-1]) == (verdict == "killed") and not any(" is right" in each for each in said), (name, said)
 
 
 def test_the_checker_of_the_page_says_what_the_proved_one_says(page: Page) -> None:

@@ -328,10 +328,11 @@ function takeBack() {
 // ---- proofs and files
 
 async function checkProof(signal) {
+  Object.assign($("checked"), { hidden: false, textContent: "Checking in this page .." });
+  await new Promise((done) => setTimeout(done, 30));
   const began = performance.now();
   const here = check(proof.line, Object.assign(new Game(problem, proof.moves), { passes: 0 }));
   const took = ((performance.now() - began) / 1000).toFixed(1);
-  $("checked").hidden = false;
   $("checked").textContent = `Checked in this page, move by move in ${took} s: ${here}. The server's check ..`;
   const there = await post("/check", `${proof.text}\n${proof.line}\n`, signal).then((found) => [found.verdict, found.number].join(" ").trim(), (wrong) => wrong.message);
   $("checked").textContent = `Checked in this page, move by move in ${took} s: ${here}. By the server's proved checker: ${there}.`;

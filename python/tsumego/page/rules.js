@@ -45,12 +45,12 @@ export class Board {
 
   // The position after a stone on an empty point: the other's chains without liberties are taken, and then one's own.
   play(position, colour, point) {
-    const stones = [...position];
-    stones[point] = colour;
+    let stones = position.slice(0, point) + colour + position.slice(point + 1);
     for (const place of [...this.near[point], point]) {
-      if (stones[place] === (place === point ? colour : other(colour))) for (const stone of this.dead(stones, place)) stones[stone] = ".";
+      const taken = stones[place] === (place === point ? colour : other(colour)) ? this.dead(stones, place) : [];
+      for (const stone of taken) stones = `${stones.slice(0, stone)}.${stones.slice(stone + 1)}`;
     }
-    return stones.join("");
+    return stones;
   }
 
   // The points as areas of adjacent ones, each with the points beside it.
