@@ -127,7 +127,7 @@ def test_a_client_that_leaves_frees_its_place(path: str) -> None:
         line.close()
         begun = time.monotonic()
         assert service.post("/solve", STRAIGHT)[2] == b"1 killed ca\n"
-        assert time.monotonic() - begun < 1
+        assert time.monotonic() - begun < 2
         assert sorted(each.split()[2] for each in service.logged()[:-1]) == ["200", "gone", "gone"]
 
 
@@ -142,6 +142,22 @@ def test_a_connection_is_kept(service: Served) -> None:
     assert (answer.status, answer.read()) == (400, b"seconds is no number above 0\n")
     line.request("POST", "/ask", STRAIGHT, {"Accept": "application/json"})
     assert line.getresponse().read().count(b"\n") == 5
+
+
+def test_heads_that_nobody_should_send(service: Served) -> None:
+    body = f"Content-Length: {len(STRAIGHT)}\r\n"
+    for head, status in (
+        (f"POST /solve HTTP/1.1\r\n{body}{body}", b"400"),
+        (f"POST /solve HTTP/1.1\r\n{body}Transfer-Encoding: chunked\r\n", b"400"),
+        ("POST /solve HTTP/1.1\r\nContent-Length: ²\r\n", b"400"),
+        (f"POST http://[/solve HTTP/1.1\r\n{body}", b"404"),
+        (f"POST /solve?{'a' * 70_000} HTTP/1.1\r\n{body}", b"414"),
+        (f"POST /solve HTTP/1.0\r\nConnection: keep-alive\r\n{body}", b"200"),
+    ):
+        with socket.create_connection(("127.0.0.1", service.port), timeout=60) as line:
+            line.sendall((head + "\r\n" + STRAIGHT).encode())
+            answer = b"".join(iter(lambda: line.recv(4096), b""))
+            assert answer[9:12] == status and b"\r\nConnection: close\r\n" in answer, (head, answer)
 
 
 def test_gzip(service: Served) -> None:

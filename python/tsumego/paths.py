@@ -118,7 +118,8 @@ def _answer_text(events: List[Dict[str, Any]]) -> str:
 def _tree_text(events: List[Dict[str, Any]]) -> str:
     """The tree of the answer; where it was refused, why."""
     last = events[-1]
-    return (last["ways"][0]["sgf"] if last.get("ways") else last.get("sgf") or f"why: {last.get('why')}") + "\n"
+    tree = last["ways"][0]["sgf"] if last.get("ways") else last.get("sgf")
+    return f"{tree}\n" if tree else f"why: {last.get('why')}\n"
 
 
 UTF_8 = "text/plain; charset=utf-8"

@@ -108,7 +108,8 @@ class Server(ThreadingHTTPServer):
             # (a script's `&` leaves SIGINT ignored)
             for number in signal.SIGTERM, signal.SIGINT:
                 signal.signal(number, signal.default_int_handler)
-            log("listening on %s:%d" % self.server_address[:2])
+            host, port = str(self.server_address[0]), self.server_address[1]
+            log(f"listening on {host}:{port}")
             self.serve_forever()
         except KeyboardInterrupt:
             pass
@@ -160,8 +161,8 @@ class Handler(BaseHTTPRequestHandler):
 
     def receive(self, given: IO[bytes], most: int) -> None:
         """Takes the bytes of the request. Raises Failed where it is refused: then the connection ends with the answer."""
-        length = self.headers.get("Content-Length", "")
-        if not length.isascii() or not length.isdigit() or "Transfer-Encoding" in self.headers:
+        length, *more_lengths = self.headers.get_all("Content-Length", [""])
+        if not length.isascii() or not length.isdigit() or more_lengths or "Transfer-Encoding" in self.headers:
             raise Failed(400)
         if len(length) > len(str(most)) or int(length) > most:
             raise Failed(413)
@@ -191,19 +192,19 @@ class Handler(BaseHTTPRequestHandler):
         return "json" in self.headers.get("Accept", "")
 
     def do_POST(self) -> None:
-        place = urllib.parse.urlsplit(self.path)
-        query = dict(urllib.parse.parse_qsl(place.query))
+        path, _, words = self.path.partition("?")
+        query = dict(urllib.parse.parse_qsl(words))
         service, has_body = self.server.service, False
         try:
-            if place.path not in PATHS:
+            if path not in PATHS:
                 raise Failed(404)
-            self.known = place.path
+            self.known = path
             with tempfile.TemporaryFile(buffering=0) as given:
                 self.receive(given, service.limits.bytes)
                 has_body = True
                 self.server.has_read(self.connection)
                 told = self.send_part if self.request_version == "HTTP/1.1" else None
-                with service.answer(Request(place.path, query, self.wants_json(), self.connection), given, told) as written:
+                with service.answer(Request(path, query, self.wants_json(), self.connection), given, told) as written:
                     self.end(200, "", written)
         except Failed as fault:
             self.close_connection = self.close_connection or not has_body
@@ -215,7 +216,7 @@ class Handler(BaseHTTPRequestHandler):
             self.end(500, fault.strerror or type(fault).__name__)
 
     def do_GET(self) -> None:
-        path = urllib.parse.urlsplit(self.path).path
+        path = self.path.partition("?")[0]
         self.close_connection = self.close_connection or "Content-Length" in self.headers or "Transfer-Encoding" in self.headers
         if path == "/health":
             self.send(200, io.BytesIO(b"ok\n"), {"Content-Type": TYPES["html"].replace("html", "plain")})
@@ -230,7 +231,7 @@ class Handler(BaseHTTPRequestHandler):
     # ---- answers
 
     def begin_answer(self, status: int, head: Dict[str, str]) -> None:
-        self.close_connection = self.close_connection or self.server.is_crowded()
+        self.close_connection = self.close_connection or self.request_version == "HTTP/1.0" or self.server.is_crowded()
         self.send_response(status)
         for name, value in head.items():
             self.send_header(name, value)
@@ -277,7 +278,7 @@ class Handler(BaseHTTPRequestHandler):
                 self.send_within(b"0\r\n\r\n", time.monotonic() + self.server.service.limits.seconds)
             elif status != "gone":
                 self.send(status, text or self.refusal(status, said), self.head_of(status))
-        except (OSError, Failed) as fault:
+        except (OSError, Failed):
             status, said = "gone", ""
         if status == "gone":
             self.close_connection = True
