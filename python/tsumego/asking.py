@@ -1,5 +1,6 @@
 """One problem asked in full: who wins, which first turns win, why the others fail, and who wins if the other side begins."""
 from dataclasses import replace
+from functools import partial
 from typing import Any, Callable, Dict, List, Optional, Tuple, Union
 
 from .answers import LIVES, REFUSED, Answer, Closing, Turn, Verdict
@@ -15,6 +16,8 @@ from .strategy import Strategy
 __all__ = ["SECONDS", "answer", "solve", "with_strategies"]
 
 SECONDS = 10.0
+# Takes parts of an answer as they are known: the problem in each way to mark it, the verdict, and first turns.
+Tell = Callable[[Union[Marked, Verdict, Turn]], None]
 # A turn that takes a target wins for the attacker at once: then the triangle stands on no stone.
 TARGET_TAKEN, REPEATS = "22", "17"
 
@@ -35,33 +38,41 @@ def solve(sgf: Union[str, bytes, GameTree], stone: Optional[str] = None, seconds
         return Answer("", Verdict(REFUSED, None, "1"), why=str(fault))
 
 
-def answer(tree: GameTree, stone: Optional[str] = None, seconds: float = SECONDS) -> Answer:
-    """The answer to one tree; see `solve`."""
+def answer(tree: GameTree, stone: Optional[str] = None, seconds: float = SECONDS, tell: Tell = lambda part: None) -> Answer:
+    """The answer to one tree; see `solve`. `tell` takes parts of it as they are known, of first turns only those that are asked about."""
     name, _ = name_of(main_line(tree))
     try:
         found = marked(tree, stone)
     except Refused as fault:
         return Answer(name, Verdict(REFUSED, None, str(fault.number or 20)), why=str(fault))
+    tell(found)
     clock = Clock(seconds)
-    return replace(_asked(found, clock), name=name, notes=found.hints, seconds=clock.spent())
+    return replace(_asked(found, clock, tell), name=name, notes=found.hints, seconds=clock.spent())
 
 
-def _asked(found: Marked, clock: Clock) -> Answer:
+def _asked(found: Marked, clock: Clock, tell: Tell) -> Answer:
     """The verdicts of each closing with either side to begin, and the first turns of the widest."""
     problems = [problem for _, problem in found.ways]
     first = in_parallel(lambda problem: settled(problem, clock) if problem is problems[0] else (verdict(problem, clock), None), problems)
     verdicts, ours = [word for word, _ in first], first[0][1]
     result, problem, took = Answer("", verdicts[0], problems[0]), problems[0], clock.spent()
+    tell(result.verdict)
     is_lost = result.verdict.is_settled and not result.is_mover_winner
     if is_lost and not ours:
         ours = strategy(problem, clock.part(5))
     # (if the side to move loses, the winner's strategy has an answer to each turn)
     asked = _turns_to_ask(result) if result.verdict.is_settled and not (is_lost and ours) else []
 
+    def ask_turn(turn: str) -> Verdict:
+        after = verdict(problem.after(turn), clock)
+        if (after.word, after.detail) != (REFUSED, REPEATS):
+            tell(_turn(problem, turn, after))
+        return after
+
     def ask_rest() -> Tuple[List[Verdict], List[Verdict]]:
         others = [each.with_other_side() for each, word in zip(problems, verdicts) if _is_other_open(each, word)]
-        words = in_parallel(lambda each: verdict(each, clock), others + [problem.after(turn) for turn in asked])
-        return words[: len(others)], words[len(others) :]
+        words = in_parallel(lambda ask: ask(), [partial(ask_turn, turn) for turn in asked] + [partial(verdict, each, clock) for each in others])
+        return words[len(asked) :], words[: len(asked)]
 
     def look_through() -> Optional[List[Problem]]:
         # (for the ko test, while the programs run)

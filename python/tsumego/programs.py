@@ -23,7 +23,8 @@ HOME = Path(__file__).resolve().parents[2]
 MAX_BYTES = 1_048_576
 # The status of coreutils' timeout, which other machines run the program under.
 TIMED_OUT = 124
-JOBS = len(os.sched_getaffinity(0)) if hasattr(os, "sched_getaffinity") else os.cpu_count() or 1
+# So many programs run at a time: the environment's TSUMEGO_JOBS, or one for each processor.
+JOBS = int(os.environ.get("TSUMEGO_JOBS") or 0) or (len(os.sched_getaffinity(0)) if hasattr(os, "sched_getaffinity") else os.cpu_count() or 1)
 
 Given = TypeVar("Given")
 Found = TypeVar("Found")

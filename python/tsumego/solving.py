@@ -8,12 +8,18 @@ from .programs import run
 from .sgf import write_bytes
 from .strategy import Strategy, read_certificate
 
-__all__ = ["Clock", "OUT_OF_TIME", "POSITIONS", "certificate", "certified", "first_turns", "settled", "strategy", "verdict"]
+__all__ = ["Clock", "OUT_OF_TIME", "POSITIONS", "certificate", "certified", "first_turns", "limit_positions", "settled", "strategy", "verdict"]
 
 OUT_OF_TIME = Verdict(UNSETTLED, None, "time")
 
 # How many positions df-pn may visit at first, and where time is left.
 POSITIONS, MOST_POSITIONS = 2_000_000, 100_000_000
+
+
+def limit_positions(most: int) -> None:
+    """From now on df-pn visits at most so many positions, for a verdict as for a certificate."""
+    global POSITIONS, MOST_POSITIONS
+    POSITIONS, MOST_POSITIONS = min(POSITIONS, most), min(MOST_POSITIONS, most)
 
 
 class Clock:
@@ -36,7 +42,7 @@ class Clock:
 def verdict(problem: Problem, clock: Clock) -> Verdict:
     """Who wins a problem. df-pn may visit some positions, and then as many as the clock allows."""
     found = OUT_OF_TIME
-    for limit in (POSITIONS, MOST_POSITIONS):
+    for limit in sorted({POSITIONS, MOST_POSITIONS}):
         if clock.left() > 0:
             lines = _solve(problem, clock, ["--dfpn", str(limit)])
             found = verdict_of(lines[0].partition(" ")[2]) if lines else found
