@@ -39,7 +39,7 @@ def test_texts_are_those_of_the_programs(service: Served) -> None:
     assert head["Content-Type"] == "image/svg+xml" and body.startswith(b"<svg ")
     assert b";B[ca]" in service.post("/sgf?depth=3", STRAIGHT + certificate)[2]
     assert service.post("/mark?point=D18", CORNER)[2].startswith(b"1 refused 20\nwhy: the White chain of D18=db is not enclosed")
-    assert b"AB[fa][ae]" in service.post("/mark?point=D18&close=1", CORNER)[2]
+    assert b"[dd][fa][ae]TR[" in service.post("/mark?point=D18&close=1", CORNER)[2]
     assert b"TE[1]" in service.post("/solution?point=D18", CORNER)[2]
 
 
