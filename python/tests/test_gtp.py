@@ -16,7 +16,8 @@ from tsumego.programs import ProgramError
 from tsumego.sgf import trees_of
 
 TOP = Path(__file__).resolve().parents[2]
-SECONDS = 40
+# So that a busy machine settles them too.
+SECONDS = 100
 
 
 def session(*lines: str, seconds: float = SECONDS) -> List[str]:

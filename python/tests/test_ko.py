@@ -14,7 +14,8 @@ from tsumego.sgf import trees_of
 from tsumego.strategy import read_certificate
 
 EXAMPLES = Path(__file__).resolve().parents[2] / "examples"
-SECONDS = 100
+# So that a busy machine settles the problems with threats too.
+SECONDS = 400
 
 
 def shape(name: str) -> kos.Shape:
