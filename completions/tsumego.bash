@@ -1,4 +1,4 @@
-# Completion of tsumego, tsumego-show, tsumego-ask and tsumego-book for bash. Source this file, or copy it to
+# Completion of tsumego, tsumego-show, tsumego-ask, tsumego-book, tsumego-gtp and tsumego-serve for bash. Source this file, or copy it to
 # /usr/share/bash-completion/completions under each of these names.
 _tsumego() {
     local word=${COMP_WORDS[COMP_CWORD]} words=''
@@ -13,3 +13,5 @@ complete -o default -F _tsumego tsumego
 complete -o default -W '--mark --svg --sgf --depth' tsumego-show
 complete -o default -W '-o --html --json --seconds --help --version' tsumego-ask
 complete -o default -W '--seconds --jobs --machines --certificates --help --version' tsumego-book
+complete -W '--seconds --help --version' tsumego-gtp
+complete -o default -W '--pipe --program --show --address --port --at-once --seconds --memory --bytes --total --dfpn --help --version' tsumego-serve

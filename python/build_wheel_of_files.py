@@ -26,10 +26,11 @@ def build_wheel(wheel_directory, config_settings=None, metadata_directory=None):
     """Writes the wheel and returns its name."""
     files = {f"{INFO}/{name}": text.encode() for name, text in metadata().items()}
     package = os.path.join(HERE, NAME)
-    for name in sorted(os.listdir(package)):
-        if name.endswith((".py", ".typed")):
-            with open(os.path.join(package, name), "rb") as data:
-                files[f"{NAME}/{name}"] = data.read()
+    for folder in ("", "page/"):
+        for name in sorted(os.listdir(os.path.join(package, folder))):
+            if name.endswith((".py", ".typed", ".html", ".css", ".js", ".svg")):
+                with open(os.path.join(package, folder, name), "rb") as data:
+                    files[f"{NAME}/{folder}{name}"] = data.read()
     record = ""
     for name, data in files.items():
         digest = base64.urlsafe_b64encode(hashlib.sha256(data).digest()).rstrip(b"=").decode()

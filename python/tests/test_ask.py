@@ -50,7 +50,8 @@ def test_a_problem_in_words(tmp_path: Path) -> None:
     assert "  These fail: A19, B19, D19, E19 and A16 (White B18); C18 (White A18)." in lines
     assert "  If White begins, White lives, by B18." in lines
     assert "  If Black begins, all 9 closings agree." in lines
-    assert len(trees_of(out.read_text())[0].variations) == 9
+    tree = trees_of(out.read_text())[0]
+    assert len(tree.variations) == 9 and len({name for name, _ in tree.nodes[0].properties}) == len(tree.nodes[0].properties)
 
 
 def test_a_book_as_json(book: Path, tmp_path: Path) -> None:

@@ -70,6 +70,36 @@ def test_planted_errors_are_told_and_nothing_else(book: Path, tmp_path: Path) ->
     assert marked[1].variations[0].nodes[0].first("C") == "Wrong."
 
 
+def test_a_book_of_sixty_with_five_errors(tmp_path: Path) -> None:
+    vital = [("centre_straight_three_B", "B", THREE), ("centre_straight_three_W", "W", THREE), ("centre_bent_three_B", "B", BENT), ("centre_bent_three_W", "W", BENT)]
+    words = ("C[Correct.]", "TE[1]", "C[RIGHT]")
+    problems = [problem(name, f"{name}: is it alive?", "") for name in TEXTS]
+    problems += [problem(name, f"{name} {word}"[:-1].replace("[", " "), f";{colour}[{point}]{word}") for word in words for name, colour, point in vital][:11]
+    closed = data.CORNER.replace("AB[eb]", "AB[fa][ae][eb]", 1).strip()[:-1]
+    planted = {
+        9: ("an open wall", without(problem("side_straight_three_B", "an open wall: is it alive?", ""), "ia")),
+        19: ("a second solution", closed.replace("GN[Corner with a stone on the edge]", "GN[a second solution]") + ";B[bb]C[Correct.])\n"),
+        48: ("the wrong side", problem("centre_bent_three_W", "the wrong side", f";B[{BENT}]C[Correct.]")),
+        59: ("a wrong move", problem("centre_bent_three_B", "a wrong move", f";B[{THREE}]C[Correct.]")),
+        # (a stone that is missing, and changes nothing, can't be seen)
+        24: ("", without(problem("centre_straight_three_B", "a missing stone", f";B[{THREE}]C[Correct.]"), "cc")),
+    }
+    for at in sorted(planted):
+        problems.insert(at - 1, planted[at][1])
+    path, out = tmp_path / "book.sgf", tmp_path / "out"
+    path.write_text("".join(problems))
+    ended = run(str(out), str(path))
+    told = ended.stdout.splitlines()
+    assert told[-1] == f"60 problems, 4 to look at: {out}/report.html" and len(told) == 5
+    assert [line.partition(", problem ")[2].partition(":")[0] for line in told[:4]] == ["9", "19", "48", "59"]
+    assert "the wall is open: is a stone missing at " in told[0] and "A18 and A17 win" in told[1] and "begins with Black, but White is to move" in told[2]
+    assert "move 1, F9, loses to E9" in told[3]
+    page = (out / "report.html").read_text()
+    first = [part.partition("</h2>")[0] for part in page.split("<h2>")[1:6]]
+    assert [name.rpartition("problem ")[2] for name in first[:4]] == [f"{at}: {planted[at][1].partition('GN[')[2].partition(']')[0]}" for at in (9, 19, 48, 59)]
+    assert page.count("class=fault") == 4 and page.count("<section") == 60
+
+
 def test_a_further_run_asks_only_what_is_new(book: Path, tmp_path: Path) -> None:
     out = tmp_path / "out"
     run(str(out), str(book))

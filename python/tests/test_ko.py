@@ -14,22 +14,12 @@ from tsumego.sgf import trees_of
 from tsumego.strategy import read_certificate
 
 EXAMPLES = Path(__file__).resolve().parents[2] / "examples"
-SECONDS = 100
+# So that a busy machine settles the problems with threats too.
+SECONDS = 400
 
 
-def six_in_the_corner(liberties: int) -> str:
-    """The rectangular six in the corner with so many outside liberties, Black to begin: books say dead, ko, alive."""
-    region = ["aa", "ba", "ca", "ab", "bb", "cb"] + ["ea", "ad"][:liberties]
-    black = ["eb", "ec", "dd", "cd", "bd", "ed", "ee"] + [["ea", "ad"], ["ad", "fa", "fb"], ["fa", "fb", "ae", "be"]][liberties]
-    lists = ("AB", black), ("AW", ["da", "db", "dc", "cc", "bc", "ac"]), ("TR", ["da"]), ("SQ", region)
-    return "(;SZ[13]PL[B]" + "".join(name + "".join(f"[{point}]" for point in points) for name, points in lists) + ")"
-
-
-@pytest.mark.parametrize("liberties, verdict, is_ko", [(0, "killed", False), (1, "killed", True), (2, "lives", False)])
-def test_the_rectangular_six_in_the_corner(liberties: int, verdict: str, is_ko: bool) -> None:
-    answer = tsumego.solve(six_in_the_corner(liberties), None, SECONDS)
-    # (with three threats the search is long, and time may run out)
-    assert answer.ko and (answer.verdict.word, bool(answer.ko.decides)) == (verdict, is_ko)
+def shape(name: str) -> kos.Shape:
+    return next(each for each in kos.KOS + kos.NO_KOS if each.name == name)
 
 
 @pytest.mark.parametrize("name, verdict", [("ko_black_takes", "killed"), ("ko_white_took", "lives")])
@@ -55,12 +45,12 @@ def test_eye_spaces_without_a_ko(row: Tuple[str, ...]) -> None:
 
 
 def test_a_strategy_that_leans_on_repetition() -> None:
-    ko = problem_of(trees_of(kos.KOS[2].text())[0])
+    ko = problem_of(trees_of(shape("a ko for the second eye in the centre, which White took").text())[0])
     # Black may not take back, so its take isn't among the turns that are answered: White takes the stone, and has two eyes.
     found = leaning_on_repetition(ko, read_certificate("lives ?gd!dd.--!gd.;"))
     assert found and [each.position()[0].key() for each in found] == [ko.position()[0].key()] and found[0].legal_turns() == ["dd", "gd", "pass"]
     assert leaning_on_repetition(ko, read_certificate("lives ?dd.gd.--.;")) == []
-    cut = problem_of(trees_of(kos.NO_KOS[0].text())[0])
+    cut = problem_of(trees_of(shape("a connection that is cut").text())[0])
     assert leaning_on_repetition(cut, read_certificate("killed !aa.")) == []
 
 

@@ -3,7 +3,7 @@ import os
 import threading
 import time
 from pathlib import Path
-from typing import Callable, List
+from typing import Callable, Iterator, List
 
 import pytest
 
@@ -54,18 +54,18 @@ def test_machines_share_the_work(stand_in: Callable[[str, str], Path], tmp_path:
         programs.run("tsumego", ["solve"], b"")
 
 
+def _ask(faults: List[BaseException]) -> None:
+    try:
+        programs.run("tsumego", ["solve"], b"")
+    except programs.ProgramError as fault:
+        faults.append(fault)
+
+
 def test_a_stop_ends_what_runs_and_begins_nothing(stand_in: Callable[[str, str], Path], tmp_path: Path) -> None:
     stand_in("tsumego", f"echo >> {tmp_path}/log; exec sleep 60")
     programs.use_machines([":"], 1)
     faults: List[BaseException] = []
-
-    def ask() -> None:
-        try:
-            programs.run("tsumego", ["solve"], b"")
-        except programs.ProgramError as fault:
-            faults.append(fault)
-
-    threads = [threading.Thread(target=ask) for _ in range(3)]
+    threads = [threading.Thread(target=_ask, args=[faults]) for _ in range(3)]
     for thread in threads:
         thread.start()
     while not (tmp_path / "log").exists():
@@ -77,3 +77,21 @@ def test_a_stop_ends_what_runs_and_begins_nothing(stand_in: Callable[[str, str],
     stand_in("tsumego", "echo 1")
     assert programs.in_parallel(str, [1]) == ["1"] and programs.run("tsumego", ["solve"], b"").text == "1\n"
     assert sorted(map(str, faults)) == ["stopped", "stopped", "tsumego: ended by signal 9"] and (tmp_path / "log").read_text() == "\n"
+
+
+def test_nothing_begins_behind_ctrl_c(stand_in: Callable[[str, str], Path]) -> None:
+    stand_in("tsumego", "echo 1")
+
+    def interrupted() -> Iterator[int]:
+        yield 1
+        raise KeyboardInterrupt
+
+    with pytest.raises(KeyboardInterrupt):
+        programs.in_parallel(str, interrupted())
+    # A thread may have been begun that the pool didn't know yet.
+    faults: List[BaseException] = []
+    late = threading.Thread(target=_ask, args=[faults])
+    late.start()
+    late.join(20)
+    assert list(map(str, faults)) == ["stopped"]
+    assert programs.in_parallel(lambda text: programs.run("tsumego", ["solve"], text).text, [b""]) == ["1\n"]

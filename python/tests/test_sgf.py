@@ -58,3 +58,9 @@ def test_bytes_of_other_encodings_come_back() -> None:
 def test_values_for_people() -> None:
     assert plain("a\\]b\\\\c\\\nd") == "a]b\\cd"
     assert plain(escaped("a]b\\c:d")) == "a]b\\c:d"
+
+
+def test_a_property_stands_once() -> None:
+    first = Node([("AB", ["aa"]), ("PL", ["B"])])
+    more = Node(list(first.properties)).add("AB", "bb").add("AW").add("TR", "aa")
+    assert more.properties == [("AB", ["aa", "bb"]), ("PL", ["B"]), ("TR", ["aa"])] and first.properties[0] == ("AB", ["aa"])

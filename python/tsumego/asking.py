@@ -1,20 +1,23 @@
 """One problem asked in full: who wins, which first turns win, why the others fail, and who wins if the other side begins."""
 from dataclasses import replace
+from functools import partial
 from typing import Any, Callable, Dict, List, Optional, Tuple, Union
 
 from .answers import LIVES, REFUSED, Answer, Closing, Turn, Verdict
-from .ko import ko_of
+from .ko import ko_of, leaning_on_repetition
 from .marking import Marked, Refused, marked
 from .points import PASS
 from .problems import Problem, name_of
 from .programs import in_parallel
 from .sgf import GameTree, SgfError, main_line, read_bytes, trees_of
-from .solving import Clock, strategy, verdict
+from .solving import Clock, settled, strategy, verdict
 from .strategy import Strategy
 
 __all__ = ["SECONDS", "answer", "solve", "with_strategies"]
 
 SECONDS = 10.0
+# Takes parts of an answer as they are known: the problem in each way to mark it, the verdict, and first turns.
+Tell = Callable[[Union[Marked, Verdict, Turn]], None]
 # A turn that takes a target wins for the attacker at once: then the triangle stands on no stone.
 TARGET_TAKEN, REPEATS = "22", "17"
 
@@ -35,47 +38,56 @@ def solve(sgf: Union[str, bytes, GameTree], stone: Optional[str] = None, seconds
         return Answer("", Verdict(REFUSED, None, "1"), why=str(fault))
 
 
-def answer(tree: GameTree, stone: Optional[str] = None, seconds: float = SECONDS) -> Answer:
-    """The answer to one tree; see `solve`."""
+def answer(tree: GameTree, stone: Optional[str] = None, seconds: float = SECONDS, tell: Tell = lambda part: None) -> Answer:
+    """The answer to one tree; see `solve`. `tell` takes parts of it as they are known, of first turns only those that are asked about."""
     name, _ = name_of(main_line(tree))
     try:
         found = marked(tree, stone)
     except Refused as fault:
         return Answer(name, Verdict(REFUSED, None, str(fault.number or 20)), why=str(fault))
+    tell(found)
     clock = Clock(seconds)
-    return replace(_asked(found, clock), name=name, notes=found.hints, seconds=clock.spent())
+    return replace(_asked(found, clock, tell), name=name, notes=found.hints, seconds=clock.spent())
 
 
-def _asked(found: Marked, clock: Clock) -> Answer:
+def _asked(found: Marked, clock: Clock, tell: Tell) -> Answer:
     """The verdicts of each closing with either side to begin, and the first turns of the widest."""
     problems = [problem for _, problem in found.ways]
-    verdicts = in_parallel(lambda problem: verdict(problem, clock), problems)
-    result, problem = Answer("", verdicts[0], problems[0]), problems[0]
-    ours: Optional[Strategy] = None
-    if result.verdict.is_settled and not result.is_mover_winner:
-        # The winner's strategy has an answer to each turn.
+    first = in_parallel(lambda problem: settled(problem, clock) if problem is problems[0] else (verdict(problem, clock), None), problems)
+    verdicts, ours = [word for word, _ in first], first[0][1]
+    result, problem, took = Answer("", verdicts[0], problems[0]), problems[0], clock.spent()
+    tell(result.verdict)
+    is_lost = result.verdict.is_settled and not result.is_mover_winner
+    if is_lost and not ours:
         ours = strategy(problem, clock.part(5))
-    asked = _turns_to_ask(result) if result.verdict.is_settled and not ours else []
+    # (if the side to move loses, the winner's strategy has an answer to each turn)
+    asked = _turns_to_ask(result) if result.verdict.is_settled and not (is_lost and ours) else []
+
+    def ask_turn(turn: str) -> Verdict:
+        after = verdict(problem.after(turn), clock)
+        if (after.word, after.detail) != (REFUSED, REPEATS):
+            tell(_turn(problem, turn, after))
+        return after
 
     def ask_rest() -> Tuple[List[Verdict], List[Verdict]]:
         others = [each.with_other_side() for each, word in zip(problems, verdicts) if _is_other_open(each, word)]
-        words = in_parallel(lambda each: verdict(each, clock), others + [problem.after(turn) for turn in asked])
-        return words[: len(others)], words[len(others) :]
+        words = in_parallel(lambda ask: ask(), [partial(ask_turn, turn) for turn in asked] + [partial(verdict, each, clock) for each in others])
+        return words[len(asked) :], words[: len(asked)]
 
-    def ask_strategy() -> Optional[Strategy]:
-        # (it serves the ko test)
-        return strategy(problem, clock.part(20)) if result.is_mover_winner else ours
+    def look_through() -> Optional[List[Problem]]:
+        # (for the ko test, while the programs run)
+        return leaning_on_repetition(problem, ours) if ours else None
 
-    asks: List[Callable[[], Any]] = [ask_rest, ask_strategy]
+    asks: List[Callable[[], Any]] = [ask_rest, look_through]
     rest: List[Any] = in_parallel(lambda ask: ask(), asks)
-    (others, after), ours = rest
+    (others, after), leaning = rest
     each_other = [others.pop(0) if _is_other_open(each, word) else Verdict(word.word) for each, word in zip(problems, verdicts)]
     closings = tuple(Closing(stones, *each) for (stones, _), each in zip(found.ways, zip(problems, verdicts, each_other)))
     result = replace(result, other=each_other[0], closings=closings)
     if not result.verdict.is_settled:
         return result
-    turns = _turns(result, dict(zip(asked, after))) if asked or not ours else _answered(problem, ours)
-    return replace(result, turns=turns, ko=ko_of(result, ours, clock))
+    result = replace(result, turns=_answered(problem, ours) if is_lost and ours else _turns(result, dict(zip(asked, after))))
+    return replace(result, ko=ko_of(result, leaning, clock, took))
 
 
 def _is_other_open(problem: Problem, found: Verdict) -> bool:

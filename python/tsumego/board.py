@@ -48,6 +48,19 @@ class Board:
         """The liberties of the chain at a point."""
         return {near for stone in self.chain(point) for near in self.beside(stone) if near not in self.stones}
 
+    def has_liberty(self, point: str) -> bool:
+        """Whether the chain at a point has a liberty."""
+        colour, found, waiting = self.stones[point], {point}, [point]
+        while waiting:
+            for near in self.beside(waiting.pop()):
+                stone = self.stones.get(near)
+                if stone is None:
+                    return True
+                if stone == colour and near not in found:
+                    found.add(near)
+                    waiting.append(near)
+        return False
+
     def chains(self) -> List[Set[str]]:
         """All chains, in the order of their first stones, row by row."""
         found: List[Set[str]] = []
@@ -63,9 +76,9 @@ class Board:
         self.stones[turn] = colour
         taken: Set[str] = set()
         for near in self.beside(turn):
-            if self.stones.get(near) == OTHER[colour] and not self.liberties(near):
+            if self.stones.get(near) == OTHER[colour] and not self.has_liberty(near):
                 taken |= self.chain(near)
-        if not taken and not self.liberties(turn):
+        if not taken and not self.has_liberty(turn):
             taken = self.chain(turn)
         self.remove(taken)
         return taken

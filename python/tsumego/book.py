@@ -70,7 +70,6 @@ def with_marks(tree: GameTree, found: Answer) -> GameTree:
     if problem is None:
         return tree
     at = asked_at(main_line(tree))
-    marks = Node().add("TR", *problem.targets).add("SQ", *problem.region).add("A" + problem.attacker, *found.closings[0].stones)
     copy = GameTree([Node(list(node.properties)) for node in tree.nodes], tree.variations)
     each, left = copy, at
     while left >= len(each.nodes):
@@ -78,8 +77,8 @@ def with_marks(tree: GameTree, found: Answer) -> GameTree:
         first = each.variations[0]
         each.variations = [GameTree([Node(list(node.properties)) for node in first.nodes], first.variations)] + each.variations[1:]
         each = each.variations[0]
-    node = each.nodes[left].without("TR", "SQ")
-    each.nodes[left] = Node(node.properties + (marks.properties if not node.has("B", "W") else marks.without("AB", "AW").properties))
+    node = each.nodes[left].without("TR", "SQ").add("TR", *problem.targets).add("SQ", *problem.region)
+    each.nodes[left] = node if node.has("B", "W") else node.add("A" + problem.attacker, *found.closings[0].stones)
     return copy
 
 

@@ -125,12 +125,12 @@ def faults(tree: GameTree, answer: Answer, seconds: float) -> List[str]:
     if answer.closings[0].stones:
         closed = listed((" ".join(map(problem.point, each.stones)) for each in answer.closings), "or")
         found.append(f"the wall is open: is a stone missing at {closed}?")
-    if not answer.verdict.is_settled:
-        return found + ["who wins wasn't found in time"]
     lines = lines_of(tree, problem.to_move)
     begins = {line.moves[0][0] for line in lines}
     if begins and problem.to_move not in begins:
         return found + [f"the solution begins with {NAMES[min(begins)]}, but {NAMES[problem.to_move]} is to move"]
+    if not answer.verdict.is_settled:
+        return found + ["who wins wasn't found in time"]
     solution = _Solution(problem, problem.to_move, Clock(seconds))
     wrong = {line: solution.fault(line) for line in lines}
     found += [fault for fault in dict.fromkeys(wrong.values()) if fault]

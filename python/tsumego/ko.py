@@ -23,36 +23,41 @@ from typing import Dict, FrozenSet, List, Optional, Set, Tuple
 from .answers import KILLED, LIVES, Answer, Ko, Verdict
 from .board import OTHER, Board
 from .points import PASS, sgf_name
-from .problems import Problem
+from .problems import Problem, set_up
 from .programs import in_parallel
-from .sgf import Node
 from .solving import Clock, first_turns, verdict
 from .strategy import Strategy
 
 __all__ = ["ko_of", "leaning_on_repetition", "with_attackers_threat", "with_defenders_threat"]
 
 MOST_THREATS = 3
+# A problem with a threat takes at least so many times as long as one without.
+HARDER = 3
 # A strategy of more positions isn't looked through: that takes too long. And so many of them are asked about.
 LONGEST, MOST_LEANING = 5_000, 24
 # So many turns of the defender lead to a ko at most, and so many turns of the attacker are followed at each.
 DEEPEST, MOST_TURNS = 2, 3
 
 
-def ko_of(answer: Answer, ours: Optional[Strategy], clock: Clock) -> Ko:
-    """What made problems say of a settled answer: with how many threats of the loser it becomes another one, up to three. `ours` is the
-    winner's strategy, if it was found. It takes a twentieth of the clock's seconds at most."""
+def ko_of(answer: Answer, leaning: Optional[List[Problem]], clock: Clock, took: float = 0.0) -> Ko:
+    """What made problems say of a settled answer: with how many threats of the loser it becomes another one, up to three. `leaning` are
+    the positions at which the winner's strategy leans on repetition, if that is known. It takes a twentieth of the clock's seconds at most;
+    `took` says how many the verdict took: problems with threats take longer, so they aren't made where that would be too long."""
     problem = answer.problem
     assert problem
     clock = clock.part(20)
-    leaning = leaning_on_repetition(problem, ours) if ours else None
     if leaning is not None:
         found = in_parallel(lambda each: verdict(each, clock), leaning)
         if all(each.word == answer.verdict.word for each in found):
             return Ko(False, 1 if found else 0, tuple(leaning))
+    if took * HARDER > clock.left():
+        return Ko(None, 0, ())
     threats = _with_threats(problem, answer.verdict, clock)
     if threats.decides or answer.verdict.word == LIVES:
         return threats
     taking = _TakingBack(clock)
+    if problem.to_move == problem.attacker and not answer.unknown:
+        taking.known[problem.text()] = {turn: KILLED for turn in answer.winning}
     # (a defender that can do nothing passes, and the attacker begins)
     begins = [problem] if problem.to_move == problem.attacker else [problem, problem.after(PASS)]
     for depth in range(1, DEEPEST + 1):
@@ -86,7 +91,7 @@ def leaning_on_repetition(problem: Problem, ours: Strategy) -> Optional[List[Pro
     while waiting:
         board, colour, each = waiting.pop()
         if each.replies and any(board.copy().play(colour, point) != {point} for point in region - board.stones.keys() - each.replies.keys()):
-            found[board.key()] = replace(problem, nodes=(_setup(board, colour),))
+            found[board.key()] = replace(problem, nodes=(set_up(board, colour),))
         if len(found) > MOST_LEANING or len(seen) > LONGEST:
             return None
         for turn, then in each.branches():
@@ -208,8 +213,4 @@ class _TakingBack:
 
 def _anew(problem: Problem) -> Problem:
     """The position set up anew: what was there before may be repeated."""
-    return replace(problem, nodes=(_setup(*problem.position()),))
-
-
-def _setup(board: Board, to_move: str) -> Node:
-    return Node().add("AB", *board.of("B")).add("AW", *board.of("W")).add("PL", to_move)
+    return replace(problem, nodes=(set_up(*problem.position()),))

@@ -1,6 +1,6 @@
 """Many problems at a time: who wins each, as fast as one input through the program."""
 import re
-from typing import Iterable, Iterator, List, Optional, Sequence, Tuple, Union
+from typing import Iterable, Iterator, List, Optional, Tuple, Union
 
 from .answers import REFUSED, Verdict, verdict_of
 from .programs import JOBS, MAX_BYTES, ProgramError, in_parallel, run
@@ -23,12 +23,16 @@ def verdicts(problems: Iterable[Union[str, bytes, GameTree]], seconds: float = 1
     `jobs` the processes side by side. Raises ProgramError where the program isn't there.
     """
     found: List[Verdict] = []
-    waiting: List[Indexed] = []
-    for number, problem in enumerate(problems):
-        text = _first_tree(problem)
-        waiting += [(number, text + b"\n")] if text else []
-        found.append(Verdict(REFUSED, None, "1"))
-    for rows in in_parallel(lambda batch: _asked(batch, seconds, positions), _batches(waiting), jobs):
+
+    def texts() -> Iterator[Indexed]:
+        # (read while the program is at those in front)
+        for number, problem in enumerate(problems):
+            found.append(Verdict(REFUSED, None, "1"))
+            text = _first_tree(problem)
+            if text:
+                yield number, text + b"\n"
+
+    for rows in in_parallel(lambda batch: _asked(batch, seconds, positions), _batches(texts()), jobs):
         for number, verdict in rows:
             found[number] = verdict
     return found
@@ -47,14 +51,16 @@ def _first_tree(problem: Union[str, bytes, GameTree]) -> Optional[bytes]:
         return write_bytes(to_text(fault.trees[0])) if fault.trees else None
 
 
-def _batches(problems: Sequence[Indexed]) -> Iterator[List[Indexed]]:
+def _batches(problems: Iterable[Indexed]) -> Iterator[List[Indexed]]:
     """The problems in lists that an input can hold."""
     batch: List[Indexed] = []
+    size = 0
     for each in problems:
-        if batch and (len(batch) == BATCH or sum(len(text) for _, text in batch) + len(each[1]) > MAX_BYTES):
+        if batch and (len(batch) == BATCH or size + len(each[1]) > MAX_BYTES):
             yield batch
-            batch = []
+            batch, size = [], 0
         batch.append(each)
+        size += len(each[1])
     if batch:
         yield batch
 

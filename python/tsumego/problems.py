@@ -9,7 +9,7 @@ from .board import BLACK, NAMES, OTHER, Board
 from .points import PASS, editor_name, read_point, sgf_name
 from .sgf import GameTree, Node, main_line, plain, short, to_text
 
-__all__ = ["MOVES", "Problem", "SETUP", "asked_at", "chapter", "name_of", "problem_of", "size_of", "turn_of"]
+__all__ = ["MOVES", "Problem", "SETUP", "asked_at", "chapter", "name_of", "problem_of", "set_up", "size_of", "turn_of"]
 
 SETUP, MOVES = ("AB", "AW", "AE"), ("B", "W")
 
@@ -151,6 +151,11 @@ class Problem:
 
     def side(self, colour: str) -> str:
         return NAMES[colour]
+
+
+def set_up(board: Board, to_move: str) -> Node:
+    """The position of a board without a history."""
+    return Node().add("AB", *board.of("B")).add("AW", *board.of("W")).add("PL", to_move)
 
 
 def turn_of(value: str) -> str:

@@ -23,7 +23,8 @@ HOME = Path(__file__).resolve().parents[2]
 MAX_BYTES = 1_048_576
 # The status of coreutils' timeout, which other machines run the program under.
 TIMED_OUT = 124
-JOBS = len(os.sched_getaffinity(0)) if hasattr(os, "sched_getaffinity") else os.cpu_count() or 1
+# So many programs run at a time: the environment's TSUMEGO_JOBS, or one for each processor.
+JOBS = int(os.environ.get("TSUMEGO_JOBS") or 0) or (len(os.sched_getaffinity(0)) if hasattr(os, "sched_getaffinity") else os.cpu_count() or 1)
 
 Given = TypeVar("Given")
 Found = TypeVar("Found")
@@ -101,13 +102,20 @@ def run(name: str, words: List[str], text: bytes, seconds: Optional[float] = Non
 
 
 def stop() -> None:
-    """Ends the programs that run. None begins any more until what is asked in parallel has come to its end."""
+    """Ends the programs that run. None begins any more until the main thread asks anew."""
     _stopping.set()
     for process in list(_running):
         process.kill()
 
 
+def _begin_again() -> None:
+    """In the main thread: what was stopped has come to its end, and programs may begin again."""
+    if threading.current_thread() is threading.main_thread():
+        _stopping.clear()
+
+
 def _run(command: List[str], name: str, text: bytes, seconds: Optional[float]) -> Ended:
+    _begin_again()
     if _stopping.is_set():
         raise ProgramError("stopped")
     try:
@@ -141,6 +149,7 @@ def _run(command: List[str], name: str, text: bytes, seconds: Optional[float]) -
 def in_parallel(ask: Callable[[Given], Found], given: Iterable[Given], jobs: int = JOBS) -> List[Found]:
     """What is asked of each, in their order; so many are asked at a time. Ctrl-C ends the programs that run, and begins no other."""
     futures: List["Future[Found]"] = []
+    _begin_again()
     with ThreadPoolExecutor(max(1, jobs)) as pool:
         try:
             futures.extend(pool.submit(ask, each) for each in given)
@@ -149,9 +158,8 @@ def in_parallel(ask: Callable[[Given], Found], given: Iterable[Given], jobs: int
             for future in futures:
                 future.cancel()
             if not isinstance(fault, Exception):
+                # (a thread that the pool doesn't know yet may begin later: so what stops it stays till the next question)
                 stop()
             raise
         finally:
             pool.shutdown()
-            if threading.current_thread() is threading.main_thread():
-                _stopping.clear()

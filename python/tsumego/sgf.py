@@ -46,7 +46,11 @@ class Node:
         return Node([(each, list(values)) for each, values in self.properties if short(each) not in names])
 
     def add(self, name: str, *values: str) -> "Node":
-        """The node itself, with one more property where there are values."""
+        """The node itself, with more values of a property. In a node a property stands once."""
+        for at, (each, before) in enumerate(self.properties):
+            if short(each) == name:
+                self.properties[at] = (each, before + list(values))
+                return self
         if values:
             self.properties.append((name, list(values)))
         return self

@@ -1,6 +1,6 @@
 """Asks `tsumego solve` about a problem: who wins, after each first turn too, and by which strategy."""
 import time
-from typing import Dict, List, Optional
+from typing import Dict, List, Optional, Tuple
 
 from .answers import UNSETTLED, Verdict, verdict_of
 from .problems import Problem
@@ -8,12 +8,18 @@ from .programs import run
 from .sgf import write_bytes
 from .strategy import Strategy, read_certificate
 
-__all__ = ["Clock", "OUT_OF_TIME", "POSITIONS", "certificate", "certified", "first_turns", "strategy", "verdict"]
+__all__ = ["Clock", "OUT_OF_TIME", "POSITIONS", "certificate", "certified", "first_turns", "limit_positions", "settled", "strategy", "verdict"]
 
 OUT_OF_TIME = Verdict(UNSETTLED, None, "time")
 
 # How many positions df-pn may visit at first, and where time is left.
 POSITIONS, MOST_POSITIONS = 2_000_000, 100_000_000
+
+
+def limit_positions(most: int) -> None:
+    """From now on df-pn visits at most so many positions, for a verdict as for a certificate."""
+    global POSITIONS, MOST_POSITIONS
+    POSITIONS, MOST_POSITIONS = min(POSITIONS, most), min(MOST_POSITIONS, most)
 
 
 class Clock:
@@ -36,13 +42,21 @@ class Clock:
 def verdict(problem: Problem, clock: Clock) -> Verdict:
     """Who wins a problem. df-pn may visit some positions, and then as many as the clock allows."""
     found = OUT_OF_TIME
-    for limit in (POSITIONS, MOST_POSITIONS):
+    for limit in sorted({POSITIONS, MOST_POSITIONS}):
         if clock.left() > 0:
             lines = _solve(problem, clock, ["--dfpn", str(limit)])
             found = verdict_of(lines[0].partition(" ")[2]) if lines else found
         if found.word != UNSETTLED:
             break
     return found
+
+
+def settled(problem: Problem, clock: Clock) -> Tuple[Verdict, Optional[Strategy]]:
+    """Who wins a problem, and the winner's strategy where one run finds both in a tenth of the seconds."""
+    lines = _solve(problem, clock.part(10), ["--dfpn", str(POSITIONS), "--cert", "--parts"]) if clock.left() > 0 else []
+    if len(lines) > 1:
+        return verdict_of(lines[0].partition(" ")[2]), read_certificate(lines[1])
+    return verdict(problem, clock), None
 
 
 def first_turns(problem: Problem, clock: Clock) -> Dict[str, str]:

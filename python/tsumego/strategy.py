@@ -1,9 +1,13 @@
 """Certificates as strategies: a strategy is an end, a turn of its own side (a pick), or all turns of the other side, each with
 its answer (a reply). A shared part is one object that stands in several places."""
+import re
 from dataclasses import dataclass, field
 from typing import Dict, List, Optional, Tuple
 
 from .points import PASS
+
+# The words of a certificate: a pick with its turn, a reply, an end, a shared part, the end of a reply, or a turn in it.
+_TOKEN = re.compile(r"=?!(?:[a-s]{2}|--)|=?\?|\.|\*[0-9]+|;|[a-s]{2}|--")
 
 __all__ = ["Strategy", "read_certificate", "size"]
 
@@ -30,56 +34,48 @@ def read_certificate(line: str) -> Strategy:
 
     Raises ValueError where the line breaks the grammar.
     """
-    reader = _Reader(line.strip().partition(" ")[2])
-    found = reader.tree()
-    if reader.at < len(reader.text):
+    text = line.strip().partition(" ")[2]
+    reader = _Reader(_TOKEN.findall(text))
+    found = reader.tree(reader.next())
+    if sum(map(len, reader.tokens)) < len(text) or reader.next():
         raise ValueError("text stands behind the certificate")
     return found
 
 
 class _Reader:
-    """Reads from the left. A certificate is at most 512 turns deep, and so are the calls."""
+    """Reads words from the left. A certificate is at most 512 turns deep, and so are the calls."""
 
-    def __init__(self, text: str) -> None:
-        self.text, self.at = text, 0
+    def __init__(self, tokens: List[str]) -> None:
+        self.tokens, self.left = tokens, iter(tokens)
         self.named: List[Strategy] = []
 
-    def next(self, symbol: str) -> bool:
-        """Whether the symbol stands here; it is then read."""
-        stands = self.text.startswith(symbol, self.at)
-        self.at += len(symbol) if stands else 0
-        return stands
+    def next(self) -> str:
+        return next(self.left, "")
 
-    def turn(self) -> str:
-        word = self.text[self.at : self.at + 2]
-        self.at += 2
-        return PASS if word == "--" else word
-
-    def part(self) -> Strategy:
-        begin = self.at
-        while self.text[self.at : self.at + 1].isdigit():
-            self.at += 1
-        return self.named[int(self.text[begin : self.at])]
-
-    def tree(self) -> Strategy:
-        if self.next("."):
+    def tree(self, word: str) -> Strategy:
+        """The strategy that begins with the word."""
+        if word == ".":
             return Strategy()
-        if self.next("*"):
-            return self.part()
-        is_named = self.next("=")
-        found = Strategy()
-        if self.next("!"):
-            found.pick = self.turn()
-            found.then = self.tree()
-        elif self.next("?"):
-            while not self.next(";"):
-                turn = self.turn()
-                found.replies[turn] = self.tree()
+        if word[:1] == "*":
+            return self.named[int(word[1:])]
+        found, kind = Strategy(), word.lstrip("=")[:1]
+        if kind == "!":
+            found.pick = _turn(word[-2:])
+            found.then = self.tree(self.next())
+        elif kind == "?":
+            turn = self.next()
+            while turn != ";":
+                found.replies[_turn(turn)] = self.tree(self.next())
+                turn = self.next()
         else:
-            raise ValueError(f"the certificate breaks off at {self.text[self.at : self.at + 9]!r}")
-        if is_named:
+            raise ValueError(f"the certificate breaks off at {word!r}")
+        if word[0] == "=":
             self.named.append(found)
         return found
+
+
+def _turn(word: str) -> str:
+    return PASS if word == "--" else word
 
 
 def size(strategy: Strategy, depth: int) -> int:

@@ -1,0 +1,152 @@
+"""What a service answers to each path: by which program, and how as JSON."""
+import json
+import os
+import sys
+from dataclasses import dataclass
+from typing import Any, Callable, Dict, List, Mapping, Tuple
+
+from .limits import Limits
+
+__all__ = ["PATHS", "Path", "Programs", "worker_environment"]
+
+PACKAGE = os.path.dirname(os.path.abspath(__file__))
+Query = Mapping[str, str]
+
+
+@dataclass(frozen=True)
+class Programs:
+    """Where `tsumego` and `tsumego-show` are."""
+
+    tsumego: str
+    show: str
+
+
+@dataclass(frozen=True)
+class Path:
+    """`words` are those of the command. Where `is_worker`, it is this package in a process of its own, which asks the programs and writes JSON
+    lines: `text` makes the answer for people of them. Otherwise it is a program, and `data` makes JSON of its text."""
+
+    words: Callable[[Programs, Limits, Query], List[str]]
+    data: Callable[[str], Any] = lambda text: {"text": text}
+    is_worker: bool = False
+    text: Callable[[List[Dict[str, Any]]], str] = lambda events: ""
+    type: str = "text/plain; charset=us-ascii"
+
+
+def worker_environment(programs: Programs) -> Dict[str, str]:
+    """A worker finds the package and the programs, and asks one at a time: it has one place."""
+    return {"PYTHONPATH": os.path.dirname(PACKAGE), "TSUMEGO": programs.tsumego, "TSUMEGO_SHOW": programs.show, "TSUMEGO_JOBS": "1", "MALLOC_ARENA_MAX": "1"}
+
+
+def _solve(*more: str) -> Callable[[Programs, Limits, Query], List[str]]:
+    return lambda programs, limits, query: [programs.tsumego, *limits.solve(), *more]
+
+
+def _show(*words: str) -> Callable[[Programs, Limits, Query], List[str]]:
+    return lambda programs, limits, query: [programs.show, *words]
+
+
+def _sgf(programs: Programs, limits: Limits, query: Query) -> List[str]:
+    depth = query.get("depth", "20")
+    if not depth.isascii() or not depth.isdigit() or not 1 <= int(depth) <= 512:
+        raise ValueError("depth is no number from 1 to 512")
+    return [programs.show, "--sgf", "--depth", depth]
+
+
+def _mark(programs: Programs, limits: Limits, query: Query) -> List[str]:
+    if query.get("close"):
+        return _worker("mark")(programs, limits, query)
+    return [programs.show, "--mark"] + ([_point(query)] if query.get("point") else [])
+
+
+def _point(query: Query) -> str:
+    word = query["point"]
+    if not word.isascii() or not word.isalnum() or len(word) > 3:
+        raise ValueError("point is no point: write it as C18 or as cb")
+    return word
+
+
+def _worker(kind: str) -> Callable[[Programs, Limits, Query], List[str]]:
+    def words(programs: Programs, limits: Limits, query: Query) -> List[str]:
+        stone = ["--stone", _point(query)] if query.get("point") else []
+        return [sys.executable, "-B", "-m", "tsumego.telling", kind, "--seconds", f"{limits.seconds:g}", "--positions", str(limits.dfpn or 1), *stone]
+
+    return words
+
+
+def _problems(text: str) -> Dict[str, Any]:
+    """The lines of `solve`: a problem each, with its turns or its certificate."""
+    found: List[Dict[str, Any]] = []
+    for line in text.splitlines():
+        first, _, rest = line.strip().partition(" ")
+        word, _, detail = rest.partition(" ")
+        if line.startswith("  "):
+            found[-1].setdefault("turns", []).append({"turn": first, "verdict": word, **_detail(word, detail)})
+        elif first.isdigit():
+            found.append({"problem": int(first), "verdict": word, **_detail(word, detail)})
+        else:
+            found[-1]["certificate"] = line
+    return {"problems": found}
+
+
+def _detail(word: str, detail: str) -> Dict[str, Any]:
+    if word == "refused":
+        return {"number": int(detail)}
+    return {"cause" if word == "unsettled" else "turn": detail} if detail else {}
+
+
+def _scores(text: str) -> Dict[str, Any]:
+    rows = [line.split() for line in text.splitlines()]
+    return {
+        "records": [
+            {"record": int(row[0]), "black": int(row[2]), "white": int(row[4]), "finished": row[5] == "finished"}
+            if row[1] == "black" else {"record": int(row[0]), "verdict": row[1], "number": int(row[2])}
+            for row in rows
+        ]
+    }
+
+
+def _checked(text: str) -> Dict[str, Any]:
+    word, _, number = text.strip().partition(" ")
+    return {"verdict": word, **({"number": int(number)} if number else {})}
+
+
+def _answer_text(events: List[Dict[str, Any]]) -> str:
+    return "\n".join(events[-1].get("lines", [])) + "\n"
+
+
+def _tree_text(events: List[Dict[str, Any]]) -> str:
+    """The tree of the answer; where it was refused, why."""
+    last = events[-1]
+    tree = last["ways"][0]["sgf"] if last.get("ways") else last.get("sgf")
+    return f"{tree}\n" if tree else f"why: {last.get('why')}\n"
+
+
+UTF_8 = "text/plain; charset=utf-8"
+PATHS: Dict[str, Path] = {
+    "/solve": Path(_solve(), _problems),
+    "/turns": Path(_solve("--turns"), _problems),
+    "/cert": Path(_solve("--cert", "--parts"), _problems),
+    "/score": Path(lambda programs, limits, query: [programs.tsumego, "score"], _scores),
+    "/check": Path(lambda programs, limits, query: [programs.tsumego, "check", "--parts"], _checked),
+    "/show": Path(_show()),
+    "/svg": Path(_show("--svg"), type="image/svg+xml"),
+    "/sgf": Path(_sgf),
+    "/mark": Path(_mark, type=UTF_8, text=_tree_text),
+    "/ask": Path(_worker("ask"), is_worker=True, text=_answer_text, type=UTF_8),
+    "/solution": Path(_worker("solution"), is_worker=True, text=_tree_text, type=UTF_8),
+}
+
+
+def path_of(name: str, query: Query) -> Tuple[Path, bool]:
+    """The path of a name, and whether a worker answers."""
+    path = PATHS[name]
+    return path, path.is_worker or (name == "/mark" and bool(query.get("close")))
+
+
+def as_json(path: Path, text: str) -> str:
+    return json.dumps(path.data(text)) + "\n"
+
+
+def events_of(lines: bytes) -> List[Dict[str, Any]]:
+    return [json.loads(line) for line in lines.splitlines()]
