@@ -23,8 +23,8 @@ def open_browser(files: Path) -> Any:
     from selenium.webdriver.chrome.service import Service
 
     found = webdriver.Chrome(options=options, service=Service(DRIVER))
-    found.set_page_load_timeout(60)
-    found.set_script_timeout(120)
+    found.set_page_load_timeout(240)
+    found.set_script_timeout(240)
     return found
 
 
@@ -61,7 +61,7 @@ class Page:
         self.press("load")
 
     def wait(self, holds: Callable[[], bool] = lambda: True) -> None:
-        end = time.monotonic() + 60
+        end = time.monotonic() + 240
         while self.text("ask") == "Stop" or not holds():
             assert time.monotonic() < end, f"waited in vain: {self.text('say')} {self.text('error')}"
             time.sleep(0.01)

@@ -20,7 +20,7 @@ class Served:
         self.port = int(process.stderr.readline().rpartition(":")[2])
 
     def connect(self) -> http.client.HTTPConnection:
-        return http.client.HTTPConnection("127.0.0.1", self.port, timeout=60)
+        return http.client.HTTPConnection("127.0.0.1", self.port, timeout=240)
 
     def get(self, path: str, **head: str) -> Tuple[int, Dict[str, str], bytes]:
         return self.ask("GET", path, None, head)
@@ -48,7 +48,7 @@ class Served:
     def logged(self) -> List[str]:
         """Ends the service; what it has logged."""
         self.process.terminate()
-        return self.process.communicate(timeout=60)[1].splitlines()
+        return self.process.communicate(timeout=240)[1].splitlines()
 
 
 @contextlib.contextmanager

@@ -33,7 +33,7 @@ def browser(files: Path) -> Iterator[Any]:
 
 @pytest.fixture(scope="module")
 def service() -> Iterator[Served]:
-    with served("--at-once", "2", "--seconds", "60") as found:
+    with served("--at-once", "2", "--seconds", "120") as found:
         yield found
 
 

@@ -18,7 +18,7 @@ ENDLESS = ["--at-once", "1", "--dfpn", "100000000", "--total", "300000000"]
 
 @pytest.fixture(scope="module")
 def service() -> Iterator[Served]:
-    with served("--at-once", "2", "--seconds", "60") as found:
+    with served("--at-once", "2", "--seconds", "120") as found:
         yield found
 
 

@@ -63,6 +63,7 @@ function show() {
   for (const id of ["name", "comment"]) Object.assign($(id), { textContent: problem[id], hidden: !problem[id] });
   const isEnd = at === moves.length;
   $("after").hidden = !problem.targets.length;
+  $("save").textContent = hasSolution() ? "Save solution" : "Save SGF";
   const off = { first: !at, back: !at, forward: isEnd, last: isEnd, undo: !at && !earlier.length, pass: tool !== "P", check: !proof, proof: !proof, solution: !problem.targets.length };
   for (const [id, isOff] of Object.entries(off)) $(id).disabled = isOff;
   showAnswer(now);
@@ -345,12 +346,13 @@ function save(content, name, type) {
   say(`Saved as ${name}.`);
 }
 
+const hasSolution = () => Boolean(answers[0] && answers[0].turns.length);
 const fileName = (end) => `${(problem.name || "problem").normalize("NFKD").replace(/[^A-Za-z0-9]+/g, "-").replace(/^-|-$/g, "").toLowerCase().slice(0, 40) || "problem"}${end}`;
 
 // The problem with its whole solution, once it has been answered; else the problem with the moves that were made.
 async function saveSgf(signal) {
   let content = text(moves.length);
-  if (answers[0] && answers[0].turns.length && !at) {
+  if (hasSolution()) {
     say("Writing the solution ..");
     const found = await post("/solution", text(0), signal).catch((wrong) => fault(`${wrong.message} The problem is saved without its solution.`));
     if (found && found.sgf) content = found.sgf;
