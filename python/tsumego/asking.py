@@ -47,7 +47,7 @@ def answer(tree: GameTree, stone: Optional[str] = None, seconds: float = SECONDS
 
 
 def _asked(found: Marked, clock: Clock) -> Answer:
-    """The verdicts of each closing with either side to begin, and the first turns of the widest."""
+    """The verdicts of each closing with either side to begin, and the first turns of the first."""
     problems = [problem for _, problem in found.ways]
     verdicts = in_parallel(lambda problem: verdict(problem, clock), problems)
     result, problem = Answer("", verdicts[0], problems[0]), problems[0]
