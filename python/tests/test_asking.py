@@ -35,7 +35,7 @@ def test_the_corner_with_a_stone_on_the_edge(stone: str) -> None:
 def test_the_tripod_is_dead() -> None:
     answer = tsumego.solve(data.TRIPOD, None, SECONDS)
     assert (answer.verdict.word, answer.other.word, answer.closings_agree) == ("killed", "killed", True)
-    assert "Black begins and can kill White's group at B17, by A19, B19, C19, D19, A18, B18, A17 or A16. It is dead as it stands." in " ".join(words.said(answer))
+    assert "Black begins and can kill White's group at C18, by A19, B19, C19, D19, A18, B18, A17 or A16. It is dead as it stands." in " ".join(words.said(answer))
 
 
 def test_five_on_the_second_line() -> None:

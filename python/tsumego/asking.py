@@ -51,7 +51,7 @@ def answer(tree: GameTree, stone: Optional[str] = None, seconds: float = SECONDS
 
 
 def _asked(found: Marked, clock: Clock, tell: Tell) -> Answer:
-    """The verdicts of each closing with either side to begin, and the first turns of the widest."""
+    """The verdicts of each closing with either side to begin, and the first turns of the first."""
     problems = [problem for _, problem in found.ways]
     first = in_parallel(lambda problem: settled(problem, clock) if problem is problems[0] else (verdict(problem, clock), None), problems)
     verdicts, ours = [word for word, _ in first], first[0][1]

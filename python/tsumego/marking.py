@@ -1,11 +1,9 @@
 """Marks for a problem without them: the group and its region by `tsumego-show --mark`, and an open wall closed in every way that the
 program names."""
-import itertools
 import re
 from dataclasses import dataclass, replace
 from typing import List, Optional, Tuple, Union
 
-from .board import OTHER
 from .points import read_point
 from .problems import Problem, asked_at, problem_of
 from .programs import in_parallel, run
@@ -13,8 +11,10 @@ from .sgf import GameTree, main_line, to_text, trees_of, write_bytes
 
 __all__ = ["Marked", "NO_TRIANGLE", "Refused", "marked", "refusal_of"]
 
-# `W` in front of the points where stones of the wall close it, with `a` or `two`.
-_CLOSES = re.compile(r"(a|two) (Black|White) stones? on (?:one|some) of these encloses? it: (.*)")
+# The stones of the wall that close it: points where one does, or ways with two or three each. More than are listed are counted.
+_CLOSES = re.compile(r"(a|two|three) (Black|White) stones? (?:on one of these encloses it|enclose it in one of these ways): (.*?)(?:, and \d+ more)?$")
+# The group that may be meant, where nobody named one.
+_MAY_BE = re.compile(r"it may be the (?:Black|White) chain of (\w+): ")
 NO_TRIANGLE = 20
 
 
@@ -29,7 +29,7 @@ class Refused(ValueError):
 @dataclass(frozen=True)
 class Marked:
     """A problem in each way in which its wall can be closed: the stones that were added, and the problem with them. A closed wall has
-    one way, without stones. The widest region comes first. `hints` are the program's."""
+    one way, without stones. The program's order stands: the best comes first. `hints` are the program's."""
 
     ways: Tuple[Tuple[Tuple[str, ...], Problem], ...]
     hints: Tuple[str, ...] = ()
@@ -101,7 +101,7 @@ def _mark(problem: Problem, stone: Optional[str]) -> Tuple[Problem, Tuple[str, .
 
 
 def _closed(problem: Problem, stone: str) -> Marked:
-    """The problem around a stone. If its wall is open, it is closed by each stone, or each pair of stones, that the program names."""
+    """The problem around a stone. If its wall is open, it is closed in each way that the program names."""
     try:
         found, hints = _mark(problem, stone)
         return Marked((((), found),), hints)
@@ -118,25 +118,10 @@ def _ways(problem: Problem, stone: str, why: str) -> Tuple[Tuple[Tuple[str, ...]
     if not closes:
         return ()
     how_many, colour, words = closes.groups()
-    points = [read_point(word, problem.columns, problem.rows) for word in words.split()]
-    with_wall = {stones: problem.with_stones(colour[0], stones) for stones in itertools.combinations(points, 2 if how_many == "two" else 1)}
-    tried = [stones for stones, made in with_wall.items() if _is_near(made, stone)]
-    found = in_parallel(lambda stones: _marked_or_why(with_wall[stones], stone), tried)
-    ways = [(stones, each) for stones, each in zip(tried, found) if isinstance(each, Problem)]
-    return tuple(sorted(ways, key=lambda way: -len(way[1].region)))
-
-
-def _is_near(problem: Problem, stone: str) -> bool:
-    """Whether at most half the empty points can be reached from a stone past the stones of the other colour. A wall leaves no more."""
-    board, _ = problem.position()
-    other, found, waiting = OTHER[board.stones[stone]], {stone}, [stone]
-    while waiting:
-        for near in board.beside(waiting.pop()):
-            if near not in found and board.stones.get(near) != other:
-                found.add(near)
-                waiting.append(near)
-    empty = problem.columns * problem.rows - len(board.stones)
-    return 2 * len(found - board.stones.keys()) <= empty
+    listed = [way.split() for way in (words.split() if how_many == "a" else words.split(", "))]
+    ways = [tuple(read_point(word, problem.columns, problem.rows) for word in way) for way in listed]
+    found = in_parallel(lambda stones: _marked_or_why(problem.with_stones(colour[0], stones), stone), ways)
+    return tuple((stones, each) for stones, each in zip(ways, found) if isinstance(each, Problem))
 
 
 def _marked_or_why(problem: Problem, stone: str) -> Union[Problem, str]:
@@ -148,15 +133,13 @@ def _marked_or_why(problem: Problem, stone: str) -> Union[Problem, str]:
 
 
 def _proposed(problem: Problem) -> Marked:
-    """The problem around the group that the program takes. If no group is enclosed, it is the largest chain whose wall can be closed."""
+    """The problem around the group that the program takes. If no group is enclosed, it is the one that may be meant, its wall closed."""
     try:
         found, hints = _mark(problem, None)
         return Marked((((), found),), hints)
     except Refused as fault:
-        stones = [min(chain) for chain in sorted(problem.position()[0].chains(), key=len, reverse=True)]
-        said = in_parallel(lambda stone: _marked_or_why(problem, stone), stones)
-        for stone, found_or_why in zip(stones, said):
-            ways = ((((), found_or_why),) if isinstance(found_or_why, Problem) else _ways(problem, stone, found_or_why))
-            if ways:
-                return Marked(ways)
-        raise fault
+        meant = _MAY_BE.search(str(fault))
+        ways = _ways(problem, read_point(meant[1], problem.columns, problem.rows), str(fault)) if meant else ()
+        if not ways:
+            raise
+        return Marked(ways)

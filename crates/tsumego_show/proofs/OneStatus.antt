@@ -26,7 +26,7 @@ tree_same Diagram k (Ok p) behind a b other x y = test_same (IsOnlyTree k behind
 tree_same Diagram k (Err e) behind a b other x y = x ∙ sym y
 tree_same (Variations depth) k (Ok p) behind a b other x y = x ∙ sym y
 tree_same (Variations depth) k (Err e) behind a b other x y = x ∙ sym y
-tree_same (Marks name) k r behind a b other x y = absurd (other name refl)
+tree_same (Marks wanted) k r behind a b other x y = absurd (other wanted refl)
 
 module _ (reading : GrammarIsUnambiguous) where
   rest_same : (mode : Mode) (k : ℕ) (bytes : List ℕ) (a b : Bool) → WantsNoMarks mode → IsRestRefused mode k bytes a → IsRestRefused mode k bytes b → a ≡ b

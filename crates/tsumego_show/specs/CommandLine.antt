@@ -1,5 +1,5 @@
 -- What the words behind the program's name ask for.
-use Rattle.std.specs.Prelude.{ℕ, ◌-◌, ◌&&◌, ◌==◌, nat_le, List, [], ◌∷◌, codes, Option, Some, None, if◌then◌else◌}
+use Rattle.std.specs.Prelude.{ℕ, ◌-◌, ◌&&◌, ◌==◌, nat_le, Bool, true, false, List, [], ◌∷◌, codes, Option, Some, None, if◌then◌else◌}
 use lib.Pointwise.{pointwise}
 use Rattle.std.specs.Char.{to_ascii_uppercase}
 use Rattle.tt_sgf.specs.Bytes.{lower_a, upper_A}
@@ -60,15 +60,33 @@ point_name_of_word (b ∷ bs) = sgf_or_editor_point_name b bs (sgf_row bs)
 
 -- ---- words
 
-abbrev pub mark_mode_at : Option PointName → Option Mode
-mark_mode_at None = None
-mark_mode_at (Some name) = Some (Marks (Some name))
+-- marks for the stone in a place, or for any; stones that close its wall may be added, or not
+abbrev pub marks_for : Bool → Option PointName → Mode
+marks_for closes name = Marks (record { name = name; closes = closes })
+
+abbrev pub mark_mode_at : Bool → Option PointName → Option Mode
+mark_mode_at closes None = None
+mark_mode_at closes (Some name) = Some (marks_for closes (Some name))
+
+-- the word lets stones be added
+abbrev pub is_close_word : List ℕ → Bool
+is_close_word w = pointwise ◌==◌ w (codes "--close")
+
+-- behind `--mark`: a point, or `--close`
+abbrev pub mark_mode_of_one : List ℕ → Option Mode
+mark_mode_of_one w = if is_close_word w then Some (marks_for true None) else mark_mode_at false (point_name_of_word w)
+
+-- behind `--mark`: both, in any order
+abbrev pub mark_mode_of_two : List ℕ → List ℕ → Option Mode
+mark_mode_of_two w v =
+    if is_close_word w then mark_mode_at true (point_name_of_word v) else (if is_close_word v then mark_mode_at true (point_name_of_word w) else None)
 
 -- behind `--mark`
 abbrev pub mark_mode : List (List ℕ) → Option Mode
-mark_mode [] = Some (Marks None)
-mark_mode (w ∷ []) = mark_mode_at (point_name_of_word w)
-mark_mode (w ∷ v ∷ ws) = None
+mark_mode [] = Some (marks_for false None)
+mark_mode (w ∷ []) = mark_mode_of_one w
+mark_mode (w ∷ v ∷ []) = mark_mode_of_two w v
+mark_mode (w ∷ v ∷ u ∷ ws) = None
 
 -- how many turns deep variations go where no word says so
 abbrev pub default_depth : ℕ
@@ -102,9 +120,9 @@ abbrev pub word_if_unread : {A : Type 0} → List ℕ → Option A → Option (L
 word_if_unread w None = Some w
 word_if_unread w (Some x) = None
 
--- the word behind `--mark`, where it is no point
+-- the word behind `--mark`, where it is no point; `--close` is none
 abbrev pub unreadable_point_argument : List (List ℕ) → Option (List ℕ)
 unreadable_point_argument [] = None
 unreadable_point_argument (w ∷ []) = None
-unreadable_point_argument (w ∷ v ∷ []) = if pointwise ◌==◌ w (codes "--mark") then word_if_unread v (point_name_of_word v) else None
-unreadable_point_argument (w ∷ v ∷ u ∷ ws) = None
+unreadable_point_argument (w ∷ v ∷ ws) =
+    if pointwise ◌==◌ w (codes "--mark") then (if is_close_word v then None else word_if_unread v (point_name_of_word v)) else None

@@ -1,6 +1,6 @@
 -- Which trees of an input are refused, and the exit status. Pictures, diagrams, variations, marks and words are tested, and nothing is
 -- said of them here.
-use Rattle.std.specs.Prelude.{◌≡◌, ◌⊎◌, ◌↔◌, ◌+◌, ◌<◌, ◌≤◌, ℕ, Bool, IsTrue, true, false, ◌||◌, List, Option, length, drop, Ok, Err, if◌then◌else◌}
+use Rattle.std.specs.Prelude.{◌≡◌, ◌⊎◌, ◌↔◌, ◌+◌, ◌<◌, ◌≤◌, ℕ, Bool, IsTrue, true, false, ◌||◌, List, length, drop, Ok, Err, if◌then◌else◌}
 use Rattle.std.specs.declared.result.Result.{Result}
 use Rattle.tt_sgf.specs.declared.trees.TheConstants.{MAX_BYTES}
 use Rattle.tt_sgf.specs.Grammar.{GameTree, HasNoTree, HasOpeningParenthesis, FirstTreeEndsAt, main_line}
@@ -9,7 +9,7 @@ use Rattle.tt_game.specs.Line.{LineWithUndo}
 use Rattle.tt_game.specs.Problems.{problem_of}
 use Rattle.tsumego_show.specs.declared.mode.Mode.{Mode}
 use Rattle.tsumego_show.specs.declared.mode.Mode.TheVariants.{Picture, Diagram, Marks, Variations}
-use Rattle.tsumego_show.specs.declared.mode.PointName.{PointName}
+use Rattle.tsumego_show.specs.declared.mode.WantedMarks.{WantedMarks}
 
 -- an input is one problem, where this is its first tree and none may follow
 abbrev pub IsOnlyTree : ℕ → List ℕ → Type 0
@@ -24,7 +24,7 @@ IsTreeRefused Diagram k (Ok p) behind refused = IsTrue refused ↔ (IsOnlyTree k
 IsTreeRefused Diagram k (Err e) behind refused = refused ≡ true
 IsTreeRefused (Variations depth) k (Ok p) behind refused = refused ≡ false
 IsTreeRefused (Variations depth) k (Err e) behind refused = refused ≡ true
-IsTreeRefused (Marks name) k r behind refused = Unit {0}
+IsTreeRefused (Marks wanted) k r behind refused = Unit {0}
 
 -- Whether something is refused in bytes at the end of an input, whose first tree has number k: in a tree or in what follows it; or no
 -- tree is left, and none was wanted; or none is spelled where one is wanted: at a `(`, or where no tree was read yet.
@@ -46,7 +46,7 @@ HasStatus mode input status = (refused : Bool) × IsInputRefused mode input refu
 
 -- the mode isn't that of marks
 abbrev pub WantsNoMarks : Mode → Type 0
-WantsNoMarks mode = (name : Option PointName) → mode ≡ Marks name → ⊥
+WantsNoMarks mode = (wanted : WantedMarks) → mode ≡ Marks wanted → ⊥
 
 -- an input has one status then
 abbrev pub InputHasOneStatus : Type 0

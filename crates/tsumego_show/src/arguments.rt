@@ -1,15 +1,15 @@
 //! Reads the words behind the program's name.
 ghost use Rattle.std.specs.Prelude.{◌≡◌, MatchOption, None, Some, map, string_bytes};
 ghost use Rattle.tt_sgf.specs.Values.{number_of};
-ghost use Rattle.tsumego_show.specs.CommandLine.{column_of_editor_letter, coordinate_of_sgf_letter, svg_mode, mode_of_words, editor_point_name, mark_mode, point_name_of_word, sgf_row, sgf_mode, sgf_mode_to_depth, unreadable_point_argument};
+ghost use Rattle.tsumego_show.specs.CommandLine.{column_of_editor_letter, coordinate_of_sgf_letter, svg_mode, mode_of_words, editor_point_name, is_close_word, mark_mode, mark_mode_at, mark_mode_of_one, mark_mode_of_two, point_name_of_word, sgf_row, sgf_mode, sgf_mode_to_depth, unreadable_point_argument};
 
-use crate::mode::{Mode, PointName};
+use crate::mode::{Mode, PointName, WantedMarks};
 use tt_proof::MOST_DEPTH;
 use tt_sgf::number;
 
 /// What a line of words has to be.
 pub const USAGE: &str =
-    "write tsumego-show < FILE, tsumego-show --svg < FILE, tsumego-show --sgf [--depth N] < FILE, with N from 1 to 512, or tsumego-show --mark [POINT] < FILE, with a stone as POINT: C18 or cb";
+    "write tsumego-show < FILE, tsumego-show --svg < FILE, tsumego-show --sgf [--depth N] < FILE, with N from 1 to 512, or tsumego-show --mark [POINT] [--close] < FILE, with a stone as POINT: C18 or cb";
 
 /// The column that a capital letter names in editors, who leave out I.
 fn column_of_editor_letter(letter: u8) -> Option<usize>
@@ -70,13 +70,61 @@ fn point_name_of_word(word: &[u8]) -> Option<PointName>
     }
 }
 
+/// Whether a word lets stones be added.
+fn is_close_word(word: &String) -> bool
+    ensures { result ≡ is_close_word (string_bytes word.now) }
+{
+    word.as_bytes() == b"--close".as_slice()
+}
+
+/// Marks for the stone in the place that a word names.
+fn mark_mode_at(word: &String, closes: bool) -> Option<Mode>
+    ensures { result ≡ mark_mode_at closes (point_name_of_word (string_bytes word.now)) }
+{
+    let name = point_name_of_word(word.as_bytes())?;
+    Some(Mode::Marks(WantedMarks {
+        name: Some(name),
+        closes,
+    }))
+}
+
+/// What is marked by one word behind `--mark`.
+fn mark_mode_of_one(word: &String) -> Option<Mode>
+    ensures { result ≡ mark_mode_of_one (string_bytes word.now) }
+{
+    if is_close_word(word) {
+        return Some(Mode::Marks(WantedMarks {
+            name: None,
+            closes: true,
+        }));
+    }
+    mark_mode_at(word, false)
+}
+
+/// What is marked by two words behind `--mark`.
+fn mark_mode_of_two(first: &String, second: &String) -> Option<Mode>
+    ensures { result ≡ mark_mode_of_two (string_bytes first.now) (string_bytes second.now) }
+{
+    if is_close_word(first) {
+        return mark_mode_at(second, true);
+    }
+    if is_close_word(second) {
+        return mark_mode_at(first, true);
+    }
+    None
+}
+
 /// What is marked by the words behind `--mark`.
 fn mark_mode(words: &[String]) -> Option<Mode>
     ensures { result ≡ mark_mode (map string_bytes words.now) }
 {
     match words {
-        [] => Some(Mode::Marks(None)),
-        [word] => Some(Mode::Marks(Some(point_name_of_word(word.as_bytes())?))),
+        [] => Some(Mode::Marks(WantedMarks {
+            name: None,
+            closes: false,
+        })),
+        [word] => mark_mode_of_one(word),
+        [first, second] => mark_mode_of_two(first, second),
         _ => None,
     }
 }
@@ -145,10 +193,13 @@ pub fn mode_of_words(words: &[String]) -> Option<Mode>
 pub fn unreadable_point_argument(words: &[String]) -> Option<&String>
     ensures { MatchOption result (unreadable_point_argument (map string_bytes words.now) ≡ None) (λ w. unreadable_point_argument (map string_bytes words.now) ≡ Some (string_bytes w.now)) }
 {
-    let [name, word] = words else {
+    let [name, word, ..] = words else {
         return None;
     };
-    if name.as_bytes() == b"--mark".as_slice() && point_name_of_word(word.as_bytes()).is_none() {
+    if name.as_bytes() == b"--mark".as_slice()
+        && !is_close_word(word)
+        && point_name_of_word(word.as_bytes()).is_none()
+    {
         return Some(word);
     }
     None

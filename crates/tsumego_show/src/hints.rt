@@ -4,17 +4,19 @@ ghost use Rattle.tt_sgf.specs.Sizes.{point_count};
 
 use crate::picture::editor_column_letter;
 use crate::points::point_numbered;
-use crate::regions::{
-    adjacent_points, chains_with_liberty_outside, empties, reached, stones_of_colour,
-};
 use crate::writing::written;
 use std::io::Write;
+use tt_board::{Board, Colour};
 use tt_game::{Line, Turn, has_move, has_value, sets_up};
+use tt_marks::{adjacent_points, chains, empties, stones_in_danger, stones_of_colour};
 use tt_proof::put_turn;
-use tt_sgf::{NoMemory, Node, PointSet, Size};
+use tt_sgf::{NoMemory, Node, Point, PointSet, Size};
 
 /// The most points of a board that may well be a region as a whole.
 const MOST_SMALL_BOARD_POINTS: usize = 10;
+
+/// So often chains are looked for that hang together with the targets, by way of other chains.
+const MOST_JOINED: usize = 8;
 
 /// Writes the name of a point as editors have it behind the text.
 #[tactic(auto, using(crate::proofs::Sets::row_on_board))]
@@ -36,18 +38,24 @@ pub fn put_both_point_names(out: &mut Vec<u8>, size: Size, number: usize) -> Res
     put_turn(out, Turn::Play(point_numbered(size, number)), size)
 }
 
-/// Writes the names of the points of a set behind the text, row by row, each with a blank in front, and a newline.
-pub fn put_point_names_line(
-    out: &mut Vec<u8>,
-    size: Size,
-    points: &PointSet,
-) -> Result<(), NoMemory> {
+/// Writes the names of the points of a set behind the text, row by row, each with a blank in front.
+pub fn put_point_names(out: &mut Vec<u8>, size: Size, points: &PointSet) -> Result<(), NoMemory> {
     for number in 0..size.point_count() {
         if points.has(point_numbered(size, number)) {
             out.push(b' ')?;
             put_both_point_names(out, size, number)?;
         }
     }
+    Ok(())
+}
+
+/// Writes them, and a newline.
+pub fn put_point_names_line(
+    out: &mut Vec<u8>,
+    size: Size,
+    points: &PointSet,
+) -> Result<(), NoMemory> {
+    put_point_names(out, size, points)?;
     Ok(out.push(b'\n')?)
 }
 
@@ -65,20 +73,14 @@ pub fn put_points_line_if_any(
     put_point_names_line(out, size, points)
 }
 
-/// The stones of the defender.
-fn defender_stones(line: &Line) -> PointSet {
-    stones_of_colour(line.present(), line.frame().defender)
-}
-
 /// The empty points that nobody can fill, beside an empty point of the region or the chain of a target or of one of the defender's
 /// stones in it.
 fn empties_around_region(line: &Line) -> PointSet {
     let frame = line.frame();
-    let free = defender_stones(line);
-    let start = frame.targets.or(&frame.region.and(&free));
-    let chains = reached(frame.size, &free, start);
-    let all_empties = empties(line.present());
-    let inside = frame.region.and(&all_empties).or(&chains);
+    let board = line.present();
+    let its_chains = chains(board, frame.defender, &frame.targets.or(&frame.region));
+    let all_empties = empties(board);
+    let inside = frame.region.and(&all_empties).or(&its_chains);
     all_empties
         .minus(&frame.region)
         .and(&adjacent_points(frame.size, &inside))
@@ -87,22 +89,63 @@ fn empties_around_region(line: &Line) -> PointSet {
 /// The attacker's stones outside the region, whose chains have all their liberties in it.
 fn capturable_attackers(line: &Line) -> PointSet {
     let frame = line.frame();
-    let attackers = stones_of_colour(line.present(), frame.defender.other());
-    let safe = chains_with_liberty_outside(line.present(), frame.defender, &frame.region);
-    attackers.minus(&frame.region).minus(&safe)
+    stones_in_danger(line.present(), frame.defender.other(), &frame.region).minus(&frame.region)
 }
 
-/// The defender's stones in or beside the region, of other chains than the targets'.
+/// These stones of a colour, with the chain of a stone where it has two liberties in common with them: then no play cuts it off.
+fn with_chain_if_joined(
+    board: &Board,
+    colour: Colour,
+    stones: &PointSet,
+    stone: Point,
+) -> PointSet {
+    let size = board.size();
+    let chain = chains(board, colour, &PointSet::empty().with(stone));
+    let liberties = empties(board).and(&adjacent_points(size, stones));
+    if 1 < liberties.and(&adjacent_points(size, &chain)).count() {
+        return stones.or(&chain);
+    }
+    stones.copy()
+}
+
+/// These stones of a colour, with the chains among others that no play cuts off from them.
+fn with_joined_chains(
+    board: &Board,
+    colour: Colour,
+    stones: PointSet,
+    others: &PointSet,
+) -> PointSet {
+    let size = board.size();
+    let mut joined = stones;
+    for _time in 0..MOST_JOINED {
+        let mut more = joined.copy();
+        for number in 0..size.point_count() {
+            let stone = point_numbered(size, number);
+            if others.has(stone) && !more.has(stone) {
+                more = with_chain_if_joined(board, colour, &more, stone);
+            }
+        }
+        if more.same(&joined) {
+            return joined;
+        }
+        joined = more;
+    }
+    joined
+}
+
+/// The defender's stones in or beside the region that a play may cut off from the targets.
 fn other_defender_stones(line: &Line) -> PointSet {
     let frame = line.frame();
-    let free = defender_stones(line);
-    let others = free.minus(&reached(frame.size, &free, frame.targets.copy()));
-    others.and(&frame.region.or(&adjacent_points(frame.size, &frame.region)))
+    let board = line.present();
+    let near = frame.region.or(&adjacent_points(frame.size, &frame.region));
+    let others = stones_of_colour(board, frame.defender).and(&near);
+    let own = chains(board, frame.defender, &frame.targets);
+    others.minus(&with_joined_chains(board, frame.defender, own, &others))
 }
 
 /// Writes the hints on the problem at a line behind the text: the empty points outside the region that are beside an empty
 /// point of it, or beside a chain of the defender that has a target or a stone in it; the attacker's stones outside the region
-/// whose chains have all their liberties in it; the defender's stones in or beside the region that aren't of a target's chain;
+/// whose chains have all their liberties in it; the defender's stones in or beside the region that a play may cut off from the targets;
 /// and that the region is all of a board of more than 10 points.
 /// `NoMemory` where memory was refused; a part may stand there then.
 pub fn put_hints(out: &mut Vec<u8>, line: &Line) -> Result<(), NoMemory> {

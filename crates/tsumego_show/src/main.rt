@@ -11,7 +11,7 @@
 //! | `strategy_listing`, `endings` | the strategy as text, the board after its first turn, how it ends at life |
 //! | `variations`, `depths` | the strategy as an SGF tree, the depth at which it is cut |
 //! | `diagram`, `windows`, `numbered_plays` | the diagram (SVG), the points it shows, numbered plays |
-//! | `marking`, `mark_proposals`, `regions` | `--mark`: the tree with marks, the group that is marked, the region around it |
+//! | `marking`, `unmarked` | `--mark`: the tree with marks, and with stones that close the wall; why a tree has none, and how its wall may be closed |
 //! | `tree_bytes`, `points`, `writing` | the bytes of a tree, points by number, writing to memory |
 //! | `laws` | an input has one status, unless marks are wanted |
 #![tactic(auto)]
@@ -23,18 +23,17 @@ mod diagram;
 mod endings;
 mod hints;
 mod laws;
-mod mark_proposals;
 mod marking;
 mod mode;
 mod numbered_plays;
 mod picture;
 mod points;
 mod refusals;
-mod regions;
 mod running;
 mod showing;
 mod strategy_listing;
 mod tree_bytes;
+mod unmarked;
 mod variations;
 mod windows;
 mod writing;

@@ -1,26 +1,75 @@
 //! Writes problems with the marks that are proposed for them.
-ghost use Rattle.std.specs.Prelude.{◌<◌, IfSome};
+ghost use Rattle.std.specs.Prelude.{◌<◌, IfOk, IfSome};
 ghost use Rattle.tt_sgf.specs.Sizes.{point_count};
 
 use crate::hints::{
-    put_both_point_names, put_hints, put_missing_mover_line, put_point_names_line,
-    put_points_line_if_any, put_unclosed_comment_lines,
+    put_editor_point_name, put_hints, put_missing_mover_line, put_points_line_if_any,
+    put_unclosed_comment_lines,
 };
-use crate::mark_proposals::{
-    StoneWithPoints, other_enclosed_chains, point_of_name, proposal, stone_with_fewest_ways_out,
-};
-use crate::mode::PointName;
+use crate::mode::WantedMarks;
 use crate::picture::colour_name;
+use crate::points::{point_numbered, point_of_name};
 use crate::refusals::{put_refusal_and_why, put_refusal_line};
-use crate::regions::{WayToClose, proposed_region, stones_of_colour, way_to_close};
-use crate::tree_bytes::{from_first_parenthesis, put_tree_as_given, semicolon_end};
-use crate::variations::put_marks;
+use crate::tree_bytes::{from_first_parenthesis, node_end, put_tree_as_given, semicolon_end};
+use crate::unmarked::{
+    put_wall_in_danger_line, put_way, put_ways, put_why_no_group_enclosed,
+    put_why_unmarked_at_point,
+};
+use crate::variations::{colour_letter, put_marks, put_points_property};
 use crate::writing::written;
 use std::alloc::Global;
 use std::io::Write;
 use tt_board::{Board, Colour};
 use tt_game::{Game, GameFault, Line, game_before_solution, has_value, node_count_before_solution};
+use tt_marks::{Closing, closings, group, is_inner, proposed_stone, region};
 use tt_sgf::{MainLine, NoMemory, Node, Point, PointSet, Size};
+
+/// A group that gets marks: one of its stones, its colour and the squares.
+#[derive(Drop)]
+struct MarkedGroup {
+    stone: Point,
+    colour: Colour,
+    squares: PointSet,
+}
+
+/// The group of the stone on a point, where its region is closed and, where nobody named the stone, an inner one.
+fn enclosed_group(board: &Board, is_named: bool, stone: Point) -> Option<MarkedGroup>
+    requires { stone < point_count board.now.size }
+    ensures { IfSome result (λ m. m.stone < point_count board.now.size) }
+{
+    let colour = board.at(stone)?;
+    let found = region(board, colour, stone);
+    if found.is_closed() && (is_named || is_inner(board, &found.points)) {
+        return Some(MarkedGroup {
+            stone,
+            colour,
+            squares: found.points,
+        });
+    }
+    None
+}
+
+/// The first stones of the enclosed chains that are neither that of a mark nor in its squares.
+fn other_enclosed_chains(board: &Board, marked: &MarkedGroup) -> PointSet
+    requires { marked.now.stone < point_count board.now.size }
+{
+    let size = board.size();
+    let mut known = group(board, marked.colour, marked.stone).or(&marked.squares);
+    let mut made = PointSet::empty();
+    for number in 0..size.point_count() {
+        let point = point_numbered(size, number);
+        if known.has(point) {
+            continue;
+        }
+        if let Some(colour) = board.at(point) {
+            known = known.or(&group(board, colour, point));
+            if enclosed_group(board, false, point).is_some() {
+                made = made.with(point);
+            }
+        }
+    }
+    made
+}
 
 /// Writes a tree with the marks of a problem at the head of the node of this number behind the text.
 fn put_tree_with_marks(
@@ -36,143 +85,49 @@ fn put_tree_with_marks(
     Ok(out.push(b'\n')?)
 }
 
-/// Writes the name of the chain of a stone of this colour behind the text.
-fn put_chain_name(
+/// Writes a comment that names the stones of this colour that were added behind the text.
+fn put_comment_on_added(
     out: &mut Vec<u8>,
     size: Size,
     colour: Colour,
-    stone: Point,
-) -> Result<(), NoMemory>
-    requires { stone < point_count size }
-{
-    let name = colour_name(colour);
-    written(write!(out, "the {name} chain of "))?;
-    put_both_point_names(out, size, usize::from(stone.number()))
-}
-
-/// Writes how stones of this colour may close the wall behind the text.
-fn put_how_to_close(
-    out: &mut Vec<u8>,
-    size: Size,
-    colour: Colour,
-    way: &WayToClose,
+    added: &PointSet,
 ) -> Result<(), NoMemory> {
     let name = colour_name(colour);
-    let points = match way {
-        WayToClose::OneStone(points) => {
-            written(write!(out, "a {name} stone on one of these encloses it:"))?;
-            points
+    written(write!(out, "C[{name} stones added to close the wall:"))?;
+    for number in 0..size.point_count() {
+        if added.has(point_numbered(size, number)) {
+            out.push(b' ')?;
+            put_editor_point_name(out, size, number)?;
         }
-        WayToClose::TwoStones(points) => {
-            written(write!(out, "two {name} stones on some of these enclose it:"))?;
-            points
-        }
-        WayToClose::Nearby(points) => {
-            out.extend_from_slice(b"put stones of the wall on some of these, or mark by hand:")?;
-            points
-        }
-        WayToClose::WaysOut(points) => {
-            out.extend_from_slice(b"follow these to gaps, if there are any, or mark by hand:")?;
-            points
-        }
-    };
-    put_point_names_line(out, size, points)
+    }
+    Ok(out.push(b']')?)
 }
 
-/// Writes how many points the region of the chain of a stone of this colour has, or where the chain is open, behind the text.
-fn put_why_unmarked_chain(
+/// Writes a tree behind the text, with a node behind that of this number that adds stones of the attacker, and has the side to move and
+/// the marks of a problem. It is a node of its own, so that the given position stays, and no setup stands beside a move.
+fn put_tree_with_stones(
     out: &mut Vec<u8>,
-    board: &Board,
-    colour: Colour,
-    stone: Point,
-) -> Result<(), NoMemory>
-    requires { stone < point_count board.now.size }
-{
-    let found = proposed_region(board, colour, stone);
-    put_chain_name(out, board.size(), colour, stone)?;
-    if found.walled {
-        let count = found.points.count();
-        return written(writeln!(
-            out,
-            " is enclosed with {count}, not with 2 to 40 points: mark it by hand"
-        ));
-    }
-    out.extend_from_slice(b" is not enclosed with 2 to 40 points: ")?;
-    let way = way_to_close(board, colour, stone);
-    put_how_to_close(out, board.size(), colour.other(), &way)
-}
-
-/// Writes why no mark is proposed for a point, where the board has it, behind the text.
-fn put_why_unmarked_at_point(
-    out: &mut Vec<u8>,
-    board: &Board,
-    point: Option<Point>,
-) -> Result<(), NoMemory>
-    requires { IfSome point (λ q. q < point_count board.now.size) }
-{
-    let size = board.size();
-    let Some(point) = point else {
-        let columns = size.columns();
-        let rows = size.rows();
-        return written(writeln!(
-            out,
-            "the board has no such point: it is {columns} by {rows}"
-        ));
+    line: &Line,
+    added: &PointSet,
+    mover: Colour,
+    number: usize,
+    tree: &[u8],
+) -> Result<(), NoMemory> {
+    let size = line.frame().size;
+    let colour = line.frame().defender.other();
+    let at = node_end(tree, number);
+    out.extend_from_slice(&tree[..at])?;
+    let name = match colour {
+        Colour::Black => ";AB",
+        Colour::White => ";AW",
     };
-    if let Some(colour) = board.at(point) {
-        return put_why_unmarked_chain(out, board, colour, point);
-    }
-    out.extend_from_slice(b"no stone stands on ")?;
-    put_both_point_names(out, size, usize::from(point.number()))?;
+    put_points_property(out, size, name, added)?;
+    let letter = colour_letter(mover);
+    written(write!(out, "PL[{letter}]"))?;
+    put_marks(out, line)?;
+    put_comment_on_added(out, size, colour, added)?;
+    out.extend_from_slice(&tree[at..])?;
     Ok(out.push(b'\n')?)
-}
-
-/// Writes that no group is enclosed, and which chain has the fewest ways out, behind the text.
-fn put_no_group_enclosed(out: &mut Vec<u8>, board: &Board) -> Result<(), NoMemory> {
-    out.extend_from_slice(
-        b"no group was found that is enclosed with 2 to 40 points: close the wall, or name a stone of the group",
-    )?;
-    let Some(found) = stone_with_fewest_ways_out(board) else {
-        return Ok(out.push(b'\n')?);
-    };
-    out.extend_from_slice(b"; the fewest points lead on from ")?;
-    put_chain_name(out, board.size(), found.colour, found.stone)?;
-    out.push(b':')?;
-    put_point_names_line(out, board.size(), &found.points)
-}
-
-/// Writes that no group is enclosed, and which chain has the fewest ways out; or that there is no wall, behind the text.
-fn put_why_no_group_enclosed(out: &mut Vec<u8>, board: &Board) -> Result<(), NoMemory> {
-    let has_blacks = 0 < stones_of_colour(board, Colour::Black).count();
-    let has_whites = 0 < stones_of_colour(board, Colour::White).count();
-    match (has_blacks, has_whites) {
-        (true, true) => put_no_group_enclosed(out, board),
-        (true, false) => Ok(out.extend_from_slice(
-            b"no White stone is on the board, so there is no wall\n",
-        )?),
-        (false, true) => Ok(out.extend_from_slice(
-            b"no Black stone is on the board, so there is no wall\n",
-        )?),
-        (false, false) => Ok(out.extend_from_slice(b"no stone is on the board\n")?),
-    }
-}
-
-/// Writes why no mark is proposed, since there are squares or for a place, behind the text.
-fn put_why_unmarked(
-    out: &mut Vec<u8>,
-    board: &Board,
-    is_squared: bool,
-    name: Option<PointName>,
-) -> Result<(), NoMemory> {
-    if is_squared {
-        return Ok(out.extend_from_slice(
-            b"squares stand there already: put a triangle on a stone of the group, or take SQ out\n",
-        )?);
-    }
-    match name {
-        None => put_why_no_group_enclosed(out, board),
-        Some(name) => { put_why_unmarked_at_point(out, board, point_of_name(board.size(), name)) }
-    }
 }
 
 /// The nodes up to where a main line asks.
@@ -198,55 +153,167 @@ fn is_last_problem_node_squared(nodes: &[Node]) -> bool {
     }
 }
 
-/// Writes the hints on a game with a mark, and its tree with the mark in the node of this number, behind the text.
+/// The game with a mark.
 #[tactic(auto, using(crate::proofs::Sets::one_counts, crate::proofs::Sets::one_lies))]
-fn put_game_with_proposal(
+fn problem_of_group(game: Game, marked: MarkedGroup) -> Result<Line, NoMemory>
+    requires { marked.stone < point_count game.size }
+{
+    let targets = PointSet::empty().with(marked.stone);
+    game.into_problem(marked.squares, targets, marked.colour)
+}
+
+/// Writes the hints on a game with a mark, and its tree with the mark in the node of this number, behind the text.
+fn put_enclosed_group(
     out: &mut Vec<u8>,
     game: Game,
-    proposal: StoneWithPoints,
+    marked: MarkedGroup,
+    is_named: bool,
     number: usize,
     tree: &[u8],
 ) -> Result<(), NoMemory>
-    requires { proposal.stone < point_count game.size }
+    requires { marked.stone < point_count game.size }
 {
-    let targets = PointSet::empty().with(proposal.stone);
-    let line = game.into_problem(proposal.points, targets, proposal.colour)?;
+    if !is_named {
+        put_points_line_if_any(
+            out,
+            game.size(),
+            b"hint: other groups are enclosed too: name a stone of the one that is meant:",
+            &other_enclosed_chains(game.present(), &marked),
+        )?;
+    }
+    let line = problem_of_group(game, marked)?;
     put_hints(out, &line)?;
-    put_tree_with_marks(out, &line, number, from_first_parenthesis(tree))
+    put_tree_with_marks(out, &line, number, tree)
+}
+
+/// Writes which stones close the wall around the group of a stone of this colour, and the other ways, the best first, and a tree with the
+/// stones and the mark behind the node of this number, behind the text.
+fn put_closed_group(
+    out: &mut Vec<u8>,
+    game: Game,
+    stone: Point,
+    colour: Colour,
+    best: &Closing,
+    others: &[Closing],
+    number: usize,
+    tree: &[u8],
+) -> Result<(), NoMemory>
+    requires { stone < point_count game.size }
+{
+    let size = game.size();
+    let name = colour_name(colour.other());
+    written(write!(out, "hint: {name} stones added to close the wall:"))?;
+    put_way(out, size, best)?;
+    if others.is_empty() {
+        out.push(b'\n')?;
+    } else {
+        out.extend_from_slice(b"; other ways, the best first:")?;
+        put_ways(out, size, others, b",")?;
+    }
+    let mover = game.to_move();
+    let marked = MarkedGroup {
+        stone,
+        colour,
+        squares: best.region.copy(),
+    };
+    let line = problem_of_group(game, marked)?;
+    put_tree_with_stones(out, &line, &best.stones, mover, number, tree)
+}
+
+/// The stone in a place where the board has it, or a stone of the group that seems to be meant.
+fn stone_meant(alloc: Global, board: &Board, wanted: WantedMarks) -> Result<Option<Point>, NoMemory>
+    ensures { IfOk result (λ found. IfSome found (λ p. p < point_count board.now.size)) }
+{
+    match wanted.name {
+        Some(name) => Ok(point_of_name(board.size(), name)),
+        None => proposed_stone(alloc, board),
+    }
+}
+
+/// Writes that a tree has no marks, why for a stone, and the tree as it was, behind the text.
+fn put_reason(
+    alloc: Global,
+    out: &mut Vec<u8>,
+    board: &Board,
+    stone: &Option<Point>,
+    is_named: bool,
+    number: usize,
+    tree: &[u8],
+) -> Result<(), NoMemory>
+    requires { IfSome stone.now (λ p. p < point_count board.now.size) }
+{
+    put_wall_in_danger_line(out, board, stone)?;
+    put_refusal_line(out, number, GameFault::NoTarget.code())?;
+    out.extend_from_slice(b"why: ")?;
+    if is_named {
+        put_why_unmarked_at_point(alloc, out, board, stone)?;
+    } else {
+        put_why_no_group_enclosed(alloc, out, board, stone)?;
+    }
+    put_tree_as_given(out, tree)
+}
+
+/// Writes a tree whose group isn't enclosed with the stones that close its wall behind the text, where they are wanted and were found; or
+/// why it has no marks. Says whether it has none.
+fn put_open_group(
+    alloc: Global,
+    out: &mut Vec<u8>,
+    wanted: WantedMarks,
+    number: usize,
+    game: Game,
+    stone: Option<Point>,
+    place: usize,
+    tree: &[u8],
+) -> Result<bool, NoMemory>
+    requires { IfSome stone (λ p. p < point_count game.size) }
+{
+    if wanted.closes {
+        if let Some(point) = stone {
+            if let Some(colour) = game.present().at(point) {
+                let ways = closings(alloc, game.present(), colour, point)?;
+                if let Some((best, others)) = ways.as_slice().split_first() {
+                    put_closed_group(out, game, point, colour, best, others, place, tree)?;
+                    return Ok(false);
+                }
+            }
+        }
+    }
+    let is_named = wanted.name.is_some();
+    put_reason(alloc, out, game.present(), &stone, is_named, number, tree)?;
+    Ok(true)
 }
 
 /// Writes a tree with the mark for a stone of its game behind the text, or why there is none, and says whether there is none.
 fn put_proposal_or_reason(
+    alloc: Global,
     out: &mut Vec<u8>,
-    name: Option<PointName>,
+    wanted: WantedMarks,
     number: usize,
     nodes: &[Node],
     tree: &[u8],
     game: Game,
 ) -> Result<bool, NoMemory> {
-    let is_squared = is_last_problem_node_squared(nodes);
-    let found = if is_squared {
-        None
-    } else {
-        proposal(game.present(), name)
-    };
-    let Some(found) = found else {
+    if is_last_problem_node_squared(nodes) {
         put_refusal_line(out, number, GameFault::NoTarget.code())?;
-        out.extend_from_slice(b"why: ")?;
-        put_why_unmarked(out, game.present(), is_squared, name)?;
+        out.extend_from_slice(
+            b"why: squares stand there already: put a triangle on a stone of the group, or take SQ out\n",
+        )?;
         put_tree_as_given(out, tree)?;
         return Ok(true);
-    };
-    if name.is_none() {
-        put_points_line_if_any(
-            out,
-            game.size(),
-            b"hint: other groups are enclosed too: name a stone of the one that is meant:",
-            &other_enclosed_chains(game.present(), &found),
-        )?;
     }
-    put_game_with_proposal(out, game, found, node_count_before_solution(nodes), tree)?;
-    Ok(false)
+    let place = node_count_before_solution(nodes);
+    let tree = from_first_parenthesis(tree);
+    let stone = stone_meant(alloc, game.present(), wanted)?;
+    let is_named = wanted.name.is_some();
+    let marked = match stone {
+        Some(stone) => enclosed_group(game.present(), is_named, stone),
+        None => None,
+    };
+    if let Some(marked) = marked {
+        put_enclosed_group(out, game, marked, is_named, place, tree)?;
+        return Ok(false);
+    }
+    put_open_group(alloc, out, wanted, number, game, stone, place, tree)
 }
 
 /// Writes why a main line is refused, and its tree as it was, behind the text.
@@ -266,7 +333,7 @@ fn put_refusal_and_tree(
 pub fn put_tree_marked_or_kept(
     alloc: Global,
     out: &mut Vec<u8>,
-    name: Option<PointName>,
+    wanted: WantedMarks,
     number: usize,
     main: &MainLine,
     tree: &[u8],
@@ -281,7 +348,7 @@ pub fn put_tree_marked_or_kept(
         Ok(game) => {
             put_missing_mover_line(out, nodes_before_solution(nodes))?;
             put_unclosed_comment_lines(out, nodes)?;
-            put_proposal_or_reason(out, name, number, nodes, tree, game)
+            put_proposal_or_reason(alloc, out, wanted, number, nodes, tree, game)
         }
         Err(GameFault::NoMemory) => Err(NoMemory),
         Err(fault) => {

@@ -1,13 +1,19 @@
 //! What is written on each problem.
 
-/// What is written: pictures of characters, diagrams as SVG, or game trees of SGF: with variations to so many turns, or with the marks for
-/// the stone in a place, or for any.
+/// What is written: pictures of characters, diagrams as SVG, or game trees of SGF: with variations to so many turns, or with marks.
 #[derive(Clone, Copy)]
 pub enum Mode {
     Picture,
     Diagram,
     Variations(usize),
-    Marks(Option<PointName>),
+    Marks(WantedMarks),
+}
+
+/// Which marks are wanted: for the stone in a place or for any, and whether stones may be added that close its wall.
+#[derive(Clone, Copy)]
+pub struct WantedMarks {
+    pub name: Option<PointName>,
+    pub closes: bool,
 }
 
 /// A point by its column and row. Columns count from 0 on the left; rows from 0 above as in SGF, or from 1 below as in editors.

@@ -1,9 +1,10 @@
 //! Points by their numbers.
-ghost use Rattle.std.specs.Prelude.{◌≡◌, ◌<◌};
-ghost use Rattle.std.specs.FinSet as set;
+ghost use Rattle.std.specs.Prelude.{◌≡◌, ◌<◌, IfSome};
 ghost use Rattle.tt_sgf.specs.Sizes.{point_count};
 
-use tt_sgf::{Point, PointSet, Size};
+use crate::mode::PointName;
+use crate::picture::point_of_coordinates;
+use tt_sgf::{Point, Size};
 
 /// The point of this number.
 pub fn point_numbered(size: Size, number: usize) -> Point
@@ -17,10 +18,18 @@ pub fn point_numbered(size: Size, number: usize) -> Point
     point
 }
 
-/// Whether the set has the point of this number.
-pub fn has_point_numbered(size: Size, points: &PointSet, number: usize) -> bool
-    requires { number < point_count size }
-    ensures { result ≡ set.contains points.now number }
+/// The point of a place, where the board has it.
+pub fn point_of_name(size: Size, name: PointName) -> Option<Point>
+    ensures { IfSome result (λ q. q < point_count size) }
 {
-    points.has(point_numbered(size, number))
+    let (column, row) = match name {
+        PointName::FromAbove(column, row) => (column, row),
+        PointName::FromBelow(column, number) => {
+            (column, usize::from(size.rows()).checked_sub(number)?)
+        }
+    };
+    if column < usize::from(size.columns()) && row < usize::from(size.rows()) {
+        return Some(point_of_coordinates(size, column as u16, row as u16));
+    }
+    None
 }

@@ -146,8 +146,8 @@ fn put_non_problem(
     ensures { (behind : List ℕ) → IfOk result (IsTreeRefused mode number (Err fault.now) behind) }
 {
     match mode {
-        Mode::Marks(name) => {
-            return put_tree_marked_or_kept(alloc, out, name, number, main, tree, fault);
+        Mode::Marks(wanted) => {
+            return put_tree_marked_or_kept(alloc, out, wanted, number, main, tree, fault);
         }
         Mode::Picture => put_refusal_and_board(alloc, out, number, main, fault)?,
         Mode::Diagram | Mode::Variations(_) => {

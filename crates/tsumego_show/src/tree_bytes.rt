@@ -30,6 +30,28 @@ pub fn semicolon_end(tree: &[u8], number: usize) -> usize
     tree.len()
 }
 
+/// How many bytes stand up to the end of the node of this number: to the first `;`, `(` or `)` behind its `;` that isn't in a value.
+pub fn node_end(tree: &[u8], number: usize) -> usize
+    ensures { result ≤ length tree.now }
+{
+    let mut in_value = false;
+    let mut is_escaped = false;
+    for i in semicolon_end(tree, number)..tree.len() {
+        let byte = tree[i];
+        if is_escaped {
+            is_escaped = false;
+        } else if in_value {
+            is_escaped = byte == b'\\';
+            in_value = byte != b']';
+        } else if byte == b'[' {
+            in_value = true;
+        } else if byte == b';' || byte == b'(' || byte == b')' {
+            return i;
+        }
+    }
+    tree.len()
+}
+
 /// The bytes from the first `(` on.
 pub fn from_first_parenthesis(bytes: &[u8]) -> &[u8]
     ensures { length result.now ≤ length bytes.now }

@@ -7,17 +7,17 @@ use crate::endings::{is_end_at_life, put_life};
 use crate::numbered_plays::is_legal;
 use crate::picture::{colour_name, put_earlier_position_count, side_colour};
 use crate::points::point_numbered;
-use crate::regions::stones_of_colour;
 use crate::writing::written;
 use std::alloc::Global;
 use std::io::Write;
 use tt_board::Colour;
 use tt_game::{Line, Side, Turn, first_value};
+use tt_marks::stones_of_colour;
 use tt_proof::{Tree, put_turn};
 use tt_sgf::{NoMemory, Node, PointSet, Size};
 
 /// B or W.
-fn colour_letter(colour: Colour) -> char {
+pub fn colour_letter(colour: Colour) -> char {
     match colour {
         Colour::Black => 'B',
         Colour::White => 'W',
@@ -25,7 +25,7 @@ fn colour_letter(colour: Colour) -> char {
 }
 
 /// Writes the property of this name with the points of a set behind the text, where it has some.
-fn put_points_property(
+pub fn put_points_property(
     out: &mut Vec<u8>,
     size: Size,
     name: &str,

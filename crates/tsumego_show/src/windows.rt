@@ -2,8 +2,8 @@
 ghost use Rattle.std.specs.Prelude.{◌≤◌};
 
 use crate::picture::point_of_coordinates;
-use crate::regions::{adjacent_points, empties};
 use tt_game::Line;
+use tt_marks::{adjacent_points, empties};
 use tt_sgf::PointSet;
 
 /// The columns and rows that are drawn: the first of each, and the first behind that isn't.

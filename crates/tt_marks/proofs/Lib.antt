@@ -3,3 +3,4 @@ mod ReachedLemmas
 mod SetLemmas
 mod StandLemmas
 mod WallLemmas
+mod PointSetLemmas

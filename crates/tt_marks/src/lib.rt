@@ -3,6 +3,7 @@
 //! | Module | What it has |
 //! |---|---|
 //! | `filling` | what is reached over adjacent points, in words |
+//! | `point_sets` | the stones and chains of a board, and the points beside others, as sets |
 //! | `walls` | the group of a stone, the whole wall around it, what is within |
 //! | `regions` | the region within a wall, whether it is closed, and inner |
 //! | `ways` | the ways that lead from a group to what is far |
@@ -16,6 +17,7 @@ mod danger;
 mod filling;
 mod gaps;
 pub mod laws;
+mod point_sets;
 mod proposals;
 mod regions;
 mod walls;
@@ -23,6 +25,7 @@ mod ways;
 
 pub use danger::{stones_in_danger, wall_in_danger};
 pub use gaps::{Closing, MOST_STONES, closings};
+pub use point_sets::{adjacent_points, chains, stones_of_colour};
 pub use proposals::proposed_stone;
-pub use regions::{MOST_ENCLOSED_POINTS, WalledRegion, group, is_inner, region};
+pub use regions::{MOST_ENCLOSED_POINTS, WalledRegion, empties, group, is_inner, region};
 pub use ways::ways_out;

@@ -19,9 +19,24 @@ struct Candidate {
     region: PointSet,
 }
 
-/// The better one of two: one whose region has the other's stone in it, and not the other way round, then one with fewer points, then the
-/// first.
-fn better(first: Option<Candidate>, second: Option<Candidate>) -> Option<Candidate>
+/// The one with fewer points in its region, and of two with as many the first.
+fn smaller(first: Option<Candidate>, second: Option<Candidate>) -> Option<Candidate>
+    ensures { (n : ℕ) → IfSome first (λ m. m.stone < n) → IfSome second (λ m. m.stone < n) → IfSome result (λ m. m.stone < n) }
+{
+    let Some(b) = second else {
+        return first;
+    };
+    let Some(a) = first else {
+        return Some(b);
+    };
+    if b.region.count() < a.region.count() {
+        return Some(b);
+    }
+    Some(a)
+}
+
+/// The one whose region has the other's stone in it, where it's not the other way round, else the one with fewer points.
+fn outer_or_smaller(first: Option<Candidate>, second: Option<Candidate>) -> Option<Candidate>
     ensures { (n : ℕ) → IfSome first (λ m. m.stone < n) → IfSome second (λ m. m.stone < n) → IfSome result (λ m. m.stone < n) }
 {
     let Some(b) = second else {
@@ -38,10 +53,7 @@ fn better(first: Option<Candidate>, second: Option<Candidate>) -> Option<Candida
     if a_is_within && !b_is_within {
         return Some(b);
     }
-    if b.region.count() < a.region.count() {
-        return Some(b);
-    }
-    Some(a)
+    smaller(Some(a), Some(b))
 }
 
 /// Whether a stone is the only one of its colour in its group and the region: then it's a stone of a wall, or a stone thrown in.
@@ -75,16 +87,13 @@ fn closed_candidate(board: &Board, colour: Colour, stone: Point) -> Option<Candi
     if !found.is_closed() || !is_inner(board, &found.points) {
         return None;
     }
-    if is_lone(board, colour, stone, &found.points) {
-        return None;
-    }
     Some(Candidate {
         stone,
         region: found.points,
     })
 }
 
-/// The group of a stone of this colour, where so many stones close its wall, and fewer don't.
+/// The group of a stone of this colour, where it isn't a lone one, and so many stones close its wall, and fewer don't.
 fn open_candidate(
     alloc: Global,
     board: &Board,
@@ -120,7 +129,7 @@ fn best_closed(board: &Board) -> Option<Candidate>
     for number in 0..size.point_count() {
         let stone = point_numbered(size, number);
         if let Some(colour) = colour_if_first(board, stone) {
-            best = better(best, closed_candidate(board, colour, stone));
+            best = smaller(best, closed_candidate(board, colour, stone));
         }
     }
     best
@@ -137,14 +146,14 @@ fn best_open(alloc: Global, board: &Board, stones: usize) -> Result<Option<Candi
         let stone = point_numbered(size, number);
         if let Some(colour) = colour_if_first(board, stone) {
             let next = open_candidate(alloc, board, colour, stone, stones)?;
-            best = better(best, next);
+            best = outer_or_smaller(best, next);
         }
     }
     Ok(best)
 }
 
-/// The first stone of the group that seems to be meant: of those with a closed region, then of those whose walls the fewest stones close,
-/// the one with the smallest region, and of groups in each other's region the outer one. A lone stone is never taken for a group.
+/// The first stone of the group that seems to be meant: of those with a closed region the one with the smallest; else of those whose
+/// walls the fewest stones close, without lone stones, the one with the smallest region, and of groups in each other's region the outer.
 pub fn proposed_stone(alloc: Global, board: &Board) -> Result<Option<Point>, NoMemory>
     ensures { IfOk result (λ found. IfSome found (λ p. p < point_count board.now.size)) }
 {

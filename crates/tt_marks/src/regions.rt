@@ -91,7 +91,7 @@ impl WalledRegion {
 }
 
 /// The empty points as a set.
-pub(crate) fn empties(board: &Board) -> PointSet
+pub fn empties(board: &Board) -> PointSet
     ensures { result ≡ empty_set board.now.size board.now.points }
 {
     set_of(board.size(), &empty_points(board))

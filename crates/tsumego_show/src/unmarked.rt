@@ -1,0 +1,224 @@
+//! Writes why no marks are proposed, and how the wall may be closed.
+ghost use Rattle.std.specs.Prelude.{◌<◌, IfSome};
+ghost use Rattle.tt_sgf.specs.Sizes.{point_count};
+
+use crate::hints::{
+    put_both_point_names, put_point_names, put_point_names_line, put_points_line_if_any,
+};
+use crate::picture::colour_name;
+use crate::writing::written;
+use std::alloc::Global;
+use std::io::Write;
+use tt_board::{Board, Colour};
+use tt_marks::{Closing, closings, is_inner, region, stones_of_colour, wall_in_danger, ways_out};
+use tt_sgf::{NoMemory, Point, Size};
+
+/// So many ways to close a wall are listed; of more their number is said.
+const MOST_LISTED_WAYS: usize = 30;
+
+/// Writes the name of the chain of a stone of this colour behind the text.
+fn put_chain_name(
+    out: &mut Vec<u8>,
+    size: Size,
+    colour: Colour,
+    stone: Point,
+) -> Result<(), NoMemory>
+    requires { stone < point_count size }
+{
+    let name = colour_name(colour);
+    written(write!(out, "the {name} chain of "))?;
+    put_both_point_names(out, size, usize::from(stone.number()))
+}
+
+/// Writes the stones of a way to close a wall behind the text, row by row, each with a blank in front.
+pub fn put_way(out: &mut Vec<u8>, size: Size, way: &Closing) -> Result<(), NoMemory> {
+    put_point_names(out, size, &way.stones)
+}
+
+/// Writes the stones of ways to close a wall behind the text, way by way, and a newline.
+pub fn put_ways(
+    out: &mut Vec<u8>,
+    size: Size,
+    ways: &[Closing],
+    between: &[u8],
+) -> Result<(), NoMemory> {
+    for i in 0..ways.len() {
+        if i == MOST_LISTED_WAYS {
+            let more = ways.len() - MOST_LISTED_WAYS;
+            return written(writeln!(out, ", and {more} more"));
+        }
+        if 0 < i {
+            out.extend_from_slice(between)?;
+        }
+        put_way(out, size, &ways[i])?;
+    }
+    Ok(out.push(b'\n')?)
+}
+
+/// Writes that stones of this colour close the wall in these ways, the best first, behind the text.
+fn put_how_to_close(
+    out: &mut Vec<u8>,
+    size: Size,
+    colour: Colour,
+    ways: &[Closing],
+    stones: u16,
+) -> Result<(), NoMemory> {
+    let name = colour_name(colour);
+    match stones {
+        1 => {
+            written(write!(out, "a {name} stone on one of these encloses it:"))?;
+            put_ways(out, size, ways, b"")
+        }
+        2 => {
+            written(write!(out, "two {name} stones enclose it in one of these ways:"))?;
+            put_ways(out, size, ways, b",")
+        }
+        _ => {
+            written(write!(out, "three {name} stones enclose it in one of these ways:"))?;
+            put_ways(out, size, ways, b",")
+        }
+    }
+}
+
+/// Writes how the wall around the group of a stone of this colour may be closed behind the text: by which stones of the other colour or,
+/// where none were found, where the group leads on.
+fn put_how_to_go_on(
+    alloc: Global,
+    out: &mut Vec<u8>,
+    board: &Board,
+    colour: Colour,
+    stone: Point,
+) -> Result<(), NoMemory>
+    requires { stone < point_count board.now.size }
+{
+    let ways = closings(alloc, board, colour, stone)?;
+    if let Some(best) = ways.first() {
+        let count = best.stones.count();
+        return put_how_to_close(out, board.size(), colour.other(), ways.as_slice(), count);
+    }
+    let leading = ways_out(board, colour, stone);
+    if leading.count() == 0 {
+        return Ok(out.extend_from_slice(b"mark it by hand\n")?);
+    }
+    out.extend_from_slice(b"follow these to gaps, if there are any, or mark by hand:")?;
+    put_point_names_line(out, board.size(), &leading)
+}
+
+/// Writes the stones around a group that plays within can take, so that they are no wall, behind the text.
+pub fn put_wall_in_danger_line(
+    out: &mut Vec<u8>,
+    board: &Board,
+    point: &Option<Point>,
+) -> Result<(), NoMemory>
+    requires { IfSome point.now (λ q. q < point_count board.now.size) }
+{
+    let Some(stone) = *point else {
+        return Ok(());
+    };
+    let Some(colour) = board.at(stone) else {
+        return Ok(());
+    };
+    put_points_line_if_any(
+        out,
+        board.size(),
+        b"hint: plays inside the wall can take these of its stones, so it isn't closed:",
+        &wall_in_danger(board, colour, stone),
+    )
+}
+
+/// Writes how many points the region of the chain of a stone of this colour has, or how its wall may be closed, behind the text.
+fn put_why_unmarked_chain(
+    alloc: Global,
+    out: &mut Vec<u8>,
+    board: &Board,
+    colour: Colour,
+    stone: Point,
+) -> Result<(), NoMemory>
+    requires { stone < point_count board.now.size }
+{
+    let found = region(board, colour, stone);
+    put_chain_name(out, board.size(), colour, stone)?;
+    if 0 < found.wall.count() && is_inner(board, &found.points) {
+        let count = found.points.count();
+        return written(writeln!(
+            out,
+            " is enclosed with {count}, not with 2 to 40 points: mark it by hand"
+        ));
+    }
+    out.extend_from_slice(b" is not enclosed with 2 to 40 points: ")?;
+    put_how_to_go_on(alloc, out, board, colour, stone)
+}
+
+/// Writes why no mark is proposed for a point, where the board has it, behind the text.
+pub fn put_why_unmarked_at_point(
+    alloc: Global,
+    out: &mut Vec<u8>,
+    board: &Board,
+    point: &Option<Point>,
+) -> Result<(), NoMemory>
+    requires { IfSome point.now (λ q. q < point_count board.now.size) }
+{
+    let size = board.size();
+    let Some(point) = *point else {
+        let columns = size.columns();
+        let rows = size.rows();
+        return written(writeln!(
+            out,
+            "the board has no such point: it is {columns} by {rows}"
+        ));
+    };
+    if let Some(colour) = board.at(point) {
+        return put_why_unmarked_chain(alloc, out, board, colour, point);
+    }
+    out.extend_from_slice(b"no stone stands on ")?;
+    put_both_point_names(out, size, usize::from(point.number()))?;
+    Ok(out.push(b'\n')?)
+}
+
+/// Writes that no group is enclosed, and how the wall around the one that seems to be meant may be closed, behind the text.
+fn put_no_group_enclosed(
+    alloc: Global,
+    out: &mut Vec<u8>,
+    board: &Board,
+    point: &Option<Point>,
+) -> Result<(), NoMemory>
+    requires { IfSome point.now (λ q. q < point_count board.now.size) }
+{
+    out.extend_from_slice(
+        b"no group was found that is enclosed with 2 to 40 points: close the wall, or name a stone of the group",
+    )?;
+    let Some(stone) = *point else {
+        return Ok(out.push(b'\n')?);
+    };
+    let Some(colour) = board.at(stone) else {
+        return Ok(out.push(b'\n')?);
+    };
+    out.extend_from_slice(b"; it may be ")?;
+    put_chain_name(out, board.size(), colour, stone)?;
+    out.extend_from_slice(b": ")?;
+    put_how_to_go_on(alloc, out, board, colour, stone)
+}
+
+/// Writes that no group is enclosed, and how the wall may be closed around the one that seems to be meant; or that there is no wall,
+/// behind the text.
+pub fn put_why_no_group_enclosed(
+    alloc: Global,
+    out: &mut Vec<u8>,
+    board: &Board,
+    point: &Option<Point>,
+) -> Result<(), NoMemory>
+    requires { IfSome point.now (λ q. q < point_count board.now.size) }
+{
+    let has_blacks = 0 < stones_of_colour(board, Colour::Black).count();
+    let has_whites = 0 < stones_of_colour(board, Colour::White).count();
+    match (has_blacks, has_whites) {
+        (true, true) => put_no_group_enclosed(alloc, out, board, point),
+        (true, false) => Ok(out.extend_from_slice(
+            b"no White stone is on the board, so there is no wall\n",
+        )?),
+        (false, true) => Ok(out.extend_from_slice(
+            b"no Black stone is on the board, so there is no wall\n",
+        )?),
+        (false, false) => Ok(out.extend_from_slice(b"no stone is on the board\n")?),
+    }
+}
