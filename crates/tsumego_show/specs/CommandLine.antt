@@ -81,12 +81,16 @@ abbrev pub mark_mode_of_two : List ℕ → List ℕ → Option Mode
 mark_mode_of_two w v =
     if is_close_word w then mark_mode_at true (point_name_of_word v) else (if is_close_word v then mark_mode_at true (point_name_of_word w) else None)
 
+-- behind `--mark`: a word, and those behind it
+abbrev pub mark_mode_behind : List ℕ → List (List ℕ) → Option Mode
+mark_mode_behind w [] = mark_mode_of_one w
+mark_mode_behind w (v ∷ []) = mark_mode_of_two w v
+mark_mode_behind w (v ∷ u ∷ ws) = None
+
 -- behind `--mark`
 abbrev pub mark_mode : List (List ℕ) → Option Mode
 mark_mode [] = Some (marks_for false None)
-mark_mode (w ∷ []) = mark_mode_of_one w
-mark_mode (w ∷ v ∷ []) = mark_mode_of_two w v
-mark_mode (w ∷ v ∷ u ∷ ws) = None
+mark_mode (w ∷ ws) = mark_mode_behind w ws
 
 -- how many turns deep variations go where no word says so
 abbrev pub default_depth : ℕ

@@ -1,7 +1,7 @@
 //! Reads the words behind the program's name.
 ghost use Rattle.std.specs.Prelude.{◌≡◌, MatchOption, None, Some, map, string_bytes};
 ghost use Rattle.tt_sgf.specs.Values.{number_of};
-ghost use Rattle.tsumego_show.specs.CommandLine.{column_of_editor_letter, coordinate_of_sgf_letter, svg_mode, mode_of_words, editor_point_name, is_close_word, mark_mode, mark_mode_at, mark_mode_of_one, mark_mode_of_two, point_name_of_word, sgf_row, sgf_mode, sgf_mode_to_depth, unreadable_point_argument};
+ghost use Rattle.tsumego_show.specs.CommandLine.{column_of_editor_letter, coordinate_of_sgf_letter, svg_mode, mode_of_words, editor_point_name, is_close_word, mark_mode, mark_mode_at, mark_mode_of_one, mark_mode_of_two, mark_mode_behind, point_name_of_word, sgf_row, sgf_mode, sgf_mode_to_depth, unreadable_point_argument};
 
 use crate::mode::{Mode, PointName, WantedMarks};
 use tt_proof::MOST_DEPTH;
@@ -114,19 +114,28 @@ fn mark_mode_of_two(first: &String, second: &String) -> Option<Mode>
     None
 }
 
+/// What is marked by a word behind `--mark` and those behind it.
+fn mark_mode_behind(first: &String, rest: &[String]) -> Option<Mode>
+    ensures { result ≡ mark_mode_behind (string_bytes first.now) (map string_bytes rest.now) }
+{
+    match rest {
+        [] => mark_mode_of_one(first),
+        [second] => mark_mode_of_two(first, second),
+        _ => None,
+    }
+}
+
 /// What is marked by the words behind `--mark`.
 fn mark_mode(words: &[String]) -> Option<Mode>
     ensures { result ≡ mark_mode (map string_bytes words.now) }
 {
-    match words {
-        [] => Some(Mode::Marks(WantedMarks {
+    let Some((first, rest)) = words.split_first() else {
+        return Some(Mode::Marks(WantedMarks {
             name: None,
             closes: false,
-        })),
-        [word] => mark_mode_of_one(word),
-        [first, second] => mark_mode_of_two(first, second),
-        _ => None,
-    }
+        }));
+    };
+    mark_mode_behind(first, rest)
 }
 
 /// How many turns deep variations go where no word says so.
