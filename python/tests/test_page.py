@@ -60,9 +60,9 @@ def saved(files: Path, name: str) -> str:
 def test_a_book_problem_to_its_answer(page: Page, files: Path) -> None:
     book(page)
     page.press("ask")
-    assert page.text("say") == "Black begins and can kill White's group at B17, by A18, B18 or A17."
+    assert page.text("say") == "Black begins and can kill White's group at D18, by A18, B18 or A17."
     assert page.chips("wins") == ["A18", "B18", "A17"] and "B19 → B18" in page.chips("fails")
-    assert "The wall around White's group at B17 is open. Here it is closed at F19 and A15." in page.text("words")
+    assert "The wall around White's group at D18 is open. Here it is closed at F19 and A15." in page.text("words")
     assert not page.part("unknowns").is_displayed() and page.text("error") == ""
     # Why a move fails: it is refuted from the certificate. A right one is resisted.
     page.point("ba")
