@@ -46,9 +46,11 @@ class Served:
         return [json.loads(line) for line in self.post(path, body, accept="application/json")[2].splitlines()]
 
     def logged(self) -> List[str]:
-        """Ends the service; what it has logged."""
+        """Ends the service; what it has logged of requests. The last of these may stand behind the line that says that it ends."""
         self.process.terminate()
-        return self.process.communicate(timeout=240)[1].splitlines()
+        lines = self.process.communicate(timeout=240)[1].splitlines()
+        lines.remove("ending")
+        return lines
 
 
 @contextlib.contextmanager

@@ -85,7 +85,7 @@ def test_limits_of_a_request_stay_below_the_options() -> None:
         assert service.post("/solve", STRAIGHT)[0] == 413
         assert service.post("/solve?seconds=0", OPEN)[0] == 400 and service.post("/solve?memory=-1", OPEN)[0] == 400
         assert service.post("/mark?point=;rm", OPEN)[0] == 400 and service.post("/sgf?depth=0", OPEN)[0] == 400
-        assert [line.split()[2] for line in service.logged()[:-1]][-5:] == ["413", "400", "400", "400", "400"]
+        assert [line.split()[2] for line in service.logged()][-5:] == ["413", "400", "400", "400", "400"]
 
 
 def test_all_that_come_at_once_are_answered(service: Served) -> None:
@@ -129,7 +129,7 @@ def test_a_client_that_leaves_frees_its_place(path: str) -> None:
         begun = time.monotonic()
         assert service.post("/solve", STRAIGHT)[2] == b"1 killed ca\n"
         assert time.monotonic() - begun < 2
-        assert sorted(each.split()[2] for each in service.logged()[:-1]) == ["200", "gone", "gone"]
+        assert sorted(each.split()[2] for each in service.logged()) == ["200", "gone", "gone"]
 
 
 def test_a_connection_is_kept(service: Served) -> None:
