@@ -48,7 +48,7 @@ def test_a_problem_in_words(tmp_path: Path) -> None:
     assert lines[0] == f"{path}: Corner with a stone on the edge"
     assert "  Black begins and can kill White's group at D18, by A18, B18 or A17." in lines
     assert "  These fail: A19, B19, D19, E19 and A16 (White B18); C18 (White A18)." in lines
-    assert "  If White begins, White lives, by B18." in lines
+    assert "  As it is closed here, if White begins, White lives, by B18." in lines
     assert "  If Black begins, all 9 closings agree." in lines
     tree = trees_of(out.read_text())[0]
     assert len(tree.variations) == 9 and len({name for name, _ in tree.nodes[0].properties}) == len(tree.nodes[0].properties)

@@ -85,7 +85,10 @@ def test_a_book_problem_to_its_answer(page: Page, files: Path) -> None:
     page.press("first")
     page.press("save")
     tree = trees_of(saved(files, "problem.sgf"))[0]
-    assert sum(each.nodes[0].has("TE") for each in tree.variations) == 3 and "A18, B18 or A17" in main_line(tree)[0].first("C")
+    assert sum(each.nodes[0].has("TE") for each in tree.variations) == 3
+    assert "A18, B18 or A17" in main_line(tree)[0].first("C") and "Here it is closed at F19 and A15" in main_line(tree)[0].first("C")
+    # What an answer rests on isn't taken back by mistake.
+    assert not page.part("undo").is_enabled()
     page.press("picture")
     assert saved(files, "problem.png").startswith("\ufffdPNG")
 
@@ -101,7 +104,6 @@ def test_closings_are_proposed_and_chosen(page: Page) -> None:
     assert "kill White's group" in page.text("say")
     # The other side first: then White lives.
     page.press("other")
-    page.press("ask")
     assert page.text("say").startswith("White begins and can save the group")
 
 

@@ -135,7 +135,8 @@ def _other_side(answer: Answer) -> List[str]:
     if not other.is_settled:
         return [f"Open: who wins if {NAMES[colour]} begins."]
     does = "lives" if colour == problem.defender else "kills"
-    return [f"If {NAMES[colour]} begins, {NAMES[colour]} {does}{', by ' + problem.point(other.turn) if other.turn else ''}."]
+    begins = "If" if len({each.other.word for each in answer.closings}) < 2 else "As it is closed here, if"
+    return [f"{begins} {NAMES[colour]} begins, {NAMES[colour]} {does}{', by ' + problem.point(other.turn) if other.turn else ''}."]
 
 
 def as_data(file: str, number: int, answer: Answer) -> Dict[str, Any]:

@@ -64,7 +64,7 @@ function show() {
   const isEnd = at === moves.length;
   $("after").hidden = !problem.targets.length;
   $("save").textContent = hasSolution() ? "Save solution" : "Save SGF";
-  const off = { first: !at, back: !at, forward: isEnd, last: isEnd, undo: !at && !earlier.length, pass: tool !== "P", check: !proof, proof: !proof, solution: !problem.targets.length };
+  const off = { first: !at, back: !at, forward: isEnd, last: isEnd, undo: !at && (!earlier.length || hasSolution()), pass: tool !== "P", check: !proof, proof: !proof, solution: !problem.targets.length };
   for (const [id, isOff] of Object.entries(off)) $(id).disabled = isOff;
   showAnswer(now);
   const held = `#${encodeURIComponent(write(problem))}`;
@@ -143,9 +143,10 @@ function edit(stones, mover) {
   say(START);
 }
 
+const blank = (size) => { keep(); begin(empty(size)); [tool, $("whole").checked] = ["B", true]; say(START); show(); };
+
 function put(point) {
-  const now = game();
-  const stones = [...now.stones];
+  const [now, stones] = [game(), [...game().stones]];
   stones[point] = tool === "E" || stones[point] === tool ? "." : tool;
   edit(stones.join(""), now.toMove);
 }
@@ -185,7 +186,7 @@ function take(given) {
 
 function open(given) {
   const found = problemsOf(given);
-  keep();
+  if (text(0) !== write(empty(problem.columns))) keep();
   problems = found;
   begin(found[0]);
   $("which-row").hidden = found.length < 2;
@@ -202,7 +203,7 @@ async function ask(signal) {
   const now = game();
   if (![...now.stones].some((stone) => stone !== ".")) throw new Error("The board is empty: set up the stones first, or open an SGF.");
   const mover = NAMES[now.toMove];
-  const isWhole = walls && walls.choice === 0 && !count;
+  const isWhole = isFirstWay() && !count;
   say(`${mover} to play: looking ..`);
   const live = { turns: [], words: [] };
   const answer = await post(isWhole ? `/ask?point=${walls.point}` : "/ask", isWhole ? walls.open : text(), signal, (each) => {
@@ -346,6 +347,7 @@ function save(content, name, type) {
   say(`Saved as ${name}.`);
 }
 
+const isFirstWay = () => Boolean(walls && walls.choice === 0);
 const hasSolution = () => Boolean(answers[0] && answers[0].turns.length);
 const fileName = (end) => `${(problem.name || "problem").normalize("NFKD").replace(/[^A-Za-z0-9]+/g, "-").replace(/^-|-$/g, "").toLowerCase().slice(0, 40) || "problem"}${end}`;
 
@@ -354,7 +356,7 @@ async function saveSgf(signal) {
   let content = text(moves.length);
   if (hasSolution()) {
     say("Writing the solution ..");
-    const found = await post("/solution", text(0), signal).catch((wrong) => fault(`${wrong.message} The problem is saved without its solution.`));
+    const found = await (isFirstWay() ? post(`/solution?point=${walls.point}`, walls.open, signal) : post("/solution", text(0), signal)).catch((wrong) => fault(`${wrong.message} The problem is saved without its solution.`));
     if (found && found.sgf) content = found.sgf;
   }
   const words = $("error").hidden ? "" : $("error").textContent;
@@ -363,8 +365,7 @@ async function saveSgf(signal) {
 }
 
 async function link() {
-  $("address").value = location.href;
-  $("linked").hidden = false;
+  [$("address").value, $("linked").hidden] = [location.href, false];
   $("address").select();
   await navigator.clipboard.writeText(location.href).then(() => say("The link is copied."), () => say("Copy the link below."));
 }
@@ -409,8 +410,7 @@ function openText(read) {
 }
 
 async function openFile(file) {
-  const given = file ? await readFile(file) : "";
-  if (file) openText(() => given);
+  if (file) { const given = await readFile(file); openText(() => given); }
 }
 
 function wire() {
@@ -418,7 +418,7 @@ function wire() {
   const hints = { G: "Click a stone of the group.", S: "Click the points where plays are allowed.", P: "Click a move: the other side answers." };
   for (const each of "BWEGSP") on(`tool-${each}`, () => { tool = each; say(hints[each] || START); show(); });
   on("ask", () => (running ? running.abort() : act(ask)));
-  on("other", () => { if (!running) { const now = game(); edit(now.stones, other(now.toMove)); show(); } });
+  on("other", () => { if (!running) { const now = game(0); edit(now.stones, other(now.toMove)); if (problem.targets.length) act(ask); else show(); } });
   for (const [id, to] of Object.entries({ first: () => 0, back: () => at - 1, forward: () => at + 1, last: () => moves.length })) on(id, () => go(to()));
   on("undo", takeBack);
   on("pass", () => act((signal) => play(game().board.pass, signal)));
@@ -428,12 +428,12 @@ function wire() {
   on("save", () => act(saveSgf));
   on("picture", () => act(async () => save(await pictureOf($("board")), fileName(".png"))));
   on("link", link);
-  on("new", () => { keep(); begin(empty(problem.columns)); tool = "B"; say(START); show(); });
+  on("new", () => blank(problem.columns));
   on("load", () => openText(() => $("text").value));
   for (const each of document.querySelectorAll("[data-example]")) each.addEventListener("click", () => openText(() => EXAMPLES[Number(each.dataset.example)]));
   $("mover").addEventListener("change", () => { edit(game().stones, $("mover").value); show(); });
   $("size").replaceChildren(...Array.from({ length: 15 }, (_, number) => new Option(`${number + 5}`, `${number + 5}`)));
-  $("size").addEventListener("change", () => { keep(); begin(empty(Number($("size").value))); say(START); show(); });
+  $("size").addEventListener("change", () => blank(Number($("size").value)));
   $("whole").addEventListener("change", show);
   $("which").addEventListener("change", () => { keep(); begin(problems[Number($("which").value)]); say(START); show(); });
   $("closing").addEventListener("change", () => { take({ ...walls, choice: Number($("closing").value) }); show(); });
