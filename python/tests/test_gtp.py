@@ -92,11 +92,11 @@ def test_first_moves_as_books_have_them(tmp_path: Path) -> None:
     drawn = engine.respond("tsumego-turns", []).split("\n")
     assert drawn == ["COLOR green A18 B18 A17", "COLOR red A19 B19 D19 E19 C18 A16", "TRIANGLE D18", "TEXT Black begins, Black kills"]
     said = engine.respond("lz-analyze", ["b", "50"])
-    moves = re.findall(r"info move (\S+) visits 1 winrate (\d+) prior \d+ lcb \d+ order (\d+) pv (\S+)(?: (?!info)(\S+))?", said)
+    moves = re.findall(r"info move (\S+) visits \d+ winrate (\d+) prior \d+ lcb \d+ order (\d+) pv (\S+)(?: (?!info)(\S+))?", said)
     assert [(move, rate) for move, rate, *_ in moves if rate == "10000"] == [("A18", "10000"), ("B18", "10000"), ("A17", "10000")]
     assert {(move, answer) for move, rate, _, _, answer in moves if rate == "0"} >= {("A19", "B18"), ("C18", "A18")}
     assert [int(order) for _, _, order, *_ in moves] == list(range(9))
-    assert re.findall(r"move (\S+) visits 1 utility \S+ winrate (\d)", engine.respond("kata-analyze", ["b", "50", "allow", "b", "A18,C18", "1"])) == [("A18", "1"), ("C18", "0")]
+    assert re.findall(r"move (\S+) visits \d+ utility \S+ winrate (\d)", engine.respond("kata-analyze", ["b", "50", "allow", "b", "A18,C18", "1"])) == [("A18", "1"), ("C18", "0")]
     line = engine.respond("tsumego-line", ["w"]).split()
     assert line[0] == "B18" and len(line) > 1
 
@@ -137,6 +137,8 @@ def test_a_number_of_moves(tmp_path: Path) -> None:
     stones = {number: sum(told in " XO" for told in session(f"loadsgf {path} {number}", "showboard")[1] if told in "XO") - 1 for number in (1, 2, 3, 9)}
     assert stones == {1: 1, 2: 2, 3: 3, 9: 5}
     assert session(f"loadsgf {path} 2")[0] == "= black"
+    assert session(f"loadsgf {path} 0", "showboard") == session(f"loadsgf {path}", "showboard")
+    assert session(f"loadsgf {path} 3", "list_stones black", "list_stones w") == ["= white", "= A9 C7", "= B8"]
 
 
 @pytest.mark.parametrize(

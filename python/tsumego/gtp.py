@@ -142,11 +142,12 @@ class Engine:
         return ""
 
     def do_loadsgf(self, *words: str) -> str:
-        """A file, and perhaps the number of a move: the position in front of it. Without a number it is the one with marks, or the one
-        in front of the solution."""
-        number = int(words[-1]) if len(words) > 1 and words[-1].isdecimal() else 0
+        """A file, and perhaps the number of a move: the position in front of it. Without a number, or with 0, it is the one with marks, or
+        the one in front of the solution."""
+        has_number = len(words) > 1 and words[-1].isdecimal()
+        number = int(words[-1]) if has_number else 0
         try:
-            given = read_file(" ".join(words[: len(words) - bool(number)]))[0]
+            given = read_file(" ".join(words[: len(words) - has_number]))[0]
         except UsageError as fault:
             raise GtpError(f"cannot open or parse the file: {fault}") from fault
         if not given.tree:
@@ -201,6 +202,12 @@ class Engine:
             drawn = " ".join("T" if point in targets and point in board.stones else looks[board.stones.get(point)] for point in points)
             lines.append(f"{board.rows - row:2} {drawn} {board.rows - row}")
         return "\n" + "\n".join(lines + [letters, f"{NAMES[to_move]} to move; X is Black, T the group"])
+
+    def do_list_stones(self, colour: str = "", *_: str) -> str:
+        board, _to_move = self.problem.position()
+        wanted = colour_of(colour)
+        points = [sgf_name(column, row) for row in range(board.rows) for column in range(board.columns)]
+        return " ".join(vertex(point, board.rows) for point in points if board.stones.get(point) == wanted)
 
     # ---- the group and its region
 
@@ -287,13 +294,14 @@ class Engine:
         return " ".join(vertex(turn, problem.rows) for turn in longest(found))
 
     def do_lz__analyze(self, *words: str) -> str:
-        return self.analyzed(words, lambda wins: f"visits 1 winrate {10000 * wins} prior {10000 * wins} lcb {10000 * wins}")
+        return self.analyzed(words, lambda wins: f"visits {999 * wins + 1} winrate {10000 * wins} prior {10000 * wins} lcb {10000 * wins}")
 
     def do_kata__analyze(self, *words: str) -> str:
-        return self.analyzed(words, lambda wins: f"visits 1 utility {2 * wins - 1} winrate {wins} scoreLead 0 prior {wins} lcb {wins}")
+        return self.analyzed(words, lambda wins: f"visits {999 * wins + 1} utility {2 * wins - 1} winrate {wins} scoreLead 0 prior {wins} lcb {wins}")
 
     def analyzed(self, words: Tuple[str, ...], numbers: Callable[[int], str]) -> str:
-        """The first moves of which it is proved that they win or fail, as Leela Zero and KataGo write them. `allow` names some of them."""
+        """The first moves of which it is proved that they win or fail, as Leela Zero and KataGo write them. `allow` names some of them.
+        Those that win have the more visits, since clients weigh the winning rate of the position by these."""
         has_colour = words and words[0].lower() in ("b", "w", "black", "white")
         found = self.answer(colour_of(words[0]) if has_colour else self.problem.to_move)
         problem = found.problem
