@@ -92,17 +92,13 @@ abbrev pub mark_mode : List (List ℕ) → Option Mode
 mark_mode [] = Some (marks_for false None)
 mark_mode (w ∷ ws) = mark_mode_behind w ws
 
--- how many turns deep variations go where no word says so
-abbrev pub default_depth : ℕ
-default_depth = 20
-
 abbrev pub sgf_mode_to_depth : Option ℕ → Option Mode
 sgf_mode_to_depth None = None
-sgf_mode_to_depth (Some n) = if nat_le 1 n && nat_le n MOST_DEPTH then Some (Variations n) else None
+sgf_mode_to_depth (Some n) = if nat_le 1 n && nat_le n MOST_DEPTH then Some (Variations (Some n)) else None
 
 -- behind `--sgf`
 abbrev pub sgf_mode : List (List ℕ) → Option Mode
-sgf_mode [] = Some (Variations default_depth)
+sgf_mode [] = Some (Variations None)
 sgf_mode (w ∷ []) = None
 sgf_mode (w ∷ v ∷ []) = if pointwise ◌==◌ w (codes "--depth") then sgf_mode_to_depth (number_of v) else None
 sgf_mode (w ∷ v ∷ u ∷ ws) = None

@@ -138,9 +138,6 @@ fn mark_mode(words: &[String]) -> Option<Mode>
     mark_mode_behind(first, rest)
 }
 
-/// How many turns deep variations go where no word says so.
-const DEFAULT_DEPTH: usize = 20;
-
 /// Variations to the number of turns that a word says.
 fn sgf_mode_to_depth(word: &[u8]) -> Option<Mode>
     ensures { result ≡ sgf_mode_to_depth (number_of word.now) }
@@ -149,7 +146,7 @@ fn sgf_mode_to_depth(word: &[u8]) -> Option<Mode>
     if depth == 0 || depth > MOST_DEPTH {
         return None;
     }
-    Some(Mode::Variations(usize::from(depth)))
+    Some(Mode::Variations(Some(usize::from(depth))))
 }
 
 /// What is written by the words behind `--sgf`.
@@ -157,7 +154,7 @@ fn sgf_mode(words: &[String]) -> Option<Mode>
     ensures { result ≡ sgf_mode (map string_bytes words.now) }
 {
     match words {
-        [] => Some(Mode::Variations(DEFAULT_DEPTH)),
+        [] => Some(Mode::Variations(None)),
         [name, value] => {
             if name.as_bytes() != b"--depth".as_slice() {
                 return None;

@@ -1,8 +1,8 @@
-//! Reads the strategy that stands behind a problem.
+//! Reads certificates.
 use std::alloc::Global;
-use tt_game::{Line, Side, Turn};
+use tt_game::{Side, Turn};
 use tt_proof::{CertFault, Outline, Tree, read_cert, read_shared_cert};
-use tt_sgf::{NoMemory, Size, has_tree, trim};
+use tt_sgf::{NoMemory, Size};
 
 /// Another handle of the tree with this name.
 fn tree_of_part(names: &Vec<Tree>, name: usize) -> Result<Tree, NoMemory> {
@@ -72,51 +72,19 @@ fn read_shared(alloc: Global, bytes: &[u8], size: Size) -> Result<(Side, Tree), 
     }
 }
 
-/// The side and the tree of the certificate that the bytes are, with or without shared parts.
-pub fn read_plain_or_shared(
+/// The side and the tree of the certificate that the bytes are, with or without shared parts; none where they are no certificate.
+pub fn read_strategy(
     alloc: Global,
     bytes: &[u8],
     size: Size,
-) -> Result<(Side, Tree), CertFault> {
-    match read_cert(alloc, bytes, size) {
+) -> Result<Option<(Side, Tree)>, NoMemory> {
+    let found = match read_cert(alloc, bytes, size) {
         Err(CertFault::Syntax) => read_shared(alloc, bytes, size),
         found => found,
-    }
-}
-
-/// The side and the strategy of the certificate that stands behind a problem; none where a tree may follow, and where what
-/// follows is no certificate, or goes too deep.
-pub fn read_following_strategy(
-    alloc: Global,
-    size: Size,
-    behind: &[u8],
-) -> Result<Option<(Side, Tree)>, NoMemory> {
-    if has_tree(behind) {
-        return Ok(None);
-    }
-    match read_plain_or_shared(alloc, trim(behind), size) {
+    };
+    match found {
         Ok(found) => Ok(Some(found)),
         Err(CertFault::NoMemory) => Err(NoMemory),
         Err(_) => Ok(None),
-    }
-}
-
-/// Whether the side to move plays first in a strategy of this side: it is its own, and begins with a turn, or the other's, which
-/// answers.
-pub fn is_for_mover(line: &Line, side: Side, tree: &Tree) -> bool {
-    (line.to_move() == side) == tree.first().is_some()
-}
-
-/// Who wins, by what the certificate says, where it is for the side to move.
-pub fn claimed_winner(line: &Line, found: &Option<(Side, Tree)>) -> Option<Side> {
-    match found {
-        Some((side, tree)) => {
-            if is_for_mover(line, *side, tree) {
-                Some(*side)
-            } else {
-                None
-            }
-        }
-        None => None,
     }
 }

@@ -1,11 +1,8 @@
-//! How deep the variations of a strategy go.
+//! How deep a strategy is looked at.
 use tt_game::Turn;
 use tt_proof::Tree;
 
-/// The most turns that are written: no certificate of 1 MiB without shared parts has as many.
-const MOST_WRITTEN_TURNS: usize = 350_000;
-
-/// How many turns may be written beside those of a tree that lie at most so deep; none where they are too many.
+/// How many turns may come beside those of a tree that lie at most so deep; none where they are too many.
 #[cycle(spare)]
 fn turns_left_after_tree(tree: &Tree, depth: usize, left: usize) -> Option<usize> {
     if depth == 0 {
@@ -36,12 +33,19 @@ fn turns_left_after_entries(list: &[(Turn, Tree)], depth: usize, left: usize) ->
     Some(more)
 }
 
-/// How deep the variations of a tree go: as deep as is asked, or as deep as they have at most 350,000 turns.
-pub fn shown_depth(tree: &Tree, depth: usize) -> usize {
-    for cut in 0..depth {
-        if turns_left_after_tree(tree, depth - cut, MOST_WRITTEN_TURNS).is_some() {
-            return depth - cut;
+/// How deep a tree is looked at: as deep as is asked, or as deep as it has at most so many turns.
+pub fn shown_depth(tree: &Tree, depth: usize, most: usize) -> usize {
+    let mut known = most;
+    for deep in 0..depth {
+        match turns_left_after_tree(tree, deep + 1, most) {
+            None => return deep,
+            Some(left) => {
+                if left == known {
+                    return depth;
+                }
+                known = left;
+            }
         }
     }
-    0
+    depth
 }

@@ -2,147 +2,110 @@
 ghost use Rattle.std.specs.Prelude.{◌<◌, ◌≤◌, length};
 ghost use Rattle.tt_sgf.specs.Sizes.{point_count};
 
-use crate::endings::put_life;
-use crate::hints::put_editor_point_name;
-use crate::picture::{colour_name, editor_column_letter, point_of_coordinates, side_colour};
+use crate::answers::read_answers;
+use crate::endings::{has_ended, put_ending};
+use crate::main_lines::{main_line, make_turns};
+use crate::picture::{editor_column_letter, point_of_coordinates, side_colour};
 use crate::windows::{Window, window_of};
 use crate::writing::written;
+use std::alloc::Global;
 use std::io::Write;
-use tt_board::Colour;
-use tt_game::{Line, Side};
-use tt_sgf::{NoMemory, Point, Size};
+use tt_board::{Board, Colour};
+use tt_game::{Frame, Line, Turn};
+use tt_proof::Tree;
+use tt_sgf::{NoMemory, Point, PointSet, Size};
 
-/// How far a note stands below the one above.
-const NOTE_HEIGHT: usize = 14;
+/// The most plays that are numbered on one board.
+const MOST_NUMBERS: usize = 9;
+
+/// How far a line of words stands below the one above, and how wide a letter is at the most.
+const LINE_HEIGHT: usize = 14;
+
+const LETTER_WIDTH: usize = 6;
+
+/// Plays that are numbered on a board, the number of the first, and who makes it.
+#[derive(Clone, Copy)]
+struct Numbers<'a> {
+    plays: &'a [Turn],
+    first: usize,
+    mover: Colour,
+}
+
+/// Whether the region is drawn: it isn't the whole board.
+pub fn has_squares(frame: &Frame) -> bool {
+    usize::from(frame.region.count()) != frame.size.point_count()
+}
+
+/// The number of the play on a point, and who makes it.
+fn number_on(numbers: Numbers, point: Point) -> Option<(usize, Colour)> {
+    for i in 0..numbers.plays.len() {
+        if numbers.plays[i] == Turn::Play(point) {
+            let colour = if i % 2 == 0 {
+                numbers.mover
+            } else {
+                numbers.mover.other()
+            };
+            return Some((numbers.first.saturating_add(i), colour));
+        }
+    }
+    None
+}
+
+/// Writes a stone of this colour, where there is one, and a triangle or a square on it behind the text.
+fn put_marked_point(
+    out: &mut Vec<u8>,
+    colour: Option<Colour>,
+    is_target: bool,
+    is_square: bool,
+) -> Result<(), NoMemory> {
+    if let Some(stone) = colour {
+        let fill = fill_colour(stone);
+        written(write!(out, "<circle r='11' stroke='black' fill='{fill}'/>"))?;
+    }
+    let stroke = fill_colour(colour.unwrap_or(Colour::White).other());
+    if is_target {
+        written(write!(
+            out,
+            "<path d='M0 -7l6 11h-12z' stroke-width='1.5' fill='none' stroke='{stroke}'/>"
+        ))?;
+    } else if is_square {
+        let fill = if colour.is_none() { "white" } else { "none" };
+        written(write!(
+            out,
+            "<rect x='-4' y='-4' width='8' height='8' fill='{fill}' stroke='{stroke}'/>"
+        ))?;
+    }
+    Ok(())
+}
+
+/// Writes the stone, the mark and the number on a point behind the text.
+fn put_point(
+    out: &mut Vec<u8>,
+    frame: &Frame,
+    board: &Board,
+    numbers: Numbers,
+    point: Point,
+) -> Result<(), NoMemory>
+    requires { point < point_count board.now.size }
+{
+    let has_square = numbers.plays.is_empty() && has_squares(frame) && frame.region.has(point);
+    put_marked_point(out, board.at(point), frame.targets.has(point), has_square)?;
+    let Some((number, colour)) = number_on(numbers, point) else {
+        return Ok(());
+    };
+    put_marked_point(out, Some(colour), false, false)?;
+    let fill = fill_colour(colour.other());
+    written(write!(
+        out,
+        "<text y='5' font-size='14' fill='{fill}'>{number}</text>"
+    ))
+}
 
 /// The word for a colour.
 fn fill_colour(colour: Colour) -> &'static str {
     match colour {
         Colour::Black => "black",
         Colour::White => "white",
-    }
-}
-
-/// The colour of a mark on this entry.
-fn mark_colour(entry: Option<Colour>) -> &'static str {
-    match entry {
-        None => "black",
-        Some(colour) => fill_colour(colour.other()),
-    }
-}
-
-/// Writes a stone behind the text.
-fn put_stone(out: &mut Vec<u8>, x: usize, y: usize, colour: Colour) -> Result<(), NoMemory> {
-    let fill = fill_colour(colour);
-    written(writeln!(
-        out,
-        "<circle cx='{x}' cy='{y}' r='11' stroke='black' fill='{fill}'/>"
-    ))
-}
-
-/// Writes a triangle on this entry behind the text.
-fn put_triangle(
-    out: &mut Vec<u8>,
-    x: usize,
-    y: usize,
-    entry: Option<Colour>,
-) -> Result<(), NoMemory> {
-    let top = y.saturating_sub(7);
-    let stroke = mark_colour(entry);
-    written(writeln!(
-        out,
-        "<path d='M{x} {top}l6 11h-12z' stroke-width='1.5' fill='none' stroke='{stroke}'/>"
-    ))
-}
-
-/// Writes a square on this entry behind the text.
-fn put_square(
-    out: &mut Vec<u8>,
-    x: usize,
-    y: usize,
-    entry: Option<Colour>,
-) -> Result<(), NoMemory> {
-    let left = x.saturating_sub(4);
-    let top = y.saturating_sub(4);
-    let fill = if entry.is_none() { "white" } else { "none" };
-    let stroke = mark_colour(entry);
-    written(writeln!(
-        out,
-        "<rect x='{left}' y='{top}' width='8' height='8' fill='{fill}' stroke='{stroke}'/>"
-    ))
-}
-
-/// Writes a stone with a number behind the text.
-fn put_numbered_stone(
-    out: &mut Vec<u8>,
-    x: usize,
-    y: usize,
-    colour: Colour,
-    n: usize,
-) -> Result<(), NoMemory> {
-    put_stone(out, x, y, colour)?;
-    let below = y.saturating_add(5);
-    let fill = mark_colour(Some(colour));
-    written(writeln!(
-        out,
-        "<text x='{x}' y='{below}' font-size='14' fill='{fill}'>{n}</text>"
-    ))
-}
-
-/// The number of a point in a line of plays, counted from 1, if it is one of them.
-fn first_play_number_at(plays: &[Point], point: Point) -> Option<usize> {
-    for i in 0..plays.len() {
-        if plays[i].number() == point.number() {
-            return Some(i + 1);
-        }
-    }
-    None
-}
-
-/// Whether the region is drawn: it isn't the whole board.
-pub fn has_squares(line: &Line) -> bool {
-    usize::from(line.frame().region.count()) != line.frame().size.point_count()
-}
-
-/// The number on a point: that of the first play there, where no stone stood in the problem.
-fn number_on_point(line: &Line, plays: &[Point], point: Point) -> Option<usize>
-    requires { point < point_count line.now.frame.size }
-{
-    match line.present().at(point) {
-        Some(_) => None,
-        None => first_play_number_at(plays, point),
-    }
-}
-
-/// The colour of a number: the side to move has the odd ones.
-fn numbered_stone_colour(line: &Line, n: usize) -> Colour {
-    let mover = line.to_move();
-    side_colour(line, if n % 2 == 1 { mover } else { mover.opponent() })
-}
-
-/// Writes the stone, the mark and the number on a point behind the text.
-fn put_point(
-    out: &mut Vec<u8>,
-    line: &Line,
-    plays: &[Point],
-    x: usize,
-    y: usize,
-    point: Point,
-) -> Result<(), NoMemory>
-    requires { point < point_count line.now.frame.size }
-{
-    let entry = line.present().at(point);
-    if let Some(colour) = entry {
-        put_stone(out, x, y, colour)?;
-    }
-    if line.frame().targets.has(point) {
-        put_triangle(out, x, y, entry)?;
-    } else if plays.is_empty() && has_squares(line) && line.frame().region.has(point) {
-        put_square(out, x, y, entry)?;
-    }
-    match number_on_point(line, plays, point) {
-        Some(n) => put_numbered_stone(out, x, y, numbered_stone_colour(line, n), n),
-        None => Ok(()),
     }
 }
 
@@ -196,157 +159,209 @@ fn put_rows(out: &mut Vec<u8>, size: Size, w: Window) -> Result<(), NoMemory>
 }
 
 /// Writes what stands on the points of the window behind the text.
-fn put_points(out: &mut Vec<u8>, line: &Line, plays: &[Point], w: Window) -> Result<(), NoMemory>
-    requires { (w.right ≤ line.now.frame.size.columns) × (w.bottom ≤ line.now.frame.size.rows) }
+fn put_points(
+    out: &mut Vec<u8>,
+    frame: &Frame,
+    board: &Board,
+    numbers: Numbers,
+    w: Window,
+) -> Result<(), NoMemory>
+    requires { (w.right ≤ board.now.size.columns) × (w.bottom ≤ board.now.size.rows) }
 {
-    let size = line.frame().size;
+    let size = board.size();
     for row in w.top..w.bottom {
         for column in w.left..w.right {
             let x = 24 * span(w.left, column) + 36;
             let y = 24 * span(w.top, row) + 36;
-            put_point(
-                out,
-                line,
-                plays,
-                x,
-                y,
-                point_of_coordinates(size, column, row),
-            )?;
+            written(write!(out, "<g transform='translate({x} {y})'>"))?;
+            let point = point_of_coordinates(size, column, row);
+            put_point(out, frame, board, numbers, point)?;
+            out.extend_from_slice(b"</g>\n")?;
         }
     }
     Ok(())
 }
 
-/// Writes what a winner does, where there is one, behind the text.
-fn put_winner(out: &mut Vec<u8>, line: &Line, winner: Side) -> Result<(), NoMemory> {
-    let colour = colour_name(side_colour(line, winner));
-    match (line.to_move(), winner) {
-        (Side::Attacker, Side::Attacker) => Ok(out.extend_from_slice(b" and kill")?),
-        (Side::Defender, Side::Defender) => Ok(out.extend_from_slice(b" and live")?),
-        (Side::Attacker, Side::Defender) => written(write!(out, ": {colour} lives")),
-        (Side::Defender, Side::Attacker) => written(write!(out, ": {colour} kills")),
-    }
-}
-
-/// Writes who moves, who wins, where that is said, and these words behind the text.
-fn put_caption(
-    out: &mut Vec<u8>,
-    line: &Line,
-    winner: Option<Side>,
-    words: &str,
-    x: usize,
-    y: usize,
-) -> Result<(), NoMemory> {
-    let mover = colour_name(side_colour(line, line.to_move()));
-    written(write!(out, "<text x='{x}' y='{y}'>{mover} to play"))?;
-    if let Some(side) = winner {
-        put_winner(out, line, side)?;
-    }
-    written(writeln!(out, "{words}</text>"))
-}
-
-/// Whether a play, by its index, has a note: its point has another number or a stone of the problem.
-fn has_note(line: &Line, plays: &[Point], index: usize) -> bool
-    requires { index < length plays.now }
+/// How high a board is drawn.
+fn board_height(w: Window) -> usize
+    ensures { result ≤ 1600000 }
 {
-    let point = plays[index];
-    line.frame().size.holds(point) && number_on_point(line, plays, point) != Some(index + 1)
+    24 * span(w.top, w.bottom) + 36
 }
 
-/// How many plays have a note.
-fn note_count(line: &Line, plays: &[Point]) -> usize {
-    let mut count: usize = 0;
-    for index in 0..plays.len() {
-        if has_note(line, plays, index) {
-            count = count.saturating_add(1);
-        }
-    }
-    count
-}
-
-/// Writes the note on a play with this number behind the text.
-fn put_note(
+/// Writes a board with numbers, below so many others, behind the text.
+fn put_numbered_board(
     out: &mut Vec<u8>,
-    line: &Line,
-    plays: &[Point],
-    point: Point,
-    n: usize,
-) -> Result<(), NoMemory>
-    requires { point < point_count line.now.frame.size }
-{
-    written(write!(out, "{n} at "))?;
-    match number_on_point(line, plays, point) {
-        Some(first) => written(write!(out, "{first}")),
-        None => put_editor_point_name(out, line.frame().size, usize::from(point.number())),
-    }
-}
-
-/// Writes the notes behind the text, one below the other, below y. The answer is where the last one stands.
-fn put_notes(
-    out: &mut Vec<u8>,
-    line: &Line,
-    plays: &[Point],
-    x: usize,
-    y: usize,
-) -> Result<usize, NoMemory> {
-    let mut y = y;
-    for index in 0..plays.len() {
-        if has_note(line, plays, index) && line.frame().size.holds(plays[index]) {
-            y = y.saturating_add(NOTE_HEIGHT);
-            written(write!(out, "<text x='{x}' y='{y}'>"))?;
-            put_note(out, line, plays, plays[index], index + 1)?;
-            out.extend_from_slice(b"</text>\n")?;
-        }
-    }
-    Ok(y)
-}
-
-/// Writes that the targets are alive behind the text, below y, where a line is at life.
-fn put_life_note(
-    out: &mut Vec<u8>,
-    end: Option<&Line>,
-    x: usize,
-    y: usize,
+    frame: &Frame,
+    board: &Board,
+    numbers: Numbers,
+    above: usize,
 ) -> Result<(), NoMemory> {
-    let Some(line) = end else {
-        return Ok(());
+    let w = window_of(frame, board.size());
+    let y = board_height(w).saturating_mul(above);
+    written(writeln!(out, "<g transform='translate(0 {y})'>"))?;
+    put_columns(out, board.size(), w)?;
+    put_rows(out, board.size(), w)?;
+    put_points(out, frame, board, numbers, w)?;
+    Ok(out.extend_from_slice(b"</g>\n")?)
+}
+
+/// Writes a board without numbers behind the text.
+fn put_bare_board(out: &mut Vec<u8>, frame: &Frame, board: &Board) -> Result<(), NoMemory> {
+    let numbers = Numbers {
+        plays: &[],
+        first: 1,
+        mover: Colour::Black,
     };
-    let below = y.saturating_add(NOTE_HEIGHT);
-    written(write!(out, "<text x='{x}' y='{below}'>"))?;
-    put_life(out, line)?;
+    put_numbered_board(out, frame, board, numbers, 0)
+}
+
+/// How many lines words have, and how many bytes the longest.
+fn extent(words: &[u8]) -> (usize, usize) {
+    let mut lines: usize = 1;
+    let mut length: usize = 0;
+    let mut longest = 0;
+    for byte in words {
+        if *byte == b'\n' {
+            lines = lines.saturating_add(1);
+            length = 0;
+        } else {
+            length = length.saturating_add(1);
+            longest = length.max(longest);
+        }
+    }
+    (lines, longest)
+}
+
+/// Writes the beginning of a line of words behind the text.
+fn put_line_start(out: &mut Vec<u8>, y: usize) -> Result<(), NoMemory> {
+    written(write!(out, "<text x='12' y='{y}' text-anchor='start'>"))
+}
+
+/// Writes lines of words behind the text, the first one at y.
+fn put_words(out: &mut Vec<u8>, words: &[u8], y: usize) -> Result<(), NoMemory> {
+    let mut below = y;
+    put_line_start(out, below)?;
+    for byte in words {
+        match *byte {
+            b'\n' => {
+                out.extend_from_slice(b"</text>\n")?;
+                below = below.saturating_add(LINE_HEIGHT);
+                put_line_start(out, below)?;
+            }
+            b'<' => out.extend_from_slice(b"&lt;")?,
+            b'&' => out.extend_from_slice(b"&amp;")?,
+            other => out.push(other)?,
+        }
+    }
     Ok(out.extend_from_slice(b"</text>\n")?)
 }
 
-/// Writes the diagram of the problem at a line as SVG behind the text: what matters of the board, with the coordinates of editors,
-/// the targets marked, and the region or these plays, as stones with the numbers 1, 2, 3 and so on; below, who moves, and
-/// who wins, where that is said, with these words, which plays are on the point of an earlier play or of a stone, and that the
-/// targets are alive, where the plays lead to a line at life.
-/// `NoMemory` where memory was refused; a part may stand there then.
-pub fn put_svg(
+/// Writes an SVG document of so many boards of a frame, which are written already, with words below, behind the text.
+fn put_document(
     out: &mut Vec<u8>,
-    line: &Line,
-    plays: &[Point],
-    winner: Option<Side>,
-    words: &str,
-    end: Option<&Line>,
+    frame: &Frame,
+    boards: &[u8],
+    count: usize,
+    words: &[u8],
 ) -> Result<(), NoMemory> {
-    let w = window_of(line);
-    let x = (12 * span(w.left, w.right) + 18).max(80);
-    let y = 24 * span(w.top, w.bottom) + 48;
-    let width = 2 * x;
-    let height = note_count(line, plays)
-        .saturating_add(if end.is_some() { 1 } else { 0 })
-        .saturating_mul(NOTE_HEIGHT)
-        .saturating_add(y + 12);
+    let w = window_of(frame, frame.size);
+    let (lines, longest) = extent(words);
+    let width = longest
+        .saturating_mul(LETTER_WIDTH)
+        .saturating_add(24)
+        .max(24 * span(w.left, w.right) + 36);
+    let y = board_height(w).saturating_mul(count).saturating_add(12);
+    let height = lines.saturating_mul(LINE_HEIGHT).saturating_add(y);
     written(writeln!(
         out,
         "<svg xmlns='http://www.w3.org/2000/svg' width='{width}' height='{height}' font-family='sans-serif' font-size='11' text-anchor='middle'>\n<rect width='{width}' height='{height}' fill='white'/>"
     ))?;
-    put_columns(out, line.frame().size, w)?;
-    put_rows(out, line.frame().size, w)?;
-    put_points(out, line, plays, w)?;
-    put_caption(out, line, winner, words, x, y)?;
-    let below = put_notes(out, line, plays, x, y)?;
-    put_life_note(out, end, x, below)?;
+    out.extend_from_slice(boards)?;
+    put_words(out, words, y)?;
     Ok(out.extend_from_slice(b"</svg>\n")?)
+}
+
+/// How many of these turns are numbered on a board: plays, at most nine, each on a point that is empty and has no number.
+fn numbered_count(board: &Board, turns: &[Turn]) -> usize
+    ensures { result ≤ length turns.now }
+{
+    let mut used = PointSet::empty();
+    for i in 0..turns.len() {
+        let Turn::Play(point) = turns[i] else {
+            return i;
+        };
+        let is_free = board.size().holds(point) && board.at(point).is_none();
+        if i == MOST_NUMBERS || !is_free || used.has(point) {
+            return i;
+        }
+        used = used.with(point);
+    }
+    turns.len()
+}
+
+/// Writes the boards on which the main line of a strategy is numbered up to a pass behind the text, and how it ends behind the words. The
+/// answer is how many boards.
+fn put_main_line(
+    alloc: Global,
+    out: &mut Vec<u8>,
+    words: &mut Vec<u8>,
+    line: &Line,
+    tree: &Tree,
+) -> Result<usize, NoMemory> {
+    let turns = main_line(alloc, line, tree)?;
+    let mut at = line.try_clone()?;
+    let mut first: usize = 1;
+    let mut rest = turns.as_slice();
+    let mut count: usize = 0;
+    for above in 0..turns.len().max(1) {
+        let (plays, behind) = rest.split_at(numbered_count(at.present(), rest));
+        if plays.is_empty() && 0 < above {
+            break;
+        }
+        let mover = side_colour(&at, at.to_move());
+        let numbers = Numbers {
+            plays,
+            first,
+            mover,
+        };
+        put_numbered_board(out, at.frame(), at.present(), numbers, above)?;
+        make_turns(&mut at, plays)?;
+        first = first.saturating_add(plays.len());
+        rest = behind;
+        count = above + 1;
+    }
+    if has_ended(&at) {
+        words.push(b'\n')?;
+        put_ending(words, &at)?;
+    }
+    Ok(count)
+}
+
+/// Writes the diagram of the problem at a line, and of the strategy that stands behind it, as SVG behind the text: what matters of the
+/// board, with the coordinates of editors, the targets marked, and the region or the plays of the main line up to a pass, as stones with
+/// numbers; a new board stands below after nine plays, and where the next one is on a point that had a stone or a number; below them who
+/// moves, who wins, where that is said, and how the line ends. `NoMemory` where memory was refused; a part may stand there then.
+pub fn put_svg(
+    alloc: Global,
+    out: &mut Vec<u8>,
+    line: &Line,
+    behind: &[u8],
+) -> Result<(), NoMemory> {
+    let found = read_answers(alloc, line, behind)?;
+    let frame = line.frame();
+    let mut words = Vec::new(alloc);
+    found.put_verdict(&mut words, line)?;
+    if found.is_vain() {
+        words.extend_from_slice(b": no certificate")?;
+    }
+    let mut boards = Vec::new(alloc);
+    let count = match found.strategies.first() {
+        Some((_, tree)) => put_main_line(alloc, &mut boards, &mut words, line, tree)?,
+        None => {
+            put_bare_board(&mut boards, frame, line.present())?;
+            1
+        }
+    };
+    put_document(out, frame, boards.as_slice(), count, words.as_slice())
 }

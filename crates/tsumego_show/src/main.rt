@@ -7,15 +7,16 @@
 //! | `showing` | the text for an input |
 //! | `picture`, `hints` | the board as text, the hints |
 //! | `refusals` | why a tree is refused, where to look |
-//! | `certificates` | reads the strategy that follows a problem |
-//! | `strategy_listing`, `endings` | the strategy as text, the board after its first turn, how it ends at life |
-//! | `variations`, `depths` | the strategy as an SGF tree, the depth at which it is cut |
-//! | `diagram`, `windows`, `numbered_plays` | the diagram (SVG), the points it shows, numbered plays |
+//! | `certificates`, `answers` | what stands behind a problem, and its words |
+//! | `main_lines`, `endings` | the main line of a strategy, and how it ends |
+//! | `variations`, `depths` | the answer and its strategies as an SGF tree, the depth at which they are cut |
+//! | `diagram`, `windows` | the diagram (SVG), and the points it shows |
 //! | `marking`, `unmarked` | `--mark`: the tree with marks, and with stones that close the wall; why a tree has none, and how its wall may be closed |
 //! | `tree_bytes`, `points`, `writing` | the bytes of a tree, points by number, writing to memory |
 //! | `laws` | an input has one status, unless marks are wanted |
 #![tactic(auto)]
 
+mod answers;
 mod arguments;
 mod certificates;
 mod depths;
@@ -23,15 +24,14 @@ mod diagram;
 mod endings;
 mod hints;
 mod laws;
+mod main_lines;
 mod marking;
 mod mode;
-mod numbered_plays;
 mod picture;
 mod points;
 mod refusals;
 mod running;
 mod showing;
-mod strategy_listing;
 mod tree_bytes;
 mod unmarked;
 mod variations;

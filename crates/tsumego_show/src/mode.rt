@@ -1,11 +1,12 @@
 //! What is written on each problem.
 
-/// What is written: pictures of characters, diagrams as SVG, or game trees of SGF: with variations to so many turns, or with marks.
+/// What is written: pictures of characters, diagrams as SVG, or game trees of SGF: with variations to so many turns, or
+/// to as many as there is room for, or with marks.
 #[derive(Clone, Copy)]
 pub enum Mode {
     Picture,
     Diagram,
-    Variations(usize),
+    Variations(Option<usize>),
     Marks(WantedMarks),
 }
 

@@ -4,21 +4,19 @@ ghost use Rattle.tt_game.specs.Line.{LineWithUndo};
 ghost use Rattle.tt_game.specs.Problems.{problem_of};
 ghost use Rattle.tsumego_show.specs.Shown.{HasStatus, IsOnlyTree, IsTreeRefused};
 
-use crate::certificates::{claimed_winner, read_following_strategy};
+use crate::answers::put_answer_lines;
 use crate::diagram::put_svg;
 use crate::hints::{put_hints, put_missing_mover_line, put_unclosed_comment_lines};
 use crate::marking::{put_kept_problem, put_tree_marked_or_kept, unsquared_triangle_node};
 use crate::mode::Mode;
-use crate::numbered_plays::{life_behind_plays, numbered_plays};
 use crate::picture::{put_picture, put_unmarked_board};
 use crate::refusals::{is_no_target_fault, put_no_tree, put_refusal_and_why, put_too_long};
-use crate::strategy_listing::put_certificate_listing;
 use crate::variations::put_sgf;
 use crate::writing::written;
 use std::alloc::Global;
 use std::io::Write;
 use tt_game::{GameFault, Line, game_before_solution, problem};
-use tt_sgf::{MainLine, NoMemory, Node, SgfFault, has_tree, read_tree, trim};
+use tt_sgf::{MainLine, NoMemory, Node, SgfFault, has_tree, read_tree};
 
 /// Writes the picture of the problem of these nodes, and the strategy behind it, behind the text.
 fn put_problem_and_strategy(
@@ -34,10 +32,7 @@ fn put_problem_and_strategy(
     put_missing_mover_line(out, nodes)?;
     put_unclosed_comment_lines(out, nodes)?;
     put_hints(out, line)?;
-    if has_tree(behind) {
-        return Ok(());
-    }
-    put_certificate_listing(alloc, out, line, trim(behind))
+    put_answer_lines(alloc, out, line, behind)
 }
 
 /// Whether this is the only problem of an input.
@@ -47,8 +42,7 @@ fn is_only_tree(number: usize, behind: &[u8]) -> bool
     number == 1 && !has_tree(behind)
 }
 
-/// Writes the diagram of a problem, with the solution of the strategy behind it and who wins by it, or that no certificate stands
-/// there, behind the text; or that it isn't drawn.
+/// Writes the diagram of a problem, with the strategy behind it, behind the text; or that it isn't drawn.
 fn put_diagram(
     alloc: Global,
     out: &mut Vec<u8>,
@@ -62,37 +56,7 @@ fn put_diagram(
             "{number} not drawn: give each problem a file of its own"
         ));
     }
-    let found = read_following_strategy(alloc, line.frame().size, behind)?;
-    let plays = numbered_plays(alloc, line, &found)?;
-    let words = if found.is_none() && !trim(behind).is_empty() {
-        ": no certificate"
-    } else {
-        ""
-    };
-    let end = match &found {
-        Some((_, tree)) => life_behind_plays(line, tree, plays.as_slice())?,
-        None => None,
-    };
-    let winner = claimed_winner(line, &found);
-    put_svg(out, line, plays.as_slice(), winner, words, end.as_ref())
-}
-
-/// Writes the problem of these nodes, with the strategy behind it as variations to so many turns, as a game tree behind the text.
-fn put_sgf_with_strategy(
-    alloc: Global,
-    out: &mut Vec<u8>,
-    nodes: &[Node],
-    line: &mut Line,
-    behind: &[u8],
-    depth: usize,
-) -> Result<(), NoMemory> {
-    let found = read_following_strategy(alloc, line.frame().size, behind)?;
-    let without = if !has_tree(behind) && !trim(behind).is_empty() {
-        "what follows is no certificate"
-    } else {
-        "no certificate follows"
-    };
-    put_sgf(alloc, out, nodes, line, without, &found, depth)
+    put_svg(alloc, out, line, behind)
 }
 
 /// Writes the text on the problem of these nodes, which these bytes follow, behind the text.
@@ -103,13 +67,13 @@ fn put_problem_in_mode(
     number: usize,
     tree: &[u8],
     nodes: &[Node],
-    line: &mut Line,
+    line: &Line,
     behind: &[u8],
 ) -> Result<(), NoMemory> {
     match mode {
         Mode::Picture => put_problem_and_strategy(alloc, out, number, nodes, line, behind),
         Mode::Diagram => put_diagram(alloc, out, number, line, behind),
-        Mode::Variations(depth) => put_sgf_with_strategy(alloc, out, nodes, line, behind, depth),
+        Mode::Variations(depth) => put_sgf(alloc, out, nodes, line, behind, depth),
         Mode::Marks(_) => put_kept_problem(out, number, nodes, tree),
     }
 }
@@ -181,11 +145,9 @@ fn game_tree_text(
 {
     let mut out = Vec::new(alloc);
     match problem(alloc, &main) {
-        Ok(mut line) => {
+        Ok(line) => {
             let nodes = main.nodes.as_slice();
-            put_problem_in_mode(
-                alloc, &mut out, mode, number, tree, nodes, &mut line, behind,
-            )?;
+            put_problem_in_mode(alloc, &mut out, mode, number, tree, nodes, &line, behind)?;
             Ok((out, is_problem_refused(mode, number, nodes, behind)))
         }
         Err(GameFault::NoMemory) => Err(NoMemory),

@@ -1,20 +1,34 @@
-//! A problem as a game tree of SGF, and a strategy as its variations.
+//! A problem as a game tree of SGF, with the answer and the strategies behind it as variations.
 ghost use Rattle.std.specs.Prelude.{◌≡◌};
 
+use crate::answers::{Answers, read_answers};
 use crate::depths::shown_depth;
 use crate::diagram::has_squares;
-use crate::endings::{is_end_at_life, put_life};
-use crate::numbered_plays::is_legal;
+use crate::endings::put_ending;
+use crate::main_lines::{is_legal, main_line};
 use crate::picture::{colour_name, put_earlier_position_count, side_colour};
 use crate::points::point_numbered;
 use crate::writing::written;
 use std::alloc::Global;
 use std::io::Write;
 use tt_board::Colour;
-use tt_game::{Line, Side, Turn, first_value};
+use tt_game::{Line, Turn, first_value};
 use tt_marks::stones_of_colour;
-use tt_proof::{Tree, put_turn};
+use tt_proof::{MOST_DEPTH, Tree, put_turn};
 use tt_sgf::{NoMemory, Node, PointSet, Size};
+
+/// How many turns are written where no depth is asked, and where one is: no certificate of 1 MiB without shared parts has as many.
+const MOST_TURNS: usize = 2_000;
+
+const MOST_TURNS_TO_DEPTH: usize = 350_000;
+
+/// Where in a strategy a turn stands: whose strategy it is, whether the turn is a first one, and how many more are written.
+#[derive(Clone, Copy)]
+struct Place {
+    owner: Colour,
+    is_first: bool,
+    left: usize,
+}
 
 /// B or W.
 pub fn colour_letter(colour: Colour) -> char {
@@ -51,7 +65,7 @@ pub fn put_points_property(
 pub fn put_marks(out: &mut Vec<u8>, line: &Line) -> Result<(), NoMemory> {
     let frame = line.frame();
     put_points_property(out, frame.size, "TR", &frame.targets)?;
-    if has_squares(line) {
+    if has_squares(frame) {
         put_points_property(out, frame.size, "SQ", &frame.region)?;
     }
     Ok(())
@@ -67,18 +81,9 @@ fn put_root(out: &mut Vec<u8>, line: &Line) -> Result<(), NoMemory> {
         written(write!(out, ":{rows}"))?;
     }
     out.push(b']')?;
-    put_points_property(
-        out,
-        size,
-        "AB",
-        &stones_of_colour(line.present(), Colour::Black),
-    )?;
-    put_points_property(
-        out,
-        size,
-        "AW",
-        &stones_of_colour(line.present(), Colour::White),
-    )?;
+    for (name, colour) in [("AB", Colour::Black), ("AW", Colour::White)] {
+        put_points_property(out, size, name, &stones_of_colour(line.present(), colour))?;
+    }
     let mover = colour_letter(side_colour(line, line.to_move()));
     written(write!(out, "PL[{mover}]"))?;
     put_marks(out, line)
@@ -98,173 +103,250 @@ fn put_kept_property(out: &mut Vec<u8>, name: &[u8], nodes: &[Node]) -> Result<(
     Ok(())
 }
 
-/// Writes who has won and why, or that the targets are alive, or that nobody has won, behind the text.
-fn put_ending(out: &mut Vec<u8>, line: &Line) -> Result<(), NoMemory> {
-    if is_end_at_life(line) {
-        out.extend_from_slice(b"C[")?;
-        put_life(out, line)?;
-        return Ok(out.extend_from_slice(b".]")?);
+/// Writes whose strategies follow, or why there are none, and how many positions came before the problem, as the root's name behind the
+/// text.
+fn put_name(out: &mut Vec<u8>, line: &Line, found: &Answers) -> Result<(), NoMemory> {
+    out.extend_from_slice(b"N[")?;
+    match found.strategies.first() {
+        Some((side, _)) => {
+            let owner = colour_name(side_colour(line, *side));
+            written(write!(out, "{owner}'s strategy"))?;
+        }
+        None => out.extend_from_slice(if found.is_vain() {
+            b"what follows is no certificate"
+        } else {
+            b"no certificate follows"
+        })?,
     }
-    let Some(side) = line.winner() else {
-        return Ok(out.extend_from_slice(b"C[The strategy ends, and nobody has won.]")?);
-    };
-    let winner = colour_name(side_colour(line, side));
-    let why = match side {
-        Side::Attacker => "a target is taken",
-        Side::Defender => "two passes in a row, and all targets stand",
-    };
-    written(write!(out, "C[{winner} has won: {why}.]"))
+    put_earlier_position_count(out, line)?;
+    Ok(out.push(b']')?)
 }
 
-/// Writes a move that was made, and what follows it, behind the text.
-#[cycle(vary)]
-fn put_variation(
+/// Writes + on the first turns that win and - on those that fail behind the text.
+fn put_labels(out: &mut Vec<u8>, size: Size, found: &Answers) -> Result<(), NoMemory> {
+    let start = out.len();
+    for (turn, wins) in found.first_turns.as_slice() {
+        if *turn != Turn::Pass {
+            out.extend_from_slice(if out.len() == start { b"LB[" } else { b"[" })?;
+            put_move(out, size, *turn)?;
+            out.extend_from_slice(if *wins { b":+]" } else { b":-]" })?;
+        }
+    }
+    Ok(())
+}
+
+/// Writes the root's comment behind the text: that of the first node, and the answer, also that it has ended there.
+fn put_comment(
     out: &mut Vec<u8>,
-    turn: &Turn,
-    letter: char,
-    child: &Tree,
-    line: &mut Line,
-    left: usize,
-) -> Result<(), NoMemory>
-    ensures { line.new ≡ line.old }
-{
+    nodes: &[Node],
+    line: &Line,
+    found: &Answers,
+    is_end: bool,
+) -> Result<(), NoMemory> {
+    if found.strategies.is_empty() && found.first_turns.is_empty() {
+        return put_kept_property(out, b"C", nodes);
+    }
+    out.extend_from_slice(b"C[")?;
+    if let Some(node) = nodes.first() {
+        if let Some(value) = first_value(node.props.as_slice(), b"C") {
+            out.extend_from_slice(value)?;
+            out.extend_from_slice(b"\n\n")?;
+        }
+    }
+    found.put_words(out, line)?;
+    if is_end {
+        out.push(b'\n')?;
+        put_ending(out, line)?;
+        out.push(b'.')?;
+    }
+    Ok(out.push(b']')?)
+}
+
+/// Writes the point of a play behind the text, and nothing for a pass.
+fn put_move(out: &mut Vec<u8>, size: Size, turn: Turn) -> Result<(), NoMemory> {
+    match turn {
+        Turn::Play(point) if size.holds(point) => Ok(put_turn(out, turn, size)?),
+        _ => Ok(()),
+    }
+}
+
+/// Writes the beginning of a variation with a turn, which may be a first one that wins or fails, behind the text.
+fn put_move_node(
+    out: &mut Vec<u8>,
+    line: &Line,
+    turn: Turn,
+    wins: Option<bool>,
+) -> Result<(), NoMemory> {
+    let letter = colour_letter(side_colour(line, line.to_move()));
     written(write!(out, "\n(;{letter}["))?;
-    put_move(out, line.frame().size, *turn)?;
-    out.push(b']')?;
-    put_tree_variations(out, child, line, left)?;
-    Ok(out.push(b')')?)
+    put_move(out, line.frame().size, turn)?;
+    let mark = match wins {
+        None => "",
+        Some(true) => "TE[1]",
+        Some(false) => "BM[1]",
+    };
+    written(write!(out, "]{mark}"))
 }
 
 /// Writes a turn and what follows it behind the text, where it is legal.
 #[cycle(vary)]
-fn put_variation_if_legal(
+fn put_variation(
     out: &mut Vec<u8>,
     turn: &Turn,
-    child: &Tree,
+    behind: &Tree,
     line: &mut Line,
-    left: usize,
+    place: Place,
+    main: &[Turn],
 ) -> Result<(), NoMemory>
     ensures { line.new ≡ line.old }
 {
     if !is_legal(line, turn) {
         return Ok(());
     }
-    let letter = colour_letter(side_colour(line, line.to_move()));
+    let is_own = side_colour(line, line.to_move()) == place.owner;
+    let wins = if place.is_first { Some(is_own) } else { None };
+    put_move_node(out, line, *turn, wins)?;
+    let below = Place {
+        owner: place.owner,
+        is_first: false,
+        left: place.left.saturating_sub(1),
+    };
     line.push_legal(*turn)?;
-    let put = put_variation(out, turn, letter, child, line, left);
+    let put = put_tree_variations(out, behind, line, below, main);
     line.pop();
-    put
+    put?;
+    Ok(out.push(b')')?)
 }
 
-/// Writes the point of a play behind the text, and nothing for a pass.
-fn put_move(out: &mut Vec<u8>, size: Size, turn: Turn) -> Result<(), NoMemory> {
-    match turn {
-        Turn::Play(point) => {
-            if size.holds(point) {
-                put_turn(out, turn, size)?;
-            }
-            Ok(())
-        }
-        Turn::Pass => Ok(()),
-    }
-}
-
-/// Writes each turn of the other side and what follows it behind the text.
+/// Writes the turns of the other side and what follows them behind the text: that of the main line, or the others.
 #[cycle(vary)]
 fn put_replies(
     out: &mut Vec<u8>,
     list: &[(Turn, Tree)],
     line: &mut Line,
-    left: usize,
+    place: Place,
+    main: &[Turn],
+    is_main: bool,
 ) -> Result<(), NoMemory>
     ensures { line.new ≡ line.old }
 {
-    for (turn, child) in list {
-        put_variation_if_legal(out, turn, child, line, left)?;
+    for (turn, behind) in list {
+        if (main.first() == Some(turn)) == is_main {
+            let rest = if is_main { rest_of(main) } else { &[] };
+            put_variation(out, turn, behind, line, place, rest)?;
+        }
     }
     Ok(())
 }
 
-/// Writes what follows a position behind the text, to so many turns, and where no turn does so how the strategy ends.
+/// All but the first of these turns.
+fn rest_of(main: &[Turn]) -> &[Turn] {
+    match main.split_first() {
+        Some((_, rest)) => rest,
+        None => main,
+    }
+}
+
+/// Writes what follows a position behind the text: the main line, and the rest where more turns are written; where no turn follows, how the
+/// strategy ends.
 #[cycle(vary)]
 fn put_tree_variations(
     out: &mut Vec<u8>,
     tree: &Tree,
     line: &mut Line,
-    left: usize,
+    place: Place,
+    main: &[Turn],
 ) -> Result<(), NoMemory>
     ensures { line.new ≡ line.old }
 {
     let count = out.len();
     match tree {
         Tree::Done => {}
-        Tree::Pick(turn, child) => {
-            if left == 0 {
-                return put_cut_comment(out);
-            }
-            put_variation_if_legal(out, turn, child, line, left - 1)?;
+        _ if place.left == 0 && main.is_empty() => {
+            let owner = colour_name(place.owner);
+            return written(write!(out, "C[{owner} wins.]"));
+        }
+        Tree::Pick(turn, behind) => {
+            put_variation(out, turn, behind, line, place, rest_of(main))?;
         }
         Tree::Reply(list) => {
-            if left == 0 {
-                return put_cut_comment(out);
+            put_replies(out, list, line, place, main, true)?;
+            if 0 < place.left {
+                put_replies(out, list, line, place, main, false)?;
             }
-            put_replies(out, list, line, left - 1)?;
         }
     }
-    if out.len() == count {
-        return put_ending(out, line);
+    if out.len() == count && !place.is_first {
+        out.extend_from_slice(b"C[")?;
+        put_ending(out, line)?;
+        out.extend_from_slice(b".]")?;
     }
     Ok(())
 }
 
-/// Writes that the strategy goes on behind the text.
-fn put_cut_comment(out: &mut Vec<u8>) -> Result<(), NoMemory> {
-    Ok(out.extend_from_slice(b"C[The strategy goes on: it is cut here.]")?)
-}
-
-/// Writes whose strategy it is, or these words where there is none, and how many positions came before the problem, as the root's
-/// name behind the text.
-fn put_name(
+/// Writes the strategies as variations behind the text: of each the main line, and the rest as deep as there are not too many turns.
+fn put_strategies(
+    alloc: Global,
     out: &mut Vec<u8>,
     line: &Line,
-    without: &str,
-    found: &Option<(Side, Tree)>,
+    found: &Answers,
+    asked: Option<usize>,
 ) -> Result<(), NoMemory> {
-    match found {
-        None => written(write!(out, "N[{without}"))?,
-        Some((side, _)) => {
-            let owner = colour_name(side_colour(line, *side));
-            written(write!(out, "N[{owner}'s strategy"))?;
-        }
+    let depth = asked.unwrap_or(usize::from(MOST_DEPTH));
+    let most = match asked {
+        Some(_) => MOST_TURNS_TO_DEPTH,
+        None => MOST_TURNS / found.strategies.len().max(1),
+    };
+    for (side, tree) in found.strategies.as_slice() {
+        let mut main = main_line(alloc, line, tree)?;
+        main.truncate(depth);
+        let place = Place {
+            owner: side_colour(line, *side),
+            is_first: true,
+            left: shown_depth(tree, depth, most.saturating_sub(main.len())),
+        };
+        put_tree_variations(out, tree, &mut line.try_clone()?, place, main.as_slice())?;
     }
-    put_earlier_position_count(out, line)?;
-    Ok(out.push(b']')?)
+    Ok(())
 }
 
-/// Writes the problem of these nodes, which the line is at, as a game tree of SGF behind the text, and the strategy that was found
-/// as its variations, to so many turns deep at the most; the root's name (N) has these words where none was. `NoMemory` where
-/// memory was refused; a part may stand there then. The line stands as before.
+/// Writes the first turns that no strategy begins with or answers as variations behind the text.
+fn put_bare_first_turns(out: &mut Vec<u8>, line: &Line, found: &Answers) -> Result<(), NoMemory> {
+    for (turn, wins) in found.first_turns.as_slice() {
+        let mut is_written = !is_legal(line, turn);
+        for (_, tree) in found.strategies.as_slice() {
+            is_written |= tree.first().unwrap_or(*turn) == *turn;
+        }
+        if !is_written {
+            put_move_node(out, line, *turn, Some(*wins))?;
+            out.push(b')')?;
+        }
+    }
+    Ok(())
+}
+
+/// Writes the problem of these nodes, which the line is at, as a game tree of SGF behind the text, with the answer that stands behind it
+/// as words and variations, with at most 2,000 turns, or so many turns deep where that is asked. `NoMemory` where memory was refused; a
+/// part may stand there then.
 pub fn put_sgf(
     alloc: Global,
     out: &mut Vec<u8>,
     nodes: &[Node],
-    line: &mut Line,
-    without: &str,
-    found: &Option<(Side, Tree)>,
-    depth: usize,
+    line: &Line,
+    behind: &[u8],
+    depth: Option<usize>,
 ) -> Result<(), NoMemory> {
+    let found = read_answers(alloc, line, behind)?;
     put_root(out, line)?;
     put_kept_property(out, b"CA", nodes)?;
     put_kept_property(out, b"GN", nodes)?;
-    put_name(out, line, without, found)?;
+    put_name(out, line, &found)?;
+    put_labels(out, line.frame().size, &found)?;
     let mut variations = Vec::new(alloc);
-    if let Some((_, tree)) = found {
-        put_tree_variations(&mut variations, tree, line, shown_depth(tree, depth))?;
-    }
-    // a node has one comment at the most
-    if !variations.as_slice().starts_with(b"C") {
-        put_kept_property(out, b"C", nodes)?;
-    }
+    put_strategies(alloc, &mut variations, line, &found, depth)?;
+    let is_end = variations.is_empty() && !found.strategies.is_empty();
+    put_comment(out, nodes, line, &found, is_end)?;
     out.extend_from_slice(variations.as_slice())?;
+    put_bare_first_turns(out, line, &found)?;
     Ok(out.extend_from_slice(b")\n")?)
 }

@@ -1,0 +1,254 @@
+//! The answer that stands behind a problem, and its words.
+use crate::certificates::read_strategy;
+use crate::endings::{has_ended, put_ending};
+use crate::hints::put_editor_point_name;
+use crate::main_lines::{main_line, make_turns};
+use crate::picture::{colour_name, side_colour};
+use crate::writing::written;
+use std::alloc::Global;
+use std::io::Write;
+use tt_game::{Line, Side, Turn};
+use tt_proof::Tree;
+use tt_sgf::{NoMemory, PointOrPass, Size, has_tree, point, trim};
+
+/// What stands behind a problem: strategies in which the side to move plays first, and the first turns that win or fail by them, or by
+/// the lines of `solve --turns`, each once.
+#[derive(Drop)]
+pub struct Answers {
+    pub strategies: Vec<(Side, Tree)>,
+    pub first_turns: Vec<(Turn, bool)>,
+    is_open: bool,
+    is_text: bool,
+}
+
+/// How a line begins that says who wins after a pass.
+const PASS_WORD: &[u8] = b"pass ";
+
+/// The turn that a point or a pass is.
+fn turn_of(place: PointOrPass) -> Turn {
+    match place {
+        PointOrPass::On(point) => Turn::Play(point),
+        PointOrPass::Pass => Turn::Pass,
+    }
+}
+
+/// The turn at the beginning of a line.
+fn turn_at(line: &[u8], size: Size) -> Option<Turn> {
+    if line.starts_with(PASS_WORD) {
+        return Some(Turn::Pass);
+    }
+    if line.len() < 3 {
+        return None;
+    }
+    let place = point(&line[..2], size)?;
+    Some(turn_of(place))
+}
+
+/// The words behind the turn at the beginning of a line.
+fn words_behind_turn(line: &[u8]) -> &[u8] {
+    let begin = if line.starts_with(PASS_WORD) { 5 } else { 2 };
+    if line.len() < begin {
+        return line;
+    }
+    trim(&line[begin..])
+}
+
+impl Answers {
+    fn add_first_turn(&mut self, turn: Turn, wins: bool) -> Result<(), NoMemory> {
+        for (known, _) in self.first_turns.as_slice() {
+            if *known == turn {
+                return Ok(());
+            }
+        }
+        Ok(self.first_turns.push((turn, wins))?)
+    }
+
+    /// Adds a strategy that begins with a turn of the side to move: its own, or one that it answers.
+    fn add_strategy(&mut self, mover: Side, side: Side, tree: Tree) -> Result<(), NoMemory> {
+        if (mover == side) != tree.first().is_some() {
+            return Ok(());
+        }
+        match &tree {
+            Tree::Done => {}
+            Tree::Pick(turn, _) => self.add_first_turn(*turn, true)?,
+            Tree::Reply(list) => {
+                for (turn, _) in list.as_slice() {
+                    self.add_first_turn(*turn, false)?;
+                }
+            }
+        }
+        Ok(self.strategies.push((side, tree))?)
+    }
+
+    /// Adds what a line says, without blanks in front and behind.
+    fn add_line(&mut self, alloc: Global, problem: &Line, line: &[u8]) -> Result<(), NoMemory> {
+        let size = problem.frame().size;
+        let mover = problem.to_move();
+        if let Some((side, tree)) = read_strategy(alloc, line, size)? {
+            return self.add_strategy(mover, side, tree);
+        }
+        let Some(turn) = turn_at(line, size) else {
+            return Ok(());
+        };
+        let words = words_behind_turn(line);
+        if words == mover.verdict_word() {
+            return self.add_first_turn(turn, true);
+        }
+        if words == mover.opponent().verdict_word() {
+            return self.add_first_turn(turn, false);
+        }
+        self.is_open = true;
+        Ok(())
+    }
+
+    /// Whether text stands there that is no answer.
+    pub fn is_vain(&self) -> bool {
+        self.is_text && self.strategies.is_empty() && self.first_turns.is_empty()
+    }
+
+    /// Who wins, where that is known.
+    fn winner(&self, mover: Side) -> Option<Side> {
+        if let Some((side, _)) = self.strategies.first() {
+            return Some(*side);
+        }
+        for (_, wins) in self.first_turns.as_slice() {
+            if *wins {
+                return Some(mover);
+            }
+        }
+        if self.first_turns.is_empty() || self.is_open {
+            return None;
+        }
+        Some(mover.opponent())
+    }
+
+    /// Writes who moves, and who wins, where that is known, behind the text.
+    pub fn put_verdict(&self, out: &mut Vec<u8>, line: &Line) -> Result<(), NoMemory> {
+        let mover = line.to_move();
+        let name = colour_name(side_colour(line, mover));
+        written(write!(out, "{name} to play"))?;
+        let Some(winner) = self.winner(mover) else {
+            return Ok(());
+        };
+        let colour = colour_name(side_colour(line, winner));
+        match (mover, winner) {
+            (Side::Attacker, Side::Attacker) => Ok(out.extend_from_slice(b" and kill")?),
+            (Side::Defender, Side::Defender) => Ok(out.extend_from_slice(b" and live")?),
+            (_, Side::Defender) => written(write!(out, ": {colour} lives")),
+            (_, Side::Attacker) => written(write!(out, ": {colour} kills")),
+        }
+    }
+
+    /// Writes a line of the first turns that win, or that fail, behind the text, where there are such.
+    fn put_first_turns(
+        &self,
+        out: &mut Vec<u8>,
+        size: Size,
+        winning: bool,
+        words: &[u8],
+    ) -> Result<(), NoMemory> {
+        let start = out.len();
+        for (turn, wins) in self.first_turns.as_slice() {
+            if *wins == winning {
+                if out.len() == start {
+                    out.extend_from_slice(words)?;
+                }
+                put_turn_name(out, size, *turn)?;
+            }
+        }
+        Ok(())
+    }
+
+    /// Writes the answer in words behind the text: who moves, who wins, which first turns win, and which fail.
+    pub fn put_words(&self, out: &mut Vec<u8>, line: &Line) -> Result<(), NoMemory> {
+        self.put_verdict(out, line)?;
+        out.push(b'.')?;
+        let size = line.frame().size;
+        self.put_first_turns(out, size, true, b"\nWins:")?;
+        self.put_first_turns(out, size, false, b"\nFails:")
+    }
+}
+
+/// Writes a blank and the name of a turn, as editors have it, behind the text.
+fn put_turn_name(out: &mut Vec<u8>, size: Size, turn: Turn) -> Result<(), NoMemory> {
+    match turn {
+        Turn::Play(point) => {
+            if size.holds(point) {
+                out.push(b' ')?;
+                put_editor_point_name(out, size, usize::from(point.number()))?;
+            }
+            Ok(())
+        }
+        Turn::Pass => Ok(out.extend_from_slice(b" pass")?),
+    }
+}
+
+/// The answer that stands behind a problem, line by line; none where a tree may follow.
+pub fn read_answers(alloc: Global, problem: &Line, behind: &[u8]) -> Result<Answers, NoMemory> {
+    let mut found = Answers {
+        strategies: Vec::new(alloc),
+        first_turns: Vec::new(alloc),
+        is_open: false,
+        is_text: false,
+    };
+    if has_tree(behind) {
+        return Ok(found);
+    }
+    let mut start = 0;
+    for end in 0..behind.len() {
+        if behind[end] == b'\n' {
+            found.add_line(alloc, problem, trim(&behind[start..end]))?;
+            start = end + 1;
+        }
+    }
+    found.add_line(alloc, problem, trim(&behind[start..]))?;
+    found.is_text = !trim(behind).is_empty();
+    Ok(found)
+}
+
+/// Writes the main line of a strategy, and how it ends, behind the text.
+fn put_main_line(
+    alloc: Global,
+    out: &mut Vec<u8>,
+    line: &Line,
+    tree: &Tree,
+) -> Result<(), NoMemory> {
+    let turns = main_line(alloc, line, tree)?;
+    if !turns.is_empty() {
+        out.extend_from_slice(b"Main line:")?;
+        for turn in turns.as_slice() {
+            put_turn_name(out, line.frame().size, *turn)?;
+        }
+        out.push(b'\n')?;
+    }
+    let mut end = line.try_clone()?;
+    make_turns(&mut end, turns.as_slice())?;
+    if has_ended(&end) {
+        put_ending(out, &end)?;
+        out.extend_from_slice(b".\n")?;
+    }
+    Ok(())
+}
+
+/// Writes the lines on what stands behind a problem behind the text: the answer in words, and the main line of each strategy. `NoMemory`
+/// where memory was refused; a part may stand there then.
+pub fn put_answer_lines(
+    alloc: Global,
+    out: &mut Vec<u8>,
+    line: &Line,
+    behind: &[u8],
+) -> Result<(), NoMemory> {
+    let found = read_answers(alloc, line, behind)?;
+    if found.is_vain() {
+        return Ok(out.extend_from_slice(b"what follows is no certificate\n")?);
+    }
+    if !found.is_text {
+        return Ok(());
+    }
+    found.put_words(out, line)?;
+    out.push(b'\n')?;
+    for (_, tree) in found.strategies.as_slice() {
+        put_main_line(alloc, out, line, tree)?;
+    }
+    Ok(())
+}

@@ -1,0 +1,229 @@
+//! The main line of a strategy: what its other side does that lasts.
+ghost use Rattle.std.specs.Prelude.{◌≡◌, true};
+ghost use Rattle.tt_game.specs.Game.{IsLegal};
+
+use crate::depths::shown_depth;
+use crate::picture::side_colour;
+use std::alloc::Global;
+use tt_board::Board;
+use tt_game::{Line, Turn};
+use tt_proof::{MOST_DEPTH, Tree};
+use tt_sgf::{NoMemory, Point, PointSet};
+
+/// The most turns among which the next ones of a main line are looked for.
+const MOST_SEARCHED_TURNS: usize = 50_000;
+
+/// Whether a turn is legal.
+pub fn is_legal(line: &Line, turn: &Turn) -> bool
+    ensures { result ≡ true → IsLegal line.now.frame line.now.state turn.now }
+{
+    if let Turn::Play(point) = turn {
+        if !line.frame().size.holds(*point) {
+            return false;
+        }
+    }
+    line.refusal(*turn).is_none()
+}
+
+/// Makes these turns, up to one that isn't legal.
+pub fn make_turns(line: &mut Line, turns: &[Turn]) -> Result<(), NoMemory> {
+    for turn in turns {
+        if !is_legal(line, turn) {
+            return Ok(());
+        }
+        line.push_legal(*turn)?;
+    }
+    Ok(())
+}
+
+/// Whether a stone stands on a point.
+fn has_stone(board: &Board, point: Point) -> bool {
+    board.size().holds(point) && board.at(point).is_some()
+}
+
+/// Whether an answer takes the stone on a point.
+fn is_taken(line: &Line, board: &Board, point: Point, answer: Turn) -> bool {
+    let Turn::Play(place) = answer else {
+        return false;
+    };
+    if !board.size().holds(place) {
+        return false;
+    }
+    match board.play(side_colour(line, line.to_move().opponent()), place) {
+        Ok(next) => !has_stone(&next, point),
+        Err(_) => false,
+    }
+}
+
+/// How poor a resistance is by its first turn: 0 where this is a play whose stone stays, 1 where the answer takes it, 2 where it is a pass,
+/// 3 where it is a suicide, 4 where there is none.
+fn weakness(line: &Line, turns: &[Turn]) -> usize {
+    let Some(turn) = turns.first() else {
+        return 4;
+    };
+    if !is_legal(line, turn) {
+        return 4;
+    }
+    let Turn::Play(point) = *turn else {
+        return 2;
+    };
+    let board = line.board_after_turn(*turn);
+    if !has_stone(&board, point) {
+        return 3;
+    }
+    match turns.get(1) {
+        Some(answer) if is_taken(line, &board, point, *answer) => 1,
+        _ => 0,
+    }
+}
+
+/// Whether no stone stood on a point so far.
+fn is_fresh(line: &Line, point: Point) -> bool {
+    for board in line.history() {
+        if has_stone(board, point) {
+            return false;
+        }
+    }
+    true
+}
+
+/// On how many points these turns are played where no stone stood so far.
+fn fresh_point_count(line: &Line, turns: &[Turn]) -> u16 {
+    let mut points = PointSet::empty();
+    for turn in turns {
+        if let Turn::Play(point) = *turn {
+            if is_fresh(line, point) {
+                points = points.with(point);
+            }
+        }
+    }
+    points.count()
+}
+
+/// Whether a resistance is better than another: by its first turn, then by the points that are played on anew, then by how few turns it has.
+fn is_better(line: &Line, one: &[Turn], other: &[Turn]) -> bool {
+    let (weak, weak_other) = (weakness(line, one), weakness(line, other));
+    if weak != weak_other {
+        return weak < weak_other;
+    }
+    let (fresh, fresh_other) = (fresh_point_count(line, one), fresh_point_count(line, other));
+    if fresh != fresh_other {
+        return fresh_other < fresh;
+    }
+    one.len() < other.len()
+}
+
+/// A turn that was made, and the main line behind it.
+#[cycle(resist)]
+fn made_turn_and_rest(
+    alloc: Global,
+    turn: Turn,
+    behind: &Tree,
+    line: &mut Line,
+    left: usize,
+) -> Result<Vec<Turn>, NoMemory>
+    ensures { line.new ≡ line.old }
+{
+    let mut turns = best(alloc, behind, line, left)?;
+    turns.insert(0, turn)?;
+    Ok(turns)
+}
+
+/// A turn and the main line behind it, where it is legal.
+#[cycle(resist)]
+fn turn_and_rest(
+    alloc: Global,
+    turn: &Turn,
+    behind: &Tree,
+    line: &mut Line,
+    left: usize,
+) -> Result<Vec<Turn>, NoMemory>
+    ensures { line.new ≡ line.old }
+{
+    if !is_legal(line, turn) {
+        return Ok(Vec::new(alloc));
+    }
+    line.push_legal(*turn)?;
+    let turns = made_turn_and_rest(alloc, *turn, behind, line, left);
+    line.pop();
+    turns
+}
+
+/// The best resistance among the turns of the other side, the first where they are alike.
+#[cycle(resist)]
+fn best_reply(
+    alloc: Global,
+    list: &[(Turn, Tree)],
+    line: &mut Line,
+    left: usize,
+) -> Result<Vec<Turn>, NoMemory>
+    ensures { line.new ≡ line.old }
+{
+    let mut found = Vec::new(alloc);
+    for (turn, behind) in list {
+        let turns = turn_and_rest(alloc, turn, behind, line, left)?;
+        if is_better(line, turns.as_slice(), found.as_slice()) {
+            found = turns;
+        }
+    }
+    Ok(found)
+}
+
+/// The main line behind a position, to so many turns.
+#[cycle(resist)]
+fn best(alloc: Global, tree: &Tree, line: &mut Line, left: usize) -> Result<Vec<Turn>, NoMemory>
+    ensures { line.new ≡ line.old }
+{
+    if left == 0 {
+        return Ok(Vec::new(alloc));
+    }
+    match tree {
+        Tree::Done => Ok(Vec::new(alloc)),
+        Tree::Pick(turn, behind) => turn_and_rest(alloc, turn, behind, line, left - 1),
+        Tree::Reply(list) => best_reply(alloc, list, line, left - 1),
+    }
+}
+
+/// The tree behind a turn of a list.
+fn tree_in_list(list: &[(Turn, Tree)], turn: Turn) -> Option<&Tree> {
+    for (other, behind) in list {
+        if *other == turn {
+            return Some(behind);
+        }
+    }
+    None
+}
+
+/// The tree behind a turn of a strategy.
+fn tree_behind(tree: &Tree, turn: Turn) -> Option<&Tree> {
+    match tree {
+        Tree::Done => None,
+        Tree::Pick(own, child) => {
+            let behind: &Tree = child;
+            if *own == turn { Some(behind) } else { None }
+        }
+        Tree::Reply(list) => tree_in_list(list, turn),
+    }
+}
+
+/// The main line of a strategy. Where its other side moves, this is a play that isn't taken at once, or else a throw-in, a pass, a suicide;
+/// of several the one behind which most points are played that were empty so far, and the fewest turns. In a large strategy this is looked
+/// for not to the end, and then anew.
+pub fn main_line(alloc: Global, line: &Line, tree: &Tree) -> Result<Vec<Turn>, NoMemory> {
+    let mut at = line.try_clone()?;
+    let mut rest = tree;
+    let mut turns = Vec::new(alloc);
+    for _time in 0..MOST_DEPTH {
+        let depth = shown_depth(rest, usize::from(MOST_DEPTH), MOST_SEARCHED_TURNS);
+        let next = best(alloc, rest, &mut at, depth)?;
+        if next.is_empty() {
+            break;
+        }
+        make_turns(&mut at, next.as_slice())?;
+        for turn in next.as_slice() {
+            turns.push(*turn)?;
+            rest = tree_behind(rest, *turn).unwrap_or(rest);
+        }
+    }
+    Ok(turns)
+}
