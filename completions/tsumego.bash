@@ -10,7 +10,7 @@ _tsumego() {
     mapfile -t COMPREPLY < <(compgen -W "$words" -- "$word")
 }
 complete -o default -F _tsumego tsumego
-complete -o default -W '--mark --close --svg --sgf --depth' tsumego-show
+complete -o default -W '--mark --close --svg --sgf --depth --help --version' tsumego-show
 complete -o default -W '-o --html --json --seconds --help --version' tsumego-ask
 complete -o default -W '--seconds --jobs --machines --certificates --help --version' tsumego-book
 complete -W '--seconds --help --version' tsumego-gtp

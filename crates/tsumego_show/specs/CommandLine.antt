@@ -1,7 +1,10 @@
 -- What the words behind the program's name ask for.
-use Rattle.std.specs.Prelude.{ℕ, ◌-◌, ◌&&◌, ◌==◌, nat_le, Bool, true, false, List, [], ◌∷◌, codes, Option, Some, None, if◌then◌else◌}
+use Rattle.std.specs.Prelude.{ℕ, ◌-◌, ◌&&◌, ◌||◌, ◌==◌, nat_le, pos, Bool, true, false, List, [], ◌∷◌, codes, Option, Some, None, is_some, option_map, if◌then◌else◌}
 use lib.Pointwise.{pointwise}
 use Rattle.std.specs.Char.{to_ascii_uppercase}
+use Rattle.clap.specs.Words.{App, Row, Rule, Text, first_of, new_app, new_rule, with_rule}
+use Rattle.clap.specs.declared.builder.action.ArgAction.TheVariants.{SetTrue}
+use Rattle.clap.specs.declared.builder.value_parser.ValueParser.TheVariants.{Signed}
 use Rattle.tt_sgf.specs.Bytes.{lower_a, upper_A}
 use Rattle.tt_sgf.specs.Values.{number_of}
 use Rattle.tt_proof.specs.declared.tree.TheConstants.{MOST_DEPTH}
@@ -60,69 +63,70 @@ point_name_of_word (b ∷ bs) = sgf_or_editor_point_name b bs (sgf_row bs)
 
 -- ---- words
 
+abbrev pub flag_arg : Text → Rule
+flag_arg name = record (new_rule name) { long = Some name; action = Some SetTrue }
+
+-- `--depth N`
+abbrev pub depth_arg : Rule
+depth_arg = record (new_rule (codes "depth")) {
+  long = Some (codes "depth");
+  value_names = 1;
+  parser = Some (Signed (pos 1) (pos MOST_DEPTH));
+}
+
+-- a word that is no option
+abbrev pub point_arg : Rule
+point_arg = record (new_rule (codes "point")) { value_names = 1 }
+
+abbrev pub with_version_flag : App → App
+with_version_flag a = record a { top = record a.top { has_version = true } }
+
+-- the program's words, as the argument parser reads them
+unfoldable pub show_app : App
+show_app = with_rule (with_rule (with_rule (with_rule (with_rule (with_rule (with_version_flag (new_app (codes "tsumego-show")))
+    (flag_arg (codes "mark")))
+    point_arg)
+    (flag_arg (codes "close")))
+    (flag_arg (codes "svg")))
+    (flag_arg (codes "sgf")))
+    depth_arg
+
+-- ---- what they ask for
+
 -- marks for the stone in a place, or for any; stones that close its wall may be added, or not
 abbrev pub marks_for : Bool → Option PointName → Mode
 marks_for closes name = Marks (record { name = name; closes = closes })
 
-abbrev pub mark_mode_at : Bool → Option PointName → Option Mode
-mark_mode_at closes None = None
-mark_mode_at closes (Some name) = Some (marks_for closes (Some name))
+abbrev pub mark_mode : Bool → Option Text → Option Mode
+mark_mode closes None = Some (marks_for closes None)
+mark_mode closes (Some w) = option_map (λ name. marks_for closes (Some name)) (point_name_of_word w)
 
--- the word lets stones be added
-abbrev pub is_close_word : List ℕ → Bool
-is_close_word w = pointwise ◌==◌ w (codes "--close")
+-- variations to 1 to 512 turns
+abbrev pub variations_to : Option ℕ → Option Mode
+variations_to None = None
+variations_to (Some n) = if nat_le 1 n && nat_le n MOST_DEPTH then Some (Variations (Some n)) else None
 
--- behind `--mark`: a point, or `--close`
-abbrev pub mark_mode_of_one : List ℕ → Option Mode
-mark_mode_of_one w = if is_close_word w then Some (marks_for true None) else mark_mode_at false (point_name_of_word w)
+abbrev pub sgf_mode : Option Text → Option Mode
+sgf_mode None = Some (Variations None)
+sgf_mode (Some w) = variations_to (number_of w)
 
--- behind `--mark`: both, in any order
-abbrev pub mark_mode_of_two : List ℕ → List ℕ → Option Mode
-mark_mode_of_two w v =
-    if is_close_word w then mark_mode_at true (point_name_of_word v) else (if is_close_word v then mark_mode_at true (point_name_of_word w) else None)
+-- one kind of text, with what goes with it: by `--svg`, `--sgf`, `--mark`, `--close`, the depth and the point
+abbrev pub mode_asked : Bool → Bool → Bool → Bool → Option Text → Option Text → Option Mode
+mode_asked svg sgf mark close depth point =
+    if mark then (if svg || (sgf || is_some depth) then None else mark_mode close point)
+    else (if close || is_some point then None
+    else (if sgf then (if svg then None else sgf_mode depth)
+    else (if is_some depth then None else Some (if svg then Diagram else Picture))))
 
--- behind `--mark`: a word, and those behind it
-abbrev pub mark_mode_behind : List ℕ → List (List ℕ) → Option Mode
-mark_mode_behind w [] = mark_mode_of_one w
-mark_mode_behind w (v ∷ []) = mark_mode_of_two w v
-mark_mode_behind w (v ∷ u ∷ ws) = None
+-- a flag's text
+abbrev pub is_true : Option Text → Bool
+is_true None = false
+is_true (Some w) = pointwise ◌==◌ w (codes "true")
 
--- behind `--mark`
-abbrev pub mark_mode : List (List ℕ) → Option Mode
-mark_mode [] = Some (marks_for false None)
-mark_mode (w ∷ ws) = mark_mode_behind w ws
+abbrev pub is_given : Text → List Row → Bool
+is_given name rows = is_true (first_of name rows)
 
-abbrev pub sgf_mode_to_depth : Option ℕ → Option Mode
-sgf_mode_to_depth None = None
-sgf_mode_to_depth (Some n) = if nat_le 1 n && nat_le n MOST_DEPTH then Some (Variations (Some n)) else None
-
--- behind `--sgf`
-abbrev pub sgf_mode : List (List ℕ) → Option Mode
-sgf_mode [] = Some (Variations None)
-sgf_mode (w ∷ []) = None
-sgf_mode (w ∷ v ∷ []) = if pointwise ◌==◌ w (codes "--depth") then sgf_mode_to_depth (number_of v) else None
-sgf_mode (w ∷ v ∷ u ∷ ws) = None
-
--- behind `--svg`
-abbrev pub svg_mode : List (List ℕ) → Option Mode
-svg_mode [] = Some Diagram
-svg_mode (w ∷ ws) = None
-
--- what all words ask for; none where they are no words of the program
-abbrev pub mode_of_words : List (List ℕ) → Option Mode
-mode_of_words [] = Some Picture
-mode_of_words (w ∷ ws) =
-    if pointwise ◌==◌ w (codes "--svg") then svg_mode ws else (if pointwise ◌==◌ w (codes "--mark") then mark_mode ws
-    else (if pointwise ◌==◌ w (codes "--sgf") then sgf_mode ws else None))
-
--- a word, where nothing is read from it
-abbrev pub word_if_unread : {A : Type 0} → List ℕ → Option A → Option (List ℕ)
-word_if_unread w None = Some w
-word_if_unread w (Some x) = None
-
--- the word behind `--mark`, where it is no point; `--close` is none
-abbrev pub unreadable_point_argument : List (List ℕ) → Option (List ℕ)
-unreadable_point_argument [] = None
-unreadable_point_argument (w ∷ []) = None
-unreadable_point_argument (w ∷ v ∷ ws) =
-    if pointwise ◌==◌ w (codes "--mark") then (if is_close_word v then None else word_if_unread v (point_name_of_word v)) else None
+-- what the matches of the words ask for
+abbrev pub mode_in : List Row → Option Mode
+mode_in rows = mode_asked (is_given (codes "svg") rows) (is_given (codes "sgf") rows) (is_given (codes "mark") rows) (is_given (codes "close") rows)
+    (first_of (codes "depth") rows) (first_of (codes "point") rows)

@@ -1,15 +1,55 @@
 //! Reads the words behind the program's name.
-ghost use Rattle.std.specs.Prelude.{◌≡◌, MatchOption, None, Some, map, string_bytes};
+ghost use Rattle.std.specs.Prelude.{◌≡◌, ◌⊎◌, [], IfErr, IfOk, None, OnOk, Some, codes, false, true, map, option_map, string_bytes};
+ghost use Rattle.clap.specs.Words.{app_of, fault_of, first_of, found_of, kind_of, matches_of, new_app, rows_of, rule_of, takes, IsAmong};
+ghost use Rattle.clap.specs.declared.builder.command.Command.TheViews.{out-Command};
 ghost use Rattle.tt_sgf.specs.Values.{number_of};
-ghost use Rattle.tsumego_show.specs.CommandLine.{column_of_editor_letter, coordinate_of_sgf_letter, svg_mode, mode_of_words, editor_point_name, is_close_word, mark_mode, mark_mode_at, mark_mode_of_one, mark_mode_of_two, mark_mode_behind, point_name_of_word, sgf_row, sgf_mode, sgf_mode_to_depth, unreadable_point_argument};
+ghost use Rattle.tsumego_show.specs.CommandLine.{column_of_editor_letter, coordinate_of_sgf_letter, depth_arg, editor_point_name, flag_arg, is_given, mark_mode, mode_asked, mode_in, point_arg, point_name_of_word, sgf_mode, sgf_row, show_app, variations_to};
 
 use crate::mode::{Mode, PointName, WantedMarks};
+use clap::error::ErrorKind;
+use clap::{Arg, ArgAction, ArgMatches, Command as Parser, Error, value_parser};
+use std::alloc::{AllocError, Global};
 use tt_proof::MOST_DEPTH;
 use tt_sgf::number;
 
-/// What a line of words has to be.
-pub const USAGE: &str =
-    "write tsumego-show < FILE, tsumego-show --svg < FILE, tsumego-show --sgf [--depth N] < FILE, with N from 1 to 512, or tsumego-show --mark [POINT] [--close] < FILE, with a stone as POINT: C18 or cb";
+/// What is said in place of a text for an input: help and version with status 0, and why words were refused with 2. Then the text is empty
+/// where memory was refused.
+#[derive(Drop)]
+pub struct Told {
+    pub text: String,
+    pub status: u8,
+}
+
+/// The version, which CHANGELOG, README and the manual page name too.
+const VERSION: &str = "0.1.0";
+
+const MARK_HELP: &str =
+    "Write each tree with marks for the group of the stone on POINT, or for one that is enclosed";
+
+const CLOSE_HELP: &str = "With --mark: add the stones that close an open wall";
+
+const SVG_HELP: &str = "Write the diagram of a problem that is alone";
+
+const SGF_HELP: &str = "Write game trees with the strategies as variations";
+
+const DEPTH_HELP: &str = "With --sgf: how many turns deep the variations go, 1 to 512";
+
+const POINT_HELP: &str = "With --mark: a stone of the group, as C18 or cb";
+
+/// What stands at the end of the help.
+const AFTER_HELP: &str = "Reads problems from standard input, and perhaps certificates behind them:
+  tsumego-show < problem.sgf
+  tsumego-show --mark C18 --close < unmarked.sgf > problem.sgf
+Without an option it writes each board, hints and the answer.
+Status: 0 all written, 1 something refused, 2 these words or the run failed";
+
+/// What is said of options that aren't taken together, and of a word that names no stone.
+const APART: &str = "tsumego-show: take --svg alone, --sgf [--depth N], or --mark [POINT] [--close]
+";
+
+const NO_POINT: &str =
+    "tsumego-show: a word that is no option names a point: C18 (columns without I, rows 1 to 19) or cb
+";
 
 /// The column that a capital letter names in editors, who leave out I.
 fn column_of_editor_letter(letter: u8) -> Option<usize>
@@ -70,77 +110,20 @@ fn point_name_of_word(word: &[u8]) -> Option<PointName>
     }
 }
 
-/// Whether a word lets stones be added.
-fn is_close_word(word: &String) -> bool
-    ensures { result ≡ is_close_word (string_bytes word.now) }
+/// Marks for the stone in the place that a word names, or for any.
+fn mark_mode(closes: bool, word: Option<&str>) -> Option<Mode>
+    ensures { result ≡ mark_mode closes (option_map (λ s. s.now) word.entry) }
 {
-    word.as_bytes() == b"--close".as_slice()
-}
-
-/// Marks for the stone in the place that a word names.
-fn mark_mode_at(word: &String, closes: bool) -> Option<Mode>
-    ensures { result ≡ mark_mode_at closes (point_name_of_word (string_bytes word.now)) }
-{
-    let name = point_name_of_word(word.as_bytes())?;
-    Some(Mode::Marks(WantedMarks {
-        name: Some(name),
-        closes,
-    }))
-}
-
-/// What is marked by one word behind `--mark`.
-fn mark_mode_of_one(word: &String) -> Option<Mode>
-    ensures { result ≡ mark_mode_of_one (string_bytes word.now) }
-{
-    if is_close_word(word) {
-        return Some(Mode::Marks(WantedMarks {
-            name: None,
-            closes: true,
-        }));
-    }
-    mark_mode_at(word, false)
-}
-
-/// What is marked by two words behind `--mark`.
-fn mark_mode_of_two(first: &String, second: &String) -> Option<Mode>
-    ensures { result ≡ mark_mode_of_two (string_bytes first.now) (string_bytes second.now) }
-{
-    if is_close_word(first) {
-        return mark_mode_at(second, true);
-    }
-    if is_close_word(second) {
-        return mark_mode_at(first, true);
-    }
-    None
-}
-
-/// What is marked by a word behind `--mark` and those behind it.
-fn mark_mode_behind(first: &String, rest: &[String]) -> Option<Mode>
-    ensures { result ≡ mark_mode_behind (string_bytes first.now) (map string_bytes rest.now) }
-{
-    match rest {
-        [] => mark_mode_of_one(first),
-        [second] => mark_mode_of_two(first, second),
-        _ => None,
-    }
-}
-
-/// What is marked by the words behind `--mark`.
-fn mark_mode(words: &[String]) -> Option<Mode>
-    ensures { result ≡ mark_mode (map string_bytes words.now) }
-{
-    let Some((first, rest)) = words.split_first() else {
-        return Some(Mode::Marks(WantedMarks {
-            name: None,
-            closes: false,
-        }));
+    let name = match word {
+        Some(word) => Some(point_name_of_word(word.as_bytes())?),
+        None => None,
     };
-    mark_mode_behind(first, rest)
+    Some(Mode::Marks(WantedMarks { name, closes }))
 }
 
 /// Variations to the number of turns that a word says.
-fn sgf_mode_to_depth(word: &[u8]) -> Option<Mode>
-    ensures { result ≡ sgf_mode_to_depth (number_of word.now) }
+fn variations_to(word: &[u8]) -> Option<Mode>
+    ensures { result ≡ variations_to (number_of word.now) }
 {
     let depth = number(word)?;
     if depth == 0 || depth > MOST_DEPTH {
@@ -149,64 +132,198 @@ fn sgf_mode_to_depth(word: &[u8]) -> Option<Mode>
     Some(Mode::Variations(Some(usize::from(depth))))
 }
 
-/// What is written by the words behind `--sgf`.
-fn sgf_mode(words: &[String]) -> Option<Mode>
-    ensures { result ≡ sgf_mode (map string_bytes words.now) }
+/// Variations to the number of turns that a word says, or to as many as there is room for.
+fn sgf_mode(word: Option<&str>) -> Option<Mode>
+    ensures { result ≡ sgf_mode (option_map (λ s. s.now) word.entry) }
 {
-    match words {
-        [] => Some(Mode::Variations(None)),
-        [name, value] => {
-            if name.as_bytes() != b"--depth".as_slice() {
-                return None;
-            }
-            sgf_mode_to_depth(value.as_bytes())
+    match word {
+        Some(word) => variations_to(word.as_bytes()),
+        None => Some(Mode::Variations(None)),
+    }
+}
+
+/// What flags, a depth and a point ask for together: one kind of text, with what goes with it.
+fn mode_asked(
+    svg: bool,
+    sgf: bool,
+    mark: bool,
+    close: bool,
+    depth: Option<&str>,
+    point: Option<&str>,
+) -> Option<Mode>
+    ensures { result ≡ mode_asked svg sgf mark close (option_map (λ s. s.now) depth.entry) (option_map (λ s. s.now) point.entry) }
+{
+    if mark {
+        if svg || sgf || depth.is_some() {
+            return None;
         }
-        _ => None,
+        return mark_mode(close, point);
     }
-}
-
-/// What is written by the words behind `--svg`.
-fn svg_mode(words: &[String]) -> Option<Mode>
-    ensures { result ≡ svg_mode (map string_bytes words.now) }
-{
-    if words.is_empty() {
-        return Some(Mode::Diagram);
-    }
-    None
-}
-
-/// What the words ask for; none where they are no words of the program.
-pub fn mode_of_words(words: &[String]) -> Option<Mode>
-    ensures { result ≡ mode_of_words (map string_bytes words.now) }
-{
-    let Some((first, rest)) = words.split_first() else {
-        return Some(Mode::Picture);
-    };
-    let first = first.as_bytes();
-    if first == b"--svg".as_slice() {
-        return svg_mode(rest);
-    }
-    if first == b"--mark".as_slice() {
-        return mark_mode(rest);
-    }
-    if first == b"--sgf".as_slice() {
-        return sgf_mode(rest);
-    }
-    None
-}
-
-/// The word behind `--mark` that should be a point, and is none.
-pub fn unreadable_point_argument(words: &[String]) -> Option<&String>
-    ensures { MatchOption result (unreadable_point_argument (map string_bytes words.now) ≡ None) (λ w. unreadable_point_argument (map string_bytes words.now) ≡ Some (string_bytes w.now)) }
-{
-    let [name, word, ..] = words else {
+    if close || point.is_some() {
         return None;
-    };
-    if name.as_bytes() == b"--mark".as_slice()
-        && !is_close_word(word)
-        && point_name_of_word(word.as_bytes()).is_none()
-    {
-        return Some(word);
     }
-    None
+    if sgf {
+        return if svg { None } else { sgf_mode(depth) };
+    }
+    if depth.is_some() {
+        return None;
+    }
+    Some(if svg { Mode::Diagram } else { Mode::Picture })
+}
+
+/// A flag.
+fn flag_option<'a>(alloc: Global, name: &'a str, help: &'a str) -> Arg<'a>
+    ensures rule { rule_of result ≡ flag_arg name.entry.now }
+    ensures local { result.global ≡ false }
+{
+    Arg::new(alloc, name)
+        .long(name)
+        .help(help)
+        .action(ArgAction::SetTrue)
+}
+
+/// The option with a depth.
+fn depth_option<'a>(alloc: Global) -> Arg<'a>
+    ensures rule { rule_of result ≡ depth_arg }
+    ensures local { result.global ≡ false }
+{
+    Arg::new(alloc, "depth")
+        .long("depth")
+        .value_name("N")
+        .help(DEPTH_HELP)
+        .value_parser(value_parser!(u32).range(1..=i64::from(MOST_DEPTH)))
+}
+
+/// The word that names a stone.
+fn point_word<'a>(alloc: Global) -> Arg<'a>
+    ensures rule { rule_of result ≡ point_arg }
+    ensures local { result.global ≡ false }
+{
+    Arg::new(alloc, "point")
+        .value_name("POINT")
+        .help(POINT_HELP)
+}
+
+/// A parser without options.
+fn bare_parser<'a>(alloc: Global) -> Parser<'a>
+    ensures { app_of result ≡ new_app (codes "tsumego-show") }
+{
+    Parser::new(alloc, "tsumego-show")
+        .about("Shows problems of Go, read from standard input")
+        .after_help(AFTER_HELP)
+}
+
+/// The program's words.
+fn parser<'a>(alloc: Global) -> Result<Parser<'a>, AllocError>
+    ensures { IfOk result (λ r. app_of r ≡ show_app) }
+{
+    let mark = flag_option(alloc, "mark", MARK_HELP);
+    let close = flag_option(alloc, "close", CLOSE_HELP);
+    let svg = flag_option(alloc, "svg", SVG_HELP);
+    let sgf = flag_option(alloc, "sgf", SGF_HELP);
+    let depth = depth_option(alloc);
+    let point = point_word(alloc);
+    let plain = bare_parser(alloc).version(VERSION);
+    let one = plain.arg(mark)?;
+    let two = one.arg(point)?;
+    let three = two.arg(close)?;
+    let four = three.arg(svg)?;
+    let five = four.arg(sgf)?;
+    five.arg(depth)
+}
+
+/// The text of an option or a word, where there is one.
+fn text_of<'a>(matches: &ArgMatches<'a>, name: &str) -> Option<&'a str>
+    ensures { option_map (λ s. s.now) result ≡ first_of name.now (rows_of (found_of matches.now)) }
+{
+    matches.get_str(name)
+}
+
+/// Whether a flag was given.
+fn flag_of(matches: &ArgMatches<'_>, name: &str) -> bool
+    ensures { result ≡ is_given name.now (rows_of (found_of matches.now)) }
+{
+    match text_of(matches, name) {
+        Some(text) => text.as_bytes() == b"true".as_slice(),
+        None => false,
+    }
+}
+
+/// What a parse asks for.
+fn mode_of(matches: &ArgMatches<'_>) -> Option<Mode>
+    ensures { result ≡ mode_in (rows_of (found_of matches.now)) }
+{
+    let svg = flag_of(matches, "svg");
+    let sgf = flag_of(matches, "sgf");
+    let mark = flag_of(matches, "mark");
+    let close = flag_of(matches, "close");
+    let depth = text_of(matches, "depth");
+    let point = text_of(matches, "point");
+    mode_asked(svg, sgf, mark, close, depth, point)
+}
+
+/// What is said of an error of the parser: help and version were asked for, or words are refused.
+fn told_of_error(alloc: Global, error: &Error) -> Told
+    ensures asked { result.status ≡ 0 → (kind_of error.now ≡ ErrorKind.DisplayHelp) ⊎ (kind_of error.now ≡ ErrorKind.DisplayVersion) }
+    ensures memory { kind_of error.now ≡ ErrorKind.OutOfMemory → string_bytes result.text ≡ [] }
+{
+    if error.kind() == ErrorKind::OutOfMemory {
+        return Told {
+            text: String::new(alloc),
+            status: 2,
+        };
+    }
+    let is_asked = error.kind() == ErrorKind::DisplayHelp
+        || error.kind() == ErrorKind::DisplayVersion;
+    match error.to_string(alloc) {
+        Ok(text) => Told {
+            text,
+            status: if is_asked { 0 } else { 2 },
+        },
+        Err(AllocError) => Told {
+            text: String::new(alloc),
+            status: 2,
+        },
+    }
+}
+
+/// What is said of words that ask for nothing together.
+fn told_apart(alloc: Global, matches: &ArgMatches<'_>) -> Told
+    ensures { result.status ≡ 2 }
+{
+    let text = match text_of(matches, "point") {
+        Some(word) if point_name_of_word(word.as_bytes()).is_none() => NO_POINT,
+        _ => APART,
+    };
+    match String::from_str(alloc, text) {
+        Ok(text) => Told { text, status: 2 },
+        Err(AllocError) => Told {
+            text: String::new(alloc),
+            status: 2,
+        },
+    }
+}
+
+/// What the words ask for, of which the first is the program's name; or what is said in its place.
+pub fn mode_of_words(alloc: Global, words: &[String]) -> Result<Mode, Told>
+    ensures asked { IfOk result (λ mode. mode_in (matches_of show_app (map string_bytes words.now)) ≡ Some mode) }
+    ensures clean { OnOk result (fault_of show_app (map string_bytes words.now) ≡ []) }
+    ensures told { IfErr result (λ told. told.status ≡ 0 → IsAmong ErrorKind.DisplayHelp (fault_of show_app (map string_bytes words.now))
+        ⊎ IsAmong ErrorKind.DisplayVersion (fault_of show_app (map string_bytes words.now))) }
+    ensures taken { takes show_app (map string_bytes words.now) ≡ true
+        → IfErr result (λ told. (string_bytes told.text ≡ []) ⊎ (mode_in (matches_of show_app (map string_bytes words.now)) ≡ None)) }
+{
+    let Ok(parser) = parser(alloc) else {
+        return Err(Told {
+            text: String::new(alloc),
+            status: 2,
+        });
+    };
+    match parser.try_get_matches_from(words) {
+        Ok(matches) => match mode_of(&matches) {
+            Some(mode) => Ok(mode),
+            None => Err(told_apart(alloc, &matches)),
+        },
+        Err(error) => Err(told_of_error(alloc, &error)),
+    }
 }

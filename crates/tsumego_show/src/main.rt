@@ -38,7 +38,7 @@ mod variations;
 mod windows;
 mod writing;
 
-use arguments::{USAGE, mode_of_words, unreadable_point_argument};
+use arguments::{Told, mode_of_words};
 use devices::Watched;
 use mode::Mode;
 use running::run;
@@ -46,23 +46,37 @@ use std::env;
 use std::io::IsTerminal;
 use std::process::ExitCode;
 
-/// The words behind the program's name, where they are text and memory for them wasn't refused.
+/// The program's name and the words behind it, where they are text and memory for them wasn't refused.
 fn command_line_words(rt: &HostRuntime) -> Option<Vec<String>> {
-    let mut words = env::args(rt).ok()?;
-    let _name = words.next();
-    words.collect(rt.alloc()).ok()
+    env::args(rt).ok()?.collect(rt.alloc()).ok()
 }
 
-/// Says why the words ask for nothing: one of them is no point, or they are no words of the program.
-fn tell_refused_words(rt: &HostRuntime, word: Option<&String>) {
-    let _ = match word {
-        Some(word) => {
-            eprintln!(rt;
-                "tsumego-show: {word} is no point: write C18 (columns without I, rows 1 to 19) or cb"
-            )
-        }
-        None => eprintln!(rt; "tsumego-show: {USAGE}"),
+/// What the words ask for, or what is said in its place.
+fn mode_asked(rt: &HostRuntime) -> Result<Mode, Told> {
+    match command_line_words(rt) {
+        Some(words) => mode_of_words(rt.alloc(), words.as_slice()),
+        None => Err(Told {
+            text: String::new(rt.alloc()),
+            status: 2,
+        }),
+    }
+}
+
+/// Says what is said in place of a text, and answers the status: help and version on standard output.
+fn tell(rt: &HostRuntime, told: &Told) -> u8 {
+    if told.status == 0 {
+        return if rt.print(told.text.as_str()).is_ok() {
+            0
+        } else {
+            2
+        };
+    }
+    let _ = if told.text.is_empty() {
+        rt.eprintln("")
+    } else {
+        rt.eprint(told.text.as_str())
     };
+    told.status
 }
 
 /// Says that trees were left without marks, where nobody reads the reasons: they went to a file or to a program.
@@ -73,11 +87,9 @@ fn tell_unmarked(rt: &HostRuntime, mode: Mode, status: u8) {
 }
 
 fn main(rt: HostRuntime) -> ExitCode {
-    let words = command_line_words(&rt);
-    let words = words.as_deref();
-    let Some(mode) = words.and_then(mode_of_words) else {
-        tell_refused_words(&rt, words.and_then(unreadable_point_argument));
-        return ExitCode::from(2);
+    let mode = match mode_asked(&rt) {
+        Ok(mode) => mode,
+        Err(told) => return ExitCode::from(tell(&rt, &told)),
     };
     let mut reader = Watched::new(rt.stdin());
     let mut writer = Watched::new(rt.stdout());

@@ -1,0 +1,52 @@
+use Rattle.std.proofs.Common.{true, ◌≡◌, ◌∙◌, List, None, map, string_bytes, ap, refl, sym, subst, rules, inl, inr, ◌⊎◌}
+use Rattle.clap.specs.Words.{App, IsAmong, Text, fault_of, found_of, is_simple, is_simple_and_free, matches_of, rows_of}
+use Rattle.clap.specs.Kinds.{HasKind}
+use Rattle.clap.specs.declared.error.kind.ErrorKind.{ErrorKind}
+use Rattle.clap.specs.declared.error.kind.ErrorKind.TheVariants.{DisplayHelp, DisplayVersion, OutOfMemory}
+use Rattle.tsumego_show.specs.CommandLine.{mode_in, show_app}
+use Rattle.tsumego_show.proofs.arguments.mode_of_words.Goals as goal
+
+is_tool_simple : is_simple show_app ≡ true
+unfolding show_app
+is_tool_simple = refl
+
+is_tool_free : is_simple_and_free show_app ≡ true
+unfolding show_app
+is_tool_free = refl
+
+pub returns-in-Some-clause-asked : goal.returns-in-Some-clause-asked
+returns-in-Some-clause-asked c =
+    let words : List Text = map (λ s. string_bytes s) c.args.words.now in
+    let met : rows_of (found_of c.in-Ok-try_get_matches_from.matches) ≡ matches_of show_app words =
+    (c.in-Ok-try_get_matches_from.ensures.matches (ap is_simple c.in-Ok.ensures ∙ is_tool_simple)).0
+    ∙ ap (λ (a : App). matches_of a words) c.in-Ok.ensures in
+    ap mode_in (sym met) ∙ sym c.in-Some.ensures
+
+pub returns-in-Some-clause-clean : goal.returns-in-Some-clause-clean
+returns-in-Some-clause-clean c =
+    let words : List Text = map (λ s. string_bytes s) c.args.words.now in
+    sym (ap (λ (a : App). fault_of a words) c.in-Ok.ensures) ∙ c.in-Ok-try_get_matches_from.ensures.kinds (ap is_simple_and_free c.in-Ok.ensures ∙ is_tool_free)
+
+pub returns-in-Ok-try_get_matches_from-clause-taken : goal.returns-in-Ok-try_get_matches_from-clause-taken
+returns-in-Ok-try_get_matches_from-clause-taken c =
+    let words : List Text = map (λ s. string_bytes s) c.args.words.now in
+    let met : rows_of (found_of c.in-Ok-try_get_matches_from.matches) ≡ matches_of show_app words =
+    (c.in-Ok-try_get_matches_from.ensures.matches (ap is_simple c.in-Ok.ensures ∙ is_tool_simple)).0
+    ∙ ap (λ (a : App). matches_of a words) c.in-Ok.ensures in
+    let nothing : mode_in (rows_of (found_of c.in-Ok-try_get_matches_from.matches)) ≡ None = search rules in
+    λ _. inr (ap mode_in (sym met) ∙ nothing)
+
+-- an error that isn't want of memory has a kind that the words have
+kind_is_fault : (e k : ErrorKind) (kinds : List ErrorKind) → e ≡ k → (k ≡ OutOfMemory → ⊥) → (e ≡ OutOfMemory) ⊎ IsAmong e kinds → IsAmong k kinds
+kind_is_fault e k kinds same other h = elim h [ inl memory ↦ absurd (other (sym same ∙ memory)) | inr a ↦ subst (λ (x : ErrorKind). IsAmong x kinds) same a ]
+
+pub returns-clause-told : goal.returns-clause-told
+returns-clause-told c =
+    let words : List Text = map (λ s. string_bytes s) c.args.words.now in
+    let kinds : HasKind (fault_of show_app words) c.in-Err.error =
+    subst (λ (a : App). HasKind (fault_of a words) c.in-Err.error) c.in-Ok.ensures
+    (c.in-Err.ensures.kinds (ap is_simple_and_free c.in-Ok.ensures ∙ is_tool_free)) in
+    λ zero. elim (c.told_of_error.ensures.asked zero) [
+      | inl help ↦ inl (kind_is_fault _ DisplayHelp (fault_of show_app words) help (λ e. let bad : DisplayHelp ≡ OutOfMemory = e in cc) kinds)
+      | inr version ↦ inr (kind_is_fault _ DisplayVersion (fault_of show_app words) version (λ e. let bad : DisplayVersion ≡ OutOfMemory = e in cc) kinds)
+    ]
