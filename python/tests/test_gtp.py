@@ -142,6 +142,42 @@ def test_a_number_of_moves(tmp_path: Path) -> None:
 
 
 @pytest.mark.parametrize(
+    "size, number, points",
+    [
+        (19, 2, "D4 Q16"),
+        (19, 3, "D4 Q16 D16"),
+        (19, 4, "D4 Q16 D16 Q4"),
+        (19, 5, "D4 Q16 D16 Q4 K10"),
+        (19, 6, "D4 Q16 D16 Q4 D10 Q10"),
+        (19, 7, "D4 Q16 D16 Q4 D10 Q10 K10"),
+        (19, 8, "D4 Q16 D16 Q4 D10 Q10 K4 K16"),
+        (19, 9, "D4 Q16 D16 Q4 D10 Q10 K4 K16 K10"),
+        (13, 5, "D4 K10 D10 K4 G7"),
+        (9, 2, "C3 G7"),
+        (9, 5, "C3 G7 C7 G3 E5"),
+        (8, 4, "C3 F6 C6 F3"),
+    ],
+)
+def test_handicap_stones(size: int, number: int, points: str) -> None:
+    """As the protocol's specification fixes them (4.1.1)."""
+    told = session(f"boardsize {size}", f"fixed_handicap {number}", "list_stones b", "loadsgf /nowhere.sgf")
+    assert told[1] == f"= {points}" and set(told[2].split()) == set(told[1].split())
+
+
+def test_what_was_played() -> None:
+    """A stone in the corner is taken, then one side passes; a suicide takes no stone of the other side."""
+    told = session("boardsize 5", "play b A1", "play w A2", "play b pass", "play w B1", "captures w", "captures b", "move_history", "undo", "captures w", "level 3")
+    assert told[5:] == ["= 1", "= 0", "= white B1\nblack PASS\nwhite A2\nblack A1", "=", "= 0", "="]
+    told = session("boardsize 5", "gogui-setup b A2 b B1 w A3 w B2 w C1", "play w A1", "captures w", "time_settings 60 10 1", "time_left b 5 0")
+    assert told[3:] == ["= 2", "=", "="]
+
+
+def test_top_moves() -> None:
+    path = TOP / "examples/straight_three_black.sgf"
+    assert session(f"loadsgf {path}", "top_moves_black", "top_moves_white") == ["= black", "= C7 1.00", "= C7 1.00"]
+
+
+@pytest.mark.parametrize(
     "lines, fault",
     [
         (["boardsize 20"], "unacceptable size"),
@@ -157,6 +193,11 @@ def test_a_number_of_moves(tmp_path: Path) -> None:
         (["gogui-setup b A19 w B19 w A18"], "a stone has no liberty"),
         (["owl_attack A1"], "vertex must not be empty"),
         (["genmove b"], "no stone is on the board"),
+        (["play b A1", "fixed_handicap 2"], "board not empty"),
+        (["fixed_handicap 10"], "invalid number of stones"),
+        (["boardsize 8", "fixed_handicap 5"], "invalid number of stones"),
+        (["boardsize 6", "fixed_handicap 2"], "invalid number of stones"),
+        (["captures x"], "invalid color"),
         (["set_search_diamond A1"], "distance not an integer"),
     ],
 )

@@ -66,6 +66,20 @@ def is_ended(problem: Problem) -> bool:
     return turns == [PASS, PASS]
 
 
+def fixed_handicap(size: int, number: int) -> List[str]:
+    """The points for so many handicap stones, as the protocol fixes them. Raises GtpError where it fixes none."""
+    most = 0 if size < 7 else 4 if size == 7 or size % 2 == 0 else 9
+    if not 2 <= number <= most:
+        raise GtpError("invalid number of stones")
+    low, middle = 3 if size > 12 else 2, size // 2
+    high = size - 1 - low
+    # Columns and lines from below.
+    corners, sides = [(low, low), (high, high), (low, high), (high, low)], [(low, middle), (high, middle), (middle, low), (middle, high)]
+    places = (corners + sides)[: number - number % 2 if number > 4 else number]
+    places += [(middle, middle)] if number > 4 and number % 2 else []
+    return [sgf_name(column, size - 1 - line) for column, line in places]
+
+
 class Engine:
     """A position with its history, and what was asked about it. A command is a method whose name begins with `do_`; it takes the words
     behind the command's name, and returns the response or raises GtpError."""
@@ -124,6 +138,16 @@ class Engine:
         # (the score doesn't count)
         return ""
 
+    def do_level(self, *_: str) -> str:
+        # (a verdict has no levels)
+        return ""
+
+    def do_time_settings(self, *_: str) -> str:
+        # (--seconds says how long an answer may take)
+        return ""
+
+    do_time_left = do_time_settings
+
     # ---- the position
 
     def do_boardsize(self, size: str = "", *_: str) -> str:
@@ -177,6 +201,14 @@ class Engine:
         self.set_up({self.point(word): BLACK for word in words}, WHITE)
         return ""
 
+    def do_fixed_handicap(self, number: str = "", *_: str) -> str:
+        """Puts handicap stones on the points that the protocol fixes, and names them."""
+        if self.problem.position()[0].stones:
+            raise GtpError("board not empty")
+        points = fixed_handicap(self.problem.rows, int(number) if number.isdecimal() else 0)
+        self.set_up(dict.fromkeys(points, BLACK), WHITE)
+        return " ".join(vertex(point, self.problem.rows) for point in points)
+
     def do_play(self, colour: str = "", word: str = "", *_: str) -> str:
         self.play(colour_of(colour), self.turn_of(word))
         return ""
@@ -208,6 +240,16 @@ class Engine:
         wanted = colour_of(colour)
         points = [sgf_name(column, row) for row in range(board.rows) for column in range(board.columns)]
         return " ".join(vertex(point, board.rows) for point in points if board.stones.get(point) == wanted)
+
+    def do_captures(self, colour: str = "", *_: str) -> str:
+        """How many stones of the other side a colour has taken since the setup."""
+        wanted, board, _ = colour_of(colour), *replace(self.problem, nodes=self.problem.nodes[:1]).position()
+        taken = [board.play(*turn) for turn in self.turns()]
+        return str(sum(len(stones) for (by, turn), stones in zip(self.turns(), taken) if by == wanted and turn not in stones))
+
+    def do_move_history(self, *_: str) -> str:
+        """The moves, the last one first."""
+        return "\n".join(f"{NAMES[colour].lower()} {vertex(turn, self.problem.rows)}" for colour, turn in reversed(self.turns()))
 
     # ---- the group and its region
 
@@ -264,6 +306,16 @@ class Engine:
         turn = self.turn(colour_of(colour))
         self.play(colour_of(colour), turn)
         return vertex(turn, self.problem.rows)
+
+    def do_top_moves_black(self, *_: str) -> str:
+        return self.top_moves(BLACK)
+
+    def do_top_moves_white(self, *_: str) -> str:
+        return self.top_moves(WHITE)
+
+    def top_moves(self, colour: str) -> str:
+        """The first moves that win, each with the same weight. None where none wins."""
+        return " ".join(f"{vertex(turn, self.problem.rows)} 1.00" for turn in self.answer(colour).winning)
 
     # ---- pictures and analysis
 
@@ -340,6 +392,10 @@ class Engine:
         if point not in self.problem.position()[0].stones:
             raise GtpError("vertex must not be empty")
         return point
+
+    def turns(self) -> List[Tuple[str, str]]:
+        """The turns of the history, each with its colour."""
+        return [(colour, turn_of(node.first(colour))) for node in self.problem.nodes for colour in MOVES if node.has(colour)]
 
     def set_up(self, stones: Dict[str, str], to_move: str) -> None:
         """A position without history. The marks go."""
