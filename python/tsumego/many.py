@@ -12,7 +12,7 @@ __all__ = ["verdicts"]
 # So many problems share a process.
 BATCH = 250
 # A text that is one tree without variations is passed on as it is.
-_PLAIN = re.compile(rb"[\t-\r ]*\([\t-\r ]*(?:;[\t-\r ]*(?:[A-Z]+[\t-\r ]*(?:\[(?:[^]\\]|\\.)*\][\t-\r ]*)+)*)+\)[\t-\r ]*", re.DOTALL)
+_PLAIN = re.compile(rb"[\t-\r ]*\([\t-\r ]*(?:;[\t-\r ]*(?:[A-Z]+[\t-\r ]*(?:\[[^]\\]*(?:\\.[^]\\]*)*\][\t-\r ]*)+)*)+\)[\t-\r ]*", re.DOTALL)
 Indexed = Tuple[int, bytes]
 
 

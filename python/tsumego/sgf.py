@@ -10,7 +10,7 @@ from typing import Iterator, List, Optional, Tuple
 __all__ = ["GameTree", "Node", "SgfError", "escaped", "main_line", "plain", "read_bytes", "to_text", "trees_of", "write_bytes"]
 
 # White space, and then a mark, the name of a property, or a value.
-_TOKEN = re.compile(r"[\t-\r ]*(?:([();])|([A-Za-z0-9]+)|\[((?:[^]\\]|\\.)*)\])", re.DOTALL)
+_TOKEN = re.compile(r"[\t-\r ]*(?:([();])|([A-Za-z0-9]+)|\[([^]\\]*(?:\\.[^]\\]*)*)\])", re.DOTALL)
 # What may stand behind what: marks, names (n) and values (v).
 _BEHIND = {"": "(", "(": ";", ";": ";()n", "n": "v", "v": ";()nv", ")": "()"}
 
