@@ -129,7 +129,9 @@ def test_an_sgf_of_several_problems_and_a_link(page: Page) -> None:
     assert page.part("mover").get_attribute("value") == "W"
     options[1].click()
     assert page.stones() == [("B", "bb"), ("W", "dd")] and page.text("name") == "two"
+    said = page.text("say")
     page.press("link")
+    assert page.text("note") in ("The link is copied.", "Copy the link below.") and page.text("say") == said
     address = page.part("address").get_attribute("value")
     other = Page(page.browser, address)
     assert other.stones() == [("B", "bb"), ("W", "dd")] and other.text("name") == "two"
@@ -137,6 +139,18 @@ def test_an_sgf_of_several_problems_and_a_link(page: Page) -> None:
     assert other.stones() == [("W", "dd")]
     other.press("undo")
     assert other.stones() == [("B", "bb"), ("W", "dd")]
+
+
+def test_on_a_phone_the_board_comes_into_view(page: Page) -> None:
+    size = page.browser.get_window_size()
+    page.browser.set_window_size(500, 800)
+    page.paste("(;SZ[9]AB[aa]AW[cc])(;SZ[9]AB[bb]AW[dd])")
+    page.browser.execute_script("document.getElementById('which').scrollIntoView({ block: 'start' })")
+    is_seen = "const { top, bottom } = document.getElementById('board').getBoundingClientRect(); return top >= 0 && bottom <= innerHeight"
+    assert not page.browser.execute_script(is_seen)
+    page.part("which").find_elements("tag name", "option")[1].click()
+    assert page.stones() == [("B", "bb"), ("W", "dd")] and page.browser.execute_script(is_seen)
+    page.browser.set_window_size(size["width"], size["height"])
 
 
 def test_by_the_keyboard(page: Page) -> None:

@@ -95,9 +95,12 @@ function showAnswer(now) {
 }
 
 const fault = (words) => Object.assign($("error"), { textContent: words, hidden: false });
+// What was done besides, beneath what is said of the problem.
+const note = (words) => Object.assign($("note"), { textContent: words, hidden: !words });
 function say(words) {
   $("say").textContent = words;
   $("error").hidden = true;
+  note("");
 }
 
 // Does something that may ask the service: meanwhile Ask is Stop, and nothing else is begun. What goes wrong is said, and changes nothing.
@@ -344,7 +347,7 @@ function save(content, name, type) {
   const address = URL.createObjectURL(content instanceof Blob ? content : new Blob([content], { type }));
   Object.assign(document.createElement("a"), { href: address, download: name }).click();
   setTimeout(() => URL.revokeObjectURL(address), 10000);
-  say(`Saved as ${name}.`);
+  note(`Saved as ${name}.`);
 }
 
 const isFirstWay = () => Boolean(walls && walls.choice === 0);
@@ -355,7 +358,7 @@ const fileName = (end) => `${(problem.name || "problem").normalize("NFKD").repla
 async function saveSgf(signal) {
   let content = text(moves.length);
   if (hasSolution()) {
-    say("Writing the solution ..");
+    note("Writing the solution ..");
     const found = await (isFirstWay() ? post(`/solution?point=${walls.point}`, walls.open, signal) : post("/solution", text(0), signal)).catch((wrong) => fault(`${wrong.message} The problem is saved without its solution.`));
     if (found && found.sgf) content = found.sgf;
   }
@@ -367,7 +370,7 @@ async function saveSgf(signal) {
 async function link() {
   [$("address").value, $("linked").hidden] = [location.href, false];
   $("address").select();
-  await navigator.clipboard.writeText(location.href).then(() => say("The link is copied."), () => say("Copy the link below."));
+  await navigator.clipboard.writeText(location.href).then(() => note("The link is copied."), () => note("Copy the link below."));
 }
 
 // ---- what people do
@@ -435,7 +438,7 @@ function wire() {
   $("size").replaceChildren(...Array.from({ length: 15 }, (_, number) => new Option(`${number + 5}`, `${number + 5}`)));
   $("size").addEventListener("change", () => blank(Number($("size").value)));
   $("whole").addEventListener("change", show);
-  $("which").addEventListener("change", () => { keep(); begin(problems[Number($("which").value)]); say(START); show(); });
+  $("which").addEventListener("change", () => { keep(); begin(problems[Number($("which").value)]); say(START); show(); $("board").scrollIntoView({ block: "nearest" }); });
   $("closing").addEventListener("change", () => { take({ ...walls, choice: Number($("closing").value) }); show(); });
   $("file").addEventListener("change", () => openFile($("file").files[0]));
   $("board").addEventListener("click", (event) => { const hit = event.target.closest("[data-point]"); if (hit) click(Number(hit.dataset.point)); });
