@@ -10,8 +10,8 @@ from .points import PASS
 from .problems import Problem, name_of
 from .programs import in_parallel
 from .sgf import GameTree, SgfError, main_line, read_bytes, trees_of
-from .solving import Clock, settled, strategy, verdict
-from .strategy import Strategy
+from .solving import Clock, certificate, settled, strategy, verdict
+from .strategy import Strategy, read_certificate
 
 __all__ = ["SECONDS", "answer", "solve", "with_strategies"]
 
@@ -54,14 +54,14 @@ def _asked(found: Marked, clock: Clock, tell: Tell) -> Answer:
     """The verdicts of each closing with either side to begin, and the first turns of the first."""
     problems = [problem for _, problem in found.ways]
     first = in_parallel(lambda problem: settled(problem, clock) if problem is problems[0] else (verdict(problem, clock), None), problems)
-    verdicts, ours = [word for word, _ in first], first[0][1]
+    verdicts, line = [word for word, _ in first], first[0][1]
     result, problem, took = Answer("", verdicts[0], problems[0]), problems[0], clock.spent()
     tell(result.verdict)
     is_lost = result.verdict.is_settled and not result.is_mover_winner
-    if is_lost and not ours:
-        ours = strategy(problem, clock.part(5))
+    if is_lost and not line:
+        line = certificate(problem, clock.part(5))
     # (if the side to move loses, the winner's strategy has an answer to each turn)
-    asked = _turns_to_ask(result) if result.verdict.is_settled and not (is_lost and ours) else []
+    asked = _turns_to_ask(result) if result.verdict.is_settled and not (is_lost and line) else []
 
     def ask_turn(turn: str) -> Verdict:
         after = verdict(problem.after(turn), clock)
@@ -74,13 +74,14 @@ def _asked(found: Marked, clock: Clock, tell: Tell) -> Answer:
         words = in_parallel(lambda ask: ask(), [partial(ask_turn, turn) for turn in asked] + [partial(verdict, each, clock) for each in others])
         return words[len(asked) :], words[: len(asked)]
 
-    def look_through() -> Optional[List[Problem]]:
-        # (for the ko test, while the programs run)
-        return leaning_on_repetition(problem, ours) if ours else None
+    def look_through() -> Tuple[Optional[Strategy], Optional[List[Problem]]]:
+        # (a long certificate takes a while to read: so that is done while the programs run, as is what the ko test wants of it)
+        ours = read_certificate(line) if line else None
+        return ours, leaning_on_repetition(problem, ours) if ours else None
 
     asks: List[Callable[[], Any]] = [ask_rest, look_through]
     rest: List[Any] = in_parallel(lambda ask: ask(), asks)
-    (others, after), leaning = rest
+    (others, after), (ours, leaning) = rest
     each_other = [others.pop(0) if _is_other_open(each, word) else Verdict(word.word) for each, word in zip(problems, verdicts)]
     closings = tuple(Closing(stones, *each) for (stones, _), each in zip(found.ways, zip(problems, verdicts, each_other)))
     result = replace(result, other=each_other[0], closings=closings)
