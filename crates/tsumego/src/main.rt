@@ -4,11 +4,12 @@
 //! |---|---|
 //! | `arguments`, `request` | the command line, and what it asks for |
 //! | `answer`, `task` | the answer to an input, tree by tree |
-//! | `progress` | what stands on standard error meanwhile |
+//! | `progress`, `advice` | what stands on standard error meanwhile, and what people are told there |
 //! | `laws` | what a run writes; `headline` |
 //! | `command_tests`, `command_cases` | rows of words, input and answer |
 #![tactic(auto)]
 
+mod advice;
 mod answer;
 mod arguments;
 #[cfg(test)]
@@ -20,6 +21,7 @@ mod progress;
 mod request;
 mod task;
 
+use advice::{READS_TERMINAL, file_advice, unsettled_advice};
 use answer::{run, run_telling};
 use arguments::{ArgFault, command};
 use devices::Watched;
@@ -46,7 +48,19 @@ fn print_fault(rt: &HostRuntime, text: &str) -> io::Result<()> {
     if text.is_empty() {
         return rt.eprintln("");
     }
-    rt.eprint(text)
+    rt.eprint(text)?;
+    match refused_file_advice(rt, text) {
+        Ok(advice) => rt.eprint(advice.as_str()),
+        Err(AllocError) => Ok(()),
+    }
+}
+
+/// What is said behind the refusal of the command line's words.
+fn refused_file_advice(rt: &HostRuntime, text: &str) -> Result<String, AllocError> {
+    match command_line_words(rt) {
+        Ok(words) => file_advice(rt.alloc(), words.as_slice(), text),
+        Err(_) => Ok(String::new(rt.alloc())),
+    }
 }
 
 /// Whether a command shows how far it is: where that is asked for, or standard error is a terminal.
@@ -69,11 +83,20 @@ fn main(rt: HostRuntime) -> ExitCode {
             return ExitCode::from(2);
         }
     };
+    if rt.stdin().is_terminal() {
+        let _ = rt.eprintln(READS_TERMINAL);
+    }
     let mut reader = Watched::new(rt.stdin());
     let mut writer = Watched::new(rt.stdout());
     let alloc = rt.alloc();
-    let ran = if shows_progress(&command, rt.stderr().is_terminal()) {
-        let line = ProgressLine::new(&rt, alloc);
+    let terminal = rt.stderr().is_terminal();
+    let ran = if shows_progress(&command, terminal) {
+        let advice = if terminal {
+            unsettled_advice(&command)
+        } else {
+            ""
+        };
+        let line = ProgressLine::new(&rt, alloc, advice);
         run_telling(&rt, alloc, &command, &mut reader, &mut writer, &line)
     } else {
         run(&rt, alloc, &command, &mut reader, &mut writer)

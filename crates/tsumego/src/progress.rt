@@ -13,8 +13,8 @@ pub trait Progress: Sync {
     /// those before it are through or under way.
     fn begin_turn(&self, number: usize, job: usize);
 
-    /// The problem that began last has ended.
-    fn end_problem(&self);
+    /// The problem that began last has ended, perhaps unsettled.
+    fn end_problem(&self, unsettled: bool);
 }
 
 /// Is told, and does nothing.
@@ -26,20 +26,22 @@ impl Progress for NoProgress {
 
     fn begin_turn(&self, _number: usize, _job: usize) {}
 
-    fn end_problem(&self) {}
+    fn end_problem(&self, _unsettled: bool) {}
 }
 
-/// Shows the problem, and the first turn that was begun last, on one line of standard error, which is wiped in the end.
+/// Shows the problem, and the first turn that was begun last, on one line of standard error, which is wiped in the end. Then it says what
+/// may settle an unsettled problem, if it has some advice.
 #[derive(Clone, Copy)]
 pub struct ProgressLine<'a, X> {
     rt: &'a X,
     alloc: Global,
+    advice: &'static str,
 }
 
 impl<'a, X> ProgressLine<'a, X> {
     /// A line on which nothing stands yet.
-    pub fn new(rt: &'a X, alloc: Global) -> ProgressLine<'a, X> {
-        ProgressLine { rt, alloc }
+    pub fn new(rt: &'a X, alloc: Global, advice: &'static str) -> ProgressLine<'a, X> {
+        ProgressLine { rt, alloc, advice }
     }
 }
 
@@ -57,8 +59,11 @@ impl<X: Eprint + Sync> Progress for ProgressLine<'_, X> {
         }
     }
 
-    fn end_problem(&self) {
+    fn end_problem(&self, unsettled: bool) {
         let _ = self.rt.eprint("\r\u{1b}[K");
+        if unsettled && !self.advice.is_empty() {
+            let _ = self.rt.eprintln(self.advice);
+        }
     }
 }
 

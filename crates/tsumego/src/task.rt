@@ -3,6 +3,7 @@ ghost use Rattle.std.specs.Prelude.{◌≡◌, IfOk, true};
 ghost use Rattle.tsumego.specs.CommandLine.{IsInRange};
 ghost use Rattle.tsumego.specs.Tasks.{IsTaskOf, MakesOutcome, asks_for_certificate, asks_for_shared_parts};
 
+use crate::advice::is_unsettled;
 use crate::progress::{ProblemGate, Progress};
 use crate::request::Command;
 use std::alloc::Global;
@@ -77,7 +78,7 @@ impl TreeTask {
                 progress.begin_problem(number);
                 let gate = ProblemGate::new(progress, number);
                 let outcome = solve(rt, alloc, main, *options, bytes, &gate);
-                progress.end_problem();
+                progress.end_problem(is_unsettled(&outcome));
                 outcome
             }
         }

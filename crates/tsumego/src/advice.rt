@@ -1,0 +1,65 @@
+//! What people are told on standard error besides faults. No program should read it.
+
+use crate::request::Command;
+use std::alloc::{AllocError, Global};
+use tt_sgf::NoMemory;
+use tt_text::TreeOutcome;
+
+/// What is said where the input comes from a terminal.
+pub const READS_TERMINAL: &str =
+    "tsumego: reading from the terminal until Ctrl-D; to read a file: tsumego solve < FILE";
+
+/// How many positions of df-pn are advised.
+const MANY_POSITIONS: u32 = 2_000_000;
+
+/// The word that the parser didn't expect, by the text of its refusal.
+fn unexpected_word(fault: &str) -> Option<&str> {
+    let (_, behind) = match fault.split_once("unexpected argument '") {
+        Some(parts) => parts,
+        None => fault.split_once("unrecognized subcommand '")?,
+    };
+    let (word, _) = behind.split_once("'")?;
+    Some(word)
+}
+
+/// Whether a word reads like the name of a file.
+fn is_like_file(word: &str) -> bool {
+    !word.starts_with("-") && (word.contains(".") || word.contains("/"))
+}
+
+/// The command that the first words name; `solve` where they name none.
+fn named_command(words: &[String]) -> &str {
+    match words.get(1) {
+        Some(word) if matches!(word.as_str(), "score" | "check") => word.as_str(),
+        _ => "solve",
+    }
+}
+
+/// What is said behind the refusal of words among which the name of a file stands: how a file is read. Nothing for other refusals.
+pub fn file_advice(alloc: Global, words: &[String], fault: &str) -> Result<String, AllocError> {
+    match unexpected_word(fault) {
+        Some(file) if is_like_file(file) => {
+            let command = named_command(words);
+            format!(in alloc;
+                "\n  tip: the input comes on standard input: tsumego {command} < {file}\n  tip: tsumego-ask {file} answers in words\n"
+            )
+        }
+        _ => Ok(String::new(alloc)),
+    }
+}
+
+/// What may settle a problem that a command left unsettled.
+pub fn unsettled_advice(command: &Command) -> &'static str {
+    match command {
+        Command::Solve { dfpn: Some(n), .. } if *n >= MANY_POSITIONS => "try fewer squares (SQ)",
+        _ => "try --dfpn 2000000, or fewer squares (SQ)",
+    }
+}
+
+/// Whether a problem was answered, and not settled.
+pub fn is_unsettled(outcome: &Result<TreeOutcome, NoMemory>) -> bool {
+    match outcome {
+        Ok(TreeOutcome::Answered(text)) => text.as_slice().starts_with(b"unsettled".as_slice()),
+        _ => false,
+    }
+}
