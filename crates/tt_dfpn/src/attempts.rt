@@ -38,7 +38,7 @@ fn find_by_attempts(
     let mut memo = Memo::new(alloc, may_end_at_life)?;
     let mut advisor = Advisor::new(alloc, line, visits.left)?;
     for attempt in 0..MOST_ATTEMPTS {
-        let Some(side) = advisor.search_winner(line, visits)? else {
+        let Some(side) = advisor.search_winner(line, u32::MAX, visits)? else {
             return Ok(None);
         };
         let found = certify(alloc, line, side, depth, &mut advisor, &mut memo, visits)?;

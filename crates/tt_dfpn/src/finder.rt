@@ -9,8 +9,11 @@ mod hash_history;
 mod life;
 mod region;
 mod search;
+mod shared_table;
 mod threats;
 mod transpositions;
+mod workers;
 mod zobrist;
 
 pub use advisor::Advisor;
+pub use workers::{Finding, SharedSearch};

@@ -24,5 +24,5 @@ mod memo;
 pub use advice::{Advice, VisitsLeft};
 pub use attempts::{MOST_POSITIONS, find_life_proof, find_proof};
 pub use certifier::certify;
-pub use finder::Advisor;
+pub use finder::{Advisor, Finding, SharedSearch};
 pub use memo::Memo;

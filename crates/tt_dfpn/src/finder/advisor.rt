@@ -6,6 +6,7 @@ use crate::advice::{Advice, VisitsLeft};
 use crate::finder::board::SearchBoard;
 use crate::finder::search::{Finder, hashes_of};
 use crate::finder::transpositions::{LOST, NO_TURN, PASS, ProofNumbers, UNKNOWN, WON, turn_of};
+use crate::finder::workers::{Finding, SharedSearch, winner_by_numbers};
 use std::alloc::Global;
 use tt_board::{Board, Colour};
 use tt_game::{Line, Side, Turn};
@@ -120,24 +121,34 @@ impl Advisor {
         numbers
     }
 
-    /// Who wins at the line by a search, if that says so.
+    /// Who wins at the line by a search of at most so many visits, if that says so.
     pub fn search_winner(
         &mut self,
         line: &Line,
+        most: u32,
         visits: &mut VisitsLeft,
     ) -> Result<Option<Side>, NoMemory>
         ensures fewer { visits.new.left ≤ visits.old.left }
     {
         self.follow(line)?;
         let mover = self.finder.colour_of_side(line.to_move());
-        let numbers = self.search(mover, u32::MAX, visits);
-        if numbers.proof == 0 {
-            return Ok(Some(line.to_move()));
-        }
-        if numbers.disproof == 0 {
-            return Ok(Some(line.to_move().opponent()));
-        }
-        Ok(None)
+        let numbers = self.search(mover, most, visits);
+        Ok(winner_by_numbers(numbers, line.to_move()))
+    }
+
+    /// A search of the line's problem that workers share, and that goes on from what is known here. So many visits are asked for.
+    pub fn shared_search<'a>(
+        &mut self,
+        line: &'a Line,
+        visits: u32,
+    ) -> Result<SharedSearch<'a>, NoMemory> {
+        SharedSearch::of(&mut self.finder, line, visits)
+    }
+
+    /// Goes on from how often each turn won in a worker's search, behind so many more visits.
+    pub fn learn(&mut self, finding: &Finding, visited: u32) {
+        self.finder.wins = finding.wins;
+        self.visited = self.visited.saturating_add(visited);
     }
 
     /// Notes that the line is lost for its mover, and that the line before it is won by the other colour.

@@ -21,7 +21,7 @@ use tt_game::{Line, Side};
 use tt_sgf::NoMemory;
 
 /// How many turns deep the finder looks.
-const MOST_FINDER_DEPTH: u16 = 400;
+pub(crate) const MOST_FINDER_DEPTH: u16 = 400;
 
 /// One part of so many is epsilon. Of 53 problems 34 were won within 3 s with 4, and 30 to 33 with 1, 2, 8 or 16.
 const EPSILON_DIVISOR: u32 = 4;
@@ -29,12 +29,24 @@ const EPSILON_DIVISOR: u32 = 4;
 /// What a line that was found to differ has as its work, so that it is kept.
 const PATH_ENTRY_WORK: u32 = 0x1000_0000;
 
+/// What a win adds to a turn's count. The counts begin below that, so that each worker has another order of turns that won as often.
+pub(crate) const COUNT_OF_WIN: u32 = 64;
+
+/// How often each turn won, by colour.
+pub(crate) type Wins = [[u32; 512]; 2];
+
 /// The hashes of a position: without its history, and with it.
 #[derive(Clone, Copy)]
 pub(crate) struct Hashes {
     pub(crate) position: u64,
     pub(crate) line: u64,
 }
+
+/// No position's hashes.
+pub(crate) const NO_HASHES: Hashes = Hashes {
+    position: 0,
+    line: 0,
+};
 
 /// A turn, and what is known of the position behind it, from the side that moves there.
 #[derive(Clone, Copy)]
@@ -58,11 +70,11 @@ pub(crate) struct Finder {
     pub(crate) alloc: Global,
     pub(crate) board: SearchBoard,
     pub(crate) region: Region,
-    main_table: TranspositionTable,
+    pub(crate) main_table: TranspositionTable,
     path_table: TranspositionTable,
     has_path_table: bool,
     /// How often each turn won, by colour (J. Schaeffer, "The History Heuristic", 1989).
-    wins: [[u32; 512]; 2],
+    pub(crate) wins: Wins,
     /// What was seen last of the targets' life.
     pub(crate) life: Life,
     /// What was read ahead of the table, so that it is read at all.
@@ -70,9 +82,13 @@ pub(crate) struct Finder {
     /// Lists that aren't used.
     lists: Vec<Vec<Child>>,
     /// Whether suicides and plays into the mover's own eyes are left out.
-    prunes: bool,
+    pub(crate) prunes: bool,
     /// The search ends where no more visits are left than these.
     reserve: u32,
+    /// The hashes of the positions from the first to here, by the room that was left there. Empty where nobody else holds the table.
+    pub(crate) path: Vec<Hashes>,
+    /// One more than the room at the first of them that another worker was seen to have settled; 0 where there is none.
+    pub(crate) cut: u16,
 }
 
 /// The index of a colour.
@@ -158,14 +174,24 @@ fn thresholds_of(
 impl Finder {
     /// A finder for a line's problem, which stands where the line stands. Its table grows with the number of positions.
     pub(crate) fn new(alloc: Global, line: &Line, positions: u32) -> Result<Finder, NoMemory> {
+        let most = (positions as usize / 4).min(MOST_BUCKETS);
+        let table = TranspositionTable::new(alloc, INITIAL_BUCKETS, most)?;
+        Finder::over(alloc, line, table)
+    }
+
+    /// A finder for a line's problem over a table.
+    pub(crate) fn over(
+        alloc: Global,
+        line: &Line,
+        table: TranspositionTable,
+    ) -> Result<Finder, NoMemory> {
         let board = SearchBoard::of(alloc, line)?;
         let region = Region::of(alloc, line, &board)?;
-        let most = (positions as usize / 4).min(MOST_BUCKETS);
         Ok(Finder {
             alloc,
             board,
             region,
-            main_table: TranspositionTable::new(alloc, INITIAL_BUCKETS, most)?,
+            main_table: table,
             path_table: TranspositionTable::new(alloc, INITIAL_PATH_BUCKETS, MOST_PATH_BUCKETS)?,
             has_path_table: false,
             wins: [[0; 512]; 2],
@@ -174,6 +200,8 @@ impl Finder {
             lists: Vec::new(alloc),
             prunes: true,
             reserve: 0,
+            path: Vec::new(alloc),
+            cut: 0,
         })
     }
 
@@ -208,39 +236,40 @@ impl Finder {
     /// Keeps what is known of a position, whatever its history.
     #[inline]
     pub(crate) fn keep_position(&mut self, key: u64, numbers: ProofNumbers, best: u16, work: u32) {
-        self.main_table.keep(Entry {
-            key,
-            numbers,
-            work,
-            best,
-        });
+        self.main_table.keep(key, &Entry::new(numbers, best, work));
     }
 
-    /// Keeps what is known of a position: as its line's own, where that has an entry.
+    /// Keeps what is known of a position: as its line's own, where that has an entry. Numbers that settle nothing never replace what
+    /// another worker settled.
     #[inline]
     fn keep_entry(&mut self, hashes: Hashes, numbers: ProofNumbers, best: u16, work: u32) {
         if self.has_path_table && self.path_table.find(hashes.line).is_some() {
-            self.path_table.keep(Entry {
-                key: hashes.line,
-                numbers,
-                work,
-                best,
-            });
+            let entry = Entry::new(numbers, best, work);
+            self.path_table.keep(hashes.line, &entry);
             return;
         }
+        if self.shares_table() && !numbers.is_settled() {
+            if let Some(entry) = self.main_table.find(hashes.position) {
+                if entry.numbers.is_settled() {
+                    return;
+                }
+            }
+        }
         self.keep_position(hashes.position, numbers, best, work);
+    }
+
+    /// Whether others hold the table too.
+    #[inline(always)]
+    fn shares_table(&self) -> bool {
+        !self.path.is_empty()
     }
 
     /// Gives a line an entry of its own.
     pub(crate) fn keep_line_entry(&mut self, hashes: Hashes, numbers: ProofNumbers, best: u16) {
         self.has_path_table = true;
         self.path_table.grow_if_needed(self.alloc);
-        self.path_table.keep(Entry {
-            key: hashes.line,
-            numbers,
-            work: PATH_ENTRY_WORK,
-            best,
-        });
+        let entry = Entry::new(numbers, best, PATH_ENTRY_WORK);
+        self.path_table.keep(hashes.line, &entry);
     }
 
     /// Forgets all numbers, and leaves no turn out any more.
@@ -420,6 +449,7 @@ impl Finder {
             proof: INFINITE,
             disproof: INFINITE,
         };
+        self.cut = 0;
         self.search(mover, most, MOST_FINDER_DEPTH, visits)
     }
 
@@ -448,6 +478,9 @@ impl Finder {
         };
         list.clear();
         let hashes = self.hashes_of_position(mover);
+        if self.shares_table() {
+            self.look_round(hashes, room, visits);
+        }
         let found = if let Some(turn) = self.list_turns_or_win(mover, &mut list) {
             self.keep_entry(hashes, WON, turn, 1);
             WON
@@ -460,6 +493,9 @@ impl Finder {
             self.search_best_children(mover, hashes, most, room, &mut list, visits)
         };
         let _ = self.lists.push(list);
+        if self.cut == room.saturating_add(1) {
+            self.cut = 0;
+        }
         found
     }
 
@@ -484,8 +520,13 @@ impl Finder {
         for _ in 0..=start {
             let choice = summary_of_children(list.as_slice());
             let numbers = choice.numbers;
+            if room < self.cut && !numbers.is_settled() {
+                if let Some(settled) = self.numbers_at_cut(hashes, room) {
+                    return settled;
+                }
+            }
             let k = match choice.best {
-                Some(k) if !self.is_done(numbers, most, visits) => k,
+                Some(k) if room >= self.cut && !self.is_done(numbers, most, visits) => k,
                 best => {
                     let work = start.saturating_sub(visits.left).saturating_add(1);
                     let turn = match best {
@@ -508,8 +549,7 @@ impl Finder {
     fn is_done(&self, numbers: ProofNumbers, most: ProofNumbers, visits: &VisitsLeft) -> bool {
         numbers.proof >= most.proof
             || numbers.disproof >= most.disproof
-            || numbers.proof == 0
-            || numbers.disproof == 0
+            || numbers.is_settled()
             || self.is_out_of_visits(visits)
     }
 
@@ -525,7 +565,7 @@ impl Finder {
     ) {
         if numbers.proof == 0 {
             let count = &mut self.wins[colour_index(mover)][index(best)];
-            *count = count.wrapping_add(1);
+            *count = count.wrapping_add(COUNT_OF_WIN);
         }
         self.keep_entry(hashes, numbers, best, work);
     }

@@ -1,6 +1,8 @@
-//! The transposition table: what is known of positions, by a key of 64 bits, two slots to a bucket.
+//! The transposition table: what is known of positions, by a key of 64 bits.
 
+use crate::finder::shared_table::SharedTable;
 use std::alloc::Global;
+use std::sync::Arc;
 use tt_game::Turn;
 use tt_sgf::{NoMemory, Point};
 
@@ -14,8 +16,8 @@ pub(crate) const INITIAL_PATH_BUCKETS: usize = 256;
 
 pub(crate) const MOST_PATH_BUCKETS: usize = 262_144;
 
-/// Stands for infinity.
-pub(crate) const INFINITE: u32 = 1_000_000_000;
+/// Stands for infinity: the greatest number of 25 bits.
+pub(crate) const INFINITE: u32 = 0x1ff_ffff;
 
 /// The number of a pass.
 pub(crate) const PASS: u16 = 511;
@@ -48,13 +50,33 @@ pub(crate) const UNKNOWN: ProofNumbers = ProofNumbers {
     disproof: 1,
 };
 
-/// What is known of a position: its numbers, how many positions were visited for them, and the best turn, by its number.
+impl ProofNumbers {
+    /// Whether a side wins.
+    #[inline(always)]
+    pub(crate) fn is_settled(&self) -> bool {
+        self.proof == 0 || self.disproof == 0
+    }
+}
+
+/// What is known of a position: its numbers, how many bits the number of positions has that were visited for them, and the best
+/// turn, by its number.
 #[derive(Clone, Copy)]
 pub(crate) struct Entry {
-    pub(crate) key: u64,
     pub(crate) numbers: ProofNumbers,
-    pub(crate) work: u32,
+    pub(crate) effort: u32,
     pub(crate) best: u16,
+}
+
+impl Entry {
+    /// What is known behind so many visits.
+    #[inline(always)]
+    pub(crate) fn new(numbers: ProofNumbers, best: u16, visits: u32) -> Entry {
+        Entry {
+            numbers,
+            effort: u32::BITS - visits.leading_zeros(),
+            best,
+        }
+    }
 }
 
 /// The turn of a number: a pass where it is no point's.
@@ -65,42 +87,10 @@ pub(crate) fn turn_of(number: u16) -> Turn {
     }
 }
 
-/// Two slots to a bucket, for the keys that end alike.
-type Bucket = [Entry; 2];
-
-/// A bucket where nothing is known.
-fn unknown_bucket() -> Bucket {
-    let nothing = Entry {
-        key: 0,
-        numbers: UNKNOWN,
-        work: 0,
-        best: NO_TURN,
-    };
-    [nothing, nothing]
-}
-
-/// How many slots of a bucket are taken.
-#[inline(always)]
-fn occupied_in_bucket(bucket: &Bucket) -> usize {
-    usize::from(bucket[0].key != 0) + usize::from(bucket[1].key != 0)
-}
-
-/// What an entry is worth: its work, and more where it is settled.
-#[inline]
-fn replacement_value(entry: &Entry) -> u32 {
-    if entry.key == 0 {
-        return 0;
-    }
-    if entry.numbers.proof == 0 || entry.numbers.disproof == 0 {
-        return entry.work.saturating_mul(4).saturating_add(9);
-    }
-    entry.work.saturating_add(1)
-}
-
-/// A table whose buckets are two to some power, 48 bytes each.
+/// A hold on a table, which grows while nobody else holds it.
 #[derive(Drop)]
 pub(crate) struct TranspositionTable {
-    buckets: Vec<Bucket>,
+    table: Arc<SharedTable>,
     taken: usize,
     most_buckets: usize,
 }
@@ -113,89 +103,94 @@ impl TranspositionTable {
         most_buckets: usize,
     ) -> Result<TranspositionTable, NoMemory> {
         Ok(TranspositionTable {
-            buckets: vec![in alloc; unknown_bucket(); buckets]?,
+            table: Arc::new(alloc, SharedTable::new(alloc, buckets)?)?,
             taken: 0,
             most_buckets,
         })
     }
 
-    /// The bucket of a key.
-    #[inline(always)]
-    fn bucket_index(&self, key: u64) -> usize {
-        key as usize & self.buckets.len().wrapping_sub(1)
+    /// A hold on a table that others hold too.
+    pub(crate) fn beside(table: &Arc<SharedTable>) -> Result<TranspositionTable, NoMemory> {
+        Ok(TranspositionTable {
+            table: Arc::try_clone(table)?,
+            taken: 0,
+            most_buckets: 0,
+        })
+    }
+
+    /// What is held.
+    pub(crate) fn shared(&self) -> &Arc<SharedTable> {
+        &self.table
     }
 
     /// Makes the table twice as large, where a quarter of its slots is taken and it may grow. Without memory for that it stays
     /// as it is.
     pub(crate) fn grow_if_needed(&mut self, alloc: Global) {
-        let buckets = self.buckets.len();
-        if self.taken <= buckets / 2 || buckets > self.most_buckets / 2 {
-            return;
+        let buckets = self.table.bucket_count();
+        if self.taken > buckets / 2 {
+            self.grow(alloc, buckets.saturating_mul(2));
         }
-        let Ok(mut larger) = TranspositionTable::new(
-            alloc,
-            buckets.saturating_mul(2),
-            self.most_buckets,
-        ) else {
-            self.most_buckets = buckets;
-            return;
-        };
-        for bucket in &self.buckets {
-            for k in 0..2 {
-                if bucket[k].key != 0 {
-                    larger.keep(bucket[k]);
-                }
+    }
+
+    /// Makes room for what so many visits find, as far as the table may grow.
+    pub(crate) fn grow_for(&mut self, alloc: Global, visits: u32) {
+        let mut buckets = self.table.bucket_count();
+        for _ in 0..u32::BITS {
+            if buckets >= visits as usize || buckets > self.most_buckets / 2 {
+                break;
             }
+            buckets = buckets.saturating_mul(2);
         }
-        *self = larger;
+        if buckets > self.table.bucket_count() {
+            self.grow(alloc, buckets);
+        }
+    }
+
+    /// Makes the table so large, a power of two, where it may be that. Without memory for that it stays as it is.
+    fn grow(&mut self, alloc: Global, buckets: usize) {
+        if buckets > self.most_buckets {
+            return;
+        }
+        match larger_table(alloc, &self.table, buckets) {
+            Ok(table) => self.table = table,
+            Err(NoMemory) => self.most_buckets = 0,
+        }
     }
 
     /// Forgets all.
     pub(crate) fn clear(&mut self) {
-        for bucket in &mut self.buckets {
-            *bucket = unknown_bucket();
-        }
+        self.table.clear();
         self.taken = 0;
     }
 
     /// Some bits of both ends of a key's bucket.
     #[inline(always)]
     pub(crate) fn bits_of_bucket(&self, key: u64) -> u64 {
-        match self.buckets.get(self.bucket_index(key)) {
-            Some(bucket) => bucket[0].key ^ u64::from(bucket[1].best),
-            None => 0,
-        }
+        self.table.bits_of_bucket(key)
     }
 
     /// What is known under a key.
-    #[inline]
+    #[inline(always)]
     pub(crate) fn find(&self, key: u64) -> Option<Entry> {
-        let bucket = self.buckets.get(self.bucket_index(key))?;
-        if bucket[0].key == key {
-            return Some(bucket[0]);
-        }
-        if bucket[1].key == key {
-            return Some(bucket[1]);
-        }
-        None
+        self.table.find(key)
     }
 
-    /// Keeps an entry: in the slot of what was known under its key, else in the slot that is worth least.
+    /// Keeps what is known under a key.
     #[inline]
-    pub(crate) fn keep(&mut self, entry: Entry) {
-        let bucket = self.bucket_index(entry.key);
-        let Some(bucket) = self.buckets.get_mut(bucket) else {
-            return;
-        };
-        let before = occupied_in_bucket(bucket);
-        let is_second = bucket[1].key == entry.key
-            || replacement_value(&bucket[1]) <= replacement_value(&bucket[0]);
-        if bucket[0].key != entry.key && is_second {
-            bucket[1] = entry;
-        } else {
-            bucket[0] = entry;
+    pub(crate) fn keep(&mut self, key: u64, entry: &Entry) {
+        if self.table.keep(key, entry) {
+            self.taken = self.taken.saturating_add(1);
         }
-        let more = occupied_in_bucket(bucket).saturating_sub(before);
-        self.taken = self.taken.saturating_add(more);
     }
+}
+
+/// A table of so many buckets with all that another has.
+fn larger_table(
+    alloc: Global,
+    table: &SharedTable,
+    buckets: usize,
+) -> Result<Arc<SharedTable>, NoMemory> {
+    let larger = SharedTable::new(alloc, buckets)?;
+    larger.keep_all_of(table);
+    Ok(Arc::new(alloc, larger)?)
 }

@@ -1,0 +1,209 @@
+//! A table of positions by keys of 64 bits that threads share without a lock.
+//!
+//! An entry is two words: its key xor the second word, and the second word (R. Hyatt, T. Mann, "A Lockless Transposition Table
+//! Implementation for Parallel Search", 2002). Where two threads write one entry at once, the words of two entries may stand there:
+//! their key is another, so nothing is known by them.
+
+use crate::finder::transpositions::{Entry, INFINITE, NO_TURN, ProofNumbers, UNKNOWN};
+use std::alloc::Global;
+use std::sync::atomic::{AtomicBool, AtomicU64, Ordering};
+use tt_sgf::NoMemory;
+
+/// The words of an entry: the key xor the second word, and the second word.
+#[derive(Drop)]
+struct Slot {
+    tag: AtomicU64,
+    data: AtomicU64,
+}
+
+/// Two slots to a bucket, for the keys that end alike.
+type Bucket = [Slot; 2];
+
+/// The bits of a number.
+const NUMBER_MASK: u64 = 0x1ff_ffff;
+
+/// What an empty slot says, with the key 0.
+const NOTHING: Entry = Entry {
+    numbers: UNKNOWN,
+    effort: 0,
+    best: NO_TURN,
+};
+
+/// The second word of an entry: its numbers of 25 bits each, the best turn of 9, and the effort of 5.
+#[inline(always)]
+fn packed(entry: &Entry) -> u64 {
+    let proof = u64::from(entry.numbers.proof.min(INFINITE));
+    let disproof = u64::from(entry.numbers.disproof.min(INFINITE));
+    let best = u64::from(entry.best & 511);
+    proof | disproof << 25 | best << 50 | u64::from(entry.effort) << 59
+}
+
+/// The entry whose second word this is.
+#[inline(always)]
+fn unpacked(data: u64) -> Entry {
+    Entry {
+        numbers: ProofNumbers {
+            proof: (data & NUMBER_MASK) as u32,
+            disproof: (data >> 25 & NUMBER_MASK) as u32,
+        },
+        effort: (data >> 59) as u32,
+        best: (data >> 50 & 511) as u16,
+    }
+}
+
+/// What a slot is worth: the effort, and more where it is settled.
+#[inline(always)]
+fn replacement_value(key: u64, data: u64) -> u32 {
+    if key == 0 {
+        return 0;
+    }
+    let entry = unpacked(data);
+    if entry.numbers.is_settled() {
+        entry.effort.saturating_add(3)
+    } else {
+        entry.effort
+    }
+}
+
+impl Slot {
+    /// A slot with nothing in it.
+    fn empty() -> Slot {
+        let data = packed(&NOTHING);
+        Slot {
+            tag: AtomicU64::new(data),
+            data: AtomicU64::new(data),
+        }
+    }
+
+    /// The key and the second word.
+    #[inline(always)]
+    fn words(&self) -> (u64, u64) {
+        let tag = self.tag.load(Ordering::Relaxed);
+        let data = self.data.load(Ordering::Relaxed);
+        (tag ^ data, data)
+    }
+
+    #[inline(always)]
+    fn put(&self, key: u64, data: u64) {
+        self.tag.store(key ^ data, Ordering::Relaxed);
+        self.data.store(data, Ordering::Relaxed);
+    }
+}
+
+/// A table of a fixed number of buckets, two to some power, 32 bytes each.
+#[derive(Drop)]
+pub(crate) struct SharedTable {
+    buckets: Vec<Bucket>,
+    has_ended: AtomicBool,
+}
+
+impl SharedTable {
+    /// An empty table of so many buckets, a power of two.
+    pub(crate) fn new(alloc: Global, count: usize) -> Result<SharedTable, NoMemory> {
+        let mut buckets = Vec::with_capacity(alloc, count)?;
+        for _ in 0..count {
+            buckets.push([Slot::empty(), Slot::empty()])?;
+        }
+        Ok(SharedTable {
+            buckets,
+            has_ended: AtomicBool::new(false),
+        })
+    }
+
+    /// How many buckets it has.
+    #[inline(always)]
+    pub(crate) fn bucket_count(&self) -> usize {
+        self.buckets.len()
+    }
+
+    /// The bucket of a key.
+    #[inline(always)]
+    fn bucket(&self, key: u64) -> Option<&Bucket> {
+        self.buckets
+            .get(key as usize & self.buckets.len().wrapping_sub(1))
+    }
+
+    /// Keeps all that another table has.
+    pub(crate) fn keep_all_of(&self, other: &SharedTable) {
+        for bucket in &other.buckets {
+            for k in 0..2 {
+                let (key, data) = bucket[k].words();
+                if key != 0 {
+                    self.keep_word(key, data);
+                }
+            }
+        }
+    }
+
+    /// Forgets all.
+    pub(crate) fn clear(&self) {
+        let data = packed(&NOTHING);
+        for bucket in &self.buckets {
+            for k in 0..2 {
+                bucket[k].put(0, data);
+            }
+        }
+    }
+
+    /// Some bits of both ends of a key's bucket.
+    #[inline(always)]
+    pub(crate) fn bits_of_bucket(&self, key: u64) -> u64 {
+        match self.bucket(key) {
+            Some(bucket) => {
+                bucket[0].tag.load(Ordering::Relaxed) ^ bucket[1].data.load(Ordering::Relaxed)
+            }
+            None => 0,
+        }
+    }
+
+    /// What is known under a key.
+    #[inline(always)]
+    pub(crate) fn find(&self, key: u64) -> Option<Entry> {
+        let bucket = self.bucket(key)?;
+        let (first, data) = bucket[0].words();
+        if first == key {
+            return Some(unpacked(data));
+        }
+        let (second, data) = bucket[1].words();
+        if second == key {
+            return Some(unpacked(data));
+        }
+        None
+    }
+
+    /// Keeps an entry: in the slot of what was known under its key, else in the slot that is worth least. Whether that was empty.
+    #[inline]
+    pub(crate) fn keep(&self, key: u64, entry: &Entry) -> bool {
+        self.keep_word(key, packed(entry))
+    }
+
+    /// The same, for an entry's second word.
+    #[inline(always)]
+    fn keep_word(&self, key: u64, data: u64) -> bool {
+        let Some(bucket) = self.bucket(key) else {
+            return false;
+        };
+        let (first, first_data) = bucket[0].words();
+        let (second, second_data) = bucket[1].words();
+        let is_second = first != key
+            && (second == key
+                || replacement_value(second, second_data) <= replacement_value(first, first_data));
+        if is_second {
+            bucket[1].put(key, data);
+            second == 0
+        } else {
+            bucket[0].put(key, data);
+            first == 0
+        }
+    }
+
+    /// Says whether the searches over the table are to end.
+    pub(crate) fn set_ended(&self, ended: bool) {
+        self.has_ended.store(ended, Ordering::Relaxed);
+    }
+
+    /// Whether the searches over the table are to end.
+    pub(crate) fn has_ended(&self) -> bool {
+        self.has_ended.load(Ordering::Relaxed)
+    }
+}

@@ -1,0 +1,182 @@
+//! Several workers at one problem: each searches it from the start with a finder of its own, over one table of positions. What one
+//! settled is settled for all.
+
+ghost use Rattle.std.specs.Prelude.{◌≡◌, ◌≤◌, IfOk};
+
+use crate::advice::VisitsLeft;
+use crate::finder::search::{COUNT_OF_WIN, Finder, Hashes, MOST_FINDER_DEPTH, NO_HASHES, Wins};
+use crate::finder::shared_table::SharedTable;
+use crate::finder::transpositions::{ProofNumbers, TranspositionTable};
+use crate::finder::zobrist::mixed;
+use std::alloc::Global;
+use std::sync::Arc;
+use tt_game::{Line, Side};
+use tt_sgf::NoMemory;
+
+/// After so many visits a worker looks round for what the others did.
+const VISITS_BETWEEN_LOOKS: u32 = 256;
+
+/// A search of a line's problem, which workers share: each calls `search_winner`, in a thread of its own.
+#[derive(Drop)]
+pub struct SharedSearch<'a> {
+    alloc: Global,
+    line: &'a Line,
+    table: Arc<SharedTable>,
+    wins: Wins,
+    prunes: bool,
+}
+
+/// What a worker found: who wins, if it knows, how many positions it visited, and how often each turn won.
+#[derive(Clone, Copy)]
+pub struct Finding {
+    pub winner: Option<Side>,
+    pub visited: u32,
+    pub(crate) wins: Wins,
+}
+
+/// Who wins by the numbers of a position where a side is to move.
+pub(crate) fn winner_by_numbers(numbers: ProofNumbers, mover: Side) -> Option<Side> {
+    if numbers.proof == 0 {
+        return Some(mover);
+    }
+    if numbers.disproof == 0 {
+        return Some(mover.opponent());
+    }
+    None
+}
+
+/// The counts of wins that the worker of a number begins with, by the first worker's: what breaks ties is its own.
+fn wins_of_worker(wins: &Wins, worker: u32) -> Wins {
+    let mut counts = *wins;
+    for colour in 0..2 {
+        for turn in 0..512usize {
+            let seed = (turn as u64).wrapping_mul(0x9e37_79b9_7f4a_7c15) ^ u64::from(worker);
+            let tie = (mixed(seed) % u64::from(COUNT_OF_WIN)) as u32;
+            counts[colour][turn] = counts[colour][turn].wrapping_add(tie);
+        }
+    }
+    counts
+}
+
+impl<'a> SharedSearch<'a> {
+    /// A search of a line's problem that goes on from what a finder knows. The table has room for what so many visits find, where it
+    /// may be so large.
+    pub(crate) fn of(
+        finder: &mut Finder,
+        line: &'a Line,
+        visits: u32,
+    ) -> Result<SharedSearch<'a>, NoMemory> {
+        finder.main_table.grow_for(finder.alloc, visits);
+        finder.main_table.shared().set_ended(false);
+        Ok(SharedSearch {
+            alloc: finder.alloc,
+            line,
+            table: Arc::try_clone(finder.main_table.shared())?,
+            wins: finder.wins,
+            prunes: finder.prunes,
+        })
+    }
+
+    /// What the worker of a number finds within so many visits: nothing where it has no memory. The first that settles the problem ends
+    /// the searches of all.
+    pub fn search_winner(&self, worker: u32, most: u32) -> Finding
+        ensures { result.visited ≤ most }
+    {
+        match self.search_with_memory(worker, most) {
+            Ok(finding) => finding,
+            Err(NoMemory) => Finding {
+                winner: None,
+                visited: 0,
+                wins: self.wins,
+            },
+        }
+    }
+
+    /// The same, or that there is no memory.
+    fn search_with_memory(&self, worker: u32, most: u32) -> Result<Finding, NoMemory>
+        ensures { IfOk result (λ f. f.visited ≤ most) }
+    {
+        let mut finder = Finder::of_worker(self.alloc, self.line, &self.table, &self.wins, worker)?;
+        finder.prunes = self.prunes;
+        let mover = self.line.to_move();
+        let colour = finder.colour_of_side(mover);
+        let mut visits = VisitsLeft { left: most };
+        let numbers = finder.search_from_board(colour, u32::MAX, &mut visits);
+        let winner = winner_by_numbers(numbers, mover);
+        if winner.is_some() {
+            self.table.set_ended(true);
+        }
+        Ok(Finding {
+            winner,
+            visited: most - visits.left,
+            wins: finder.wins,
+        })
+    }
+}
+
+impl Finder {
+    /// The finder of a worker of a number over a table that others hold too. It begins with the counts of wins of another.
+    fn of_worker(
+        alloc: Global,
+        line: &Line,
+        table: &Arc<SharedTable>,
+        wins: &Wins,
+        worker: u32,
+    ) -> Result<Finder, NoMemory> {
+        let mut finder = Finder::over(alloc, line, TranspositionTable::beside(table)?)?;
+        finder.path = vec![in alloc; NO_HASHES; usize::from(MOST_FINDER_DEPTH) + 1]?;
+        finder.wins = if worker == 0 {
+            *wins
+        } else {
+            wins_of_worker(wins, worker)
+        };
+        Ok(finder)
+    }
+
+    /// Notes where the search is, and looks round from time to time: whether it is to end, and whether another worker settled a
+    /// position on the way here.
+    #[inline(never)]
+    pub(crate) fn look_round(&mut self, hashes: Hashes, room: u16, visits: &VisitsLeft) {
+        if let Some(place) = self.path.get_mut(usize::from(room)) {
+            *place = hashes;
+        }
+        if visits.left % VISITS_BETWEEN_LOOKS != 0 {
+            return;
+        }
+        if self.main_table.shared().has_ended() {
+            self.stop_search();
+        }
+        if self.cut > 0 {
+            return;
+        }
+        for above in (room..=MOST_FINDER_DEPTH).rev() {
+            let Some(hashes) = self.path.get(usize::from(above)) else {
+                return;
+            };
+            if self.settled_numbers(*hashes).is_some() {
+                self.cut = above.saturating_add(1);
+                return;
+            }
+        }
+    }
+
+    /// The numbers of a position that is known to be settled.
+    fn settled_numbers(&self, hashes: Hashes) -> Option<ProofNumbers> {
+        let entry = self.find_entry(hashes)?;
+        if entry.numbers.is_settled() {
+            Some(entry.numbers)
+        } else {
+            None
+        }
+    }
+
+    /// What another worker found of the position with this room, where that is what the search goes back to.
+    #[inline(never)]
+    pub(crate) fn numbers_at_cut(&mut self, hashes: Hashes, room: u16) -> Option<ProofNumbers> {
+        if self.cut != room.saturating_add(1) {
+            return None;
+        }
+        self.cut = 0;
+        self.settled_numbers(hashes)
+    }
+}
