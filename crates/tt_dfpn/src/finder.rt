@@ -6,6 +6,7 @@
 mod advisor;
 mod board;
 mod hash_history;
+mod known_lives;
 mod life;
 mod region;
 mod search;

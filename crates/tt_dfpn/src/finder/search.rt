@@ -195,7 +195,7 @@ impl Finder {
             path_table: TranspositionTable::new(alloc, INITIAL_PATH_BUCKETS, MOST_PATH_BUCKETS)?,
             has_path_table: false,
             wins: [[0; 512]; 2],
-            life: Life::none(),
+            life: Life::none(alloc)?,
             bits_read_ahead: 0,
             lists: Vec::new(alloc),
             prunes: true,
@@ -242,7 +242,13 @@ impl Finder {
     /// Keeps what is known of a position: as its line's own, where that has an entry. Numbers that settle nothing never replace what
     /// another worker settled.
     #[inline]
-    fn keep_entry(&mut self, hashes: Hashes, numbers: ProofNumbers, best: u16, work: u32) {
+    pub(crate) fn keep_entry(
+        &mut self,
+        hashes: Hashes,
+        numbers: ProofNumbers,
+        best: u16,
+        work: u32,
+    ) {
         if self.has_path_table && self.path_table.find(hashes.line).is_some() {
             let entry = Entry::new(numbers, best, work);
             self.path_table.keep(hashes.line, &entry);
@@ -397,28 +403,13 @@ impl Finder {
         None
     }
 
-    /// Whether the attacker moves at a position that wasn't searched yet.
-    fn is_new_attack(&self, mover: Colour, hashes: Hashes) -> bool {
-        if mover == self.region.defender {
-            return false;
-        }
+    /// Whether a position wasn't searched yet.
+    #[inline(always)]
+    pub(crate) fn is_new(&self, hashes: Hashes) -> bool {
         match self.find_entry(hashes) {
             Some(entry) => entry.best == NO_TURN,
             None => true,
         }
-    }
-
-    /// Whether the attacker's position that wasn't searched yet is lost, as the targets live unconditionally. Else its turns are
-    /// refuted that leave the defender a life at once. It isn't inlined, so that its sets of points take no stack at each level.
-    #[inline(never)]
-    fn is_hopeless_or_threatened(&mut self, attacker: Colour, list: &mut Vec<Child>) -> bool {
-        if self.are_targets_alive() {
-            return true;
-        }
-        if self.prunes {
-            self.refute_by_threats(attacker, list);
-        }
-        false
     }
 
     /// Ends the search that runs, where it has no memory.
@@ -481,15 +472,13 @@ impl Finder {
         if self.shares_table() {
             self.look_round(hashes, room, visits);
         }
-        let found = if let Some(turn) = self.list_turns_or_win(mover, &mut list) {
+        let found = if let Some(numbers) = self.settle_by_life(mover, hashes) {
+            numbers
+        } else if let Some(turn) = self.list_turns_or_win(mover, &mut list) {
             self.keep_entry(hashes, WON, turn, 1);
             WON
-        } else if self.is_new_attack(mover, hashes)
-            && self.is_hopeless_or_threatened(mover, &mut list)
-        {
-            self.keep_entry(hashes, LOST, NO_TURN, 1);
-            LOST
         } else {
+            self.refute_by_threats(mover, hashes, &mut list);
             self.search_best_children(mover, hashes, most, room, &mut list, visits)
         };
         let _ = self.lists.push(list);

@@ -1,0 +1,47 @@
+//! What is known of unconditional life, by the key of all that it depends on.
+
+use std::alloc::Global;
+use tt_sgf::NoMemory;
+
+/// How many are kept at most: 128 KB of them, which stay in the cache. Four times as many took as long.
+const MOST_KNOWN: usize = 16_384;
+
+// The last two bits of a word: whether something is known, and whether the targets live.
+const IS_KNOWN: u64 = 2;
+
+const IS_ALIVE: u64 = 1;
+
+/// A word stands at the index that its key's upper 14 bits are, and is the key but for the last two bits. It's the last that was kept
+/// there.
+#[derive(Drop)]
+pub(crate) struct KnownLives {
+    words: Vec<u64>,
+}
+
+impl KnownLives {
+    /// Nothing is known yet.
+    pub(crate) fn none(alloc: Global) -> Result<KnownLives, NoMemory> {
+        Ok(KnownLives {
+            words: vec![in alloc; 0u64; MOST_KNOWN]?,
+        })
+    }
+
+    /// Whether the targets live, where that is known.
+    #[inline(always)]
+    pub(crate) fn find(&self, key: u64) -> Option<bool> {
+        let word = *self.words.get((key >> 50) as usize)?;
+        if (word ^ key) | 3 == 3 && word & IS_KNOWN != 0 {
+            Some(word & IS_ALIVE != 0)
+        } else {
+            None
+        }
+    }
+
+    /// Keeps whether the targets live.
+    #[inline(always)]
+    pub(crate) fn keep(&mut self, key: u64, lives: bool) {
+        if let Some(word) = self.words.get_mut((key >> 50) as usize) {
+            *word = key & !3 | IS_KNOWN | u64::from(lives);
+        }
+    }
+}
