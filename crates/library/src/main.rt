@@ -4,27 +4,36 @@
 
 mod solving;
 
-use solving::{certificate, find_proof_at, is_valid_certificate};
+ghost use Rattle.std.specs.Prelude.{◌≡◌, IfSome, None};
+ghost use Rattle.tt_game.specs.Game.{winner_of};
+ghost use Rattle.tt_game.specs.GameLaws.{IsWellFormedState};
+
+use solving::{certificate, is_valid_certificate};
 use std::alloc::Global;
 use std::io::{self, Read, Write};
 use std::process::ExitCode;
 use tt_game::{Line, problem};
-use tt_sgf::read_tree;
+use tt_sgf::{ItemList, MainLine, read_tree};
 
 /// Bytes of standard input that are looked at.
 const MOST_INPUT_BYTES: usize = 65_536;
 
-/// The line of the first problem of an input.
-fn read_problem(alloc: Global, input: &[u8]) -> Option<Line> {
-    let (main, _) = read_tree(alloc, input).ok()?;
-    problem(alloc, &main).ok()
+/// The line of the problem that a main line is.
+fn problem_line(alloc: Global, main: &MainLine) -> Option<Line>
+    ensures open { IfSome result (λ line. winner_of line.frame line.state ≡ None) }
+    ensures state { IfSome result (λ line. IsWellFormedState line.frame line.state) }
+{
+    match problem(alloc, main) {
+        Ok(line) => Some(line),
+        Err(_) => None,
+    }
 }
 
 /// The certificate of the first problem of an input, where a proof is found for it.
-fn solve_and_check(alloc: Global, input: &[u8]) -> Option<Vec<u8>> {
-    let mut line = read_problem(alloc, input)?;
-    let proof = find_proof_at(alloc, &line)?;
-    let text = certificate(alloc, &line, &proof).ok()?;
+fn solve_and_check(alloc: Global, input: &[u8]) -> Option<ItemList<u8>> {
+    let (main, bytes) = read_tree(alloc, input).ok()?;
+    let mut line = problem_line(alloc, &main)?;
+    let text = certificate(alloc, &line, bytes)?;
     if is_valid_certificate(alloc, &mut line, text.as_slice()).ok()? {
         return Some(text);
     }

@@ -9,7 +9,7 @@ use Rattle.tt_dfpn.specs.declared.attempts.TheConstants.{MOST_POSITIONS}
 use Rattle.tt_proof.specs.declared.tree.TheConstants.{MOST_DEPTH}
 use Rattle.tt_search.specs.declared.limits.TheConstants.{MOST_EXPANDED}
 use Rattle.tt_share.specs.declared.capacity.TheConstants.{MOST_WORKERS}
-use Rattle.tt_text.specs.declared.options.TheConstants.{MOST_TOTAL}
+use Rattle.tt_solve.specs.declared.options.TheConstants.{MOST_TOTAL}
 use Rattle.tsumego.specs.declared.request.Command.{Command}
 use Rattle.tsumego.specs.declared.request.Command.TheVariants.{Score, Check, CheckParts, Solve}
 

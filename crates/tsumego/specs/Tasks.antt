@@ -1,8 +1,8 @@
 -- What a command does with each game tree of its input.
 use Rattle.std.specs.Prelude.{◌≡◌, Bool, true, false, List, Option, None, Some}
 use Rattle.tt_sgf.specs.declared.nodes.Node.{Node}
-use Rattle.tt_text.specs.declared.options.CertKind.{CertKind}
-use Rattle.tt_text.specs.declared.options.CertKind.TheVariants.{Unasked, Plain, Shared}
+use Rattle.tt_solve.specs.declared.options.CertKind.{CertKind}
+use Rattle.tt_solve.specs.declared.options.CertKind.TheVariants.{Unasked, Plain, Shared}
 use Rattle.tt_text.specs.declared.outcome.TreeOutcome.{TreeOutcome}
 use Rattle.tt_text.specs.Scoring.{Scores}
 use Rattle.tt_text.specs.Solving.{Solves}

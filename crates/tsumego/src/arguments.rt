@@ -13,7 +13,7 @@ use tt_dfpn::MOST_POSITIONS;
 use tt_proof::MOST_DEPTH;
 use tt_search::{Limits, MOST_EXPANDED};
 use tt_share::MOST_WORKERS;
-use tt_text::MOST_TOTAL;
+use tt_solve::MOST_TOTAL;
 
 /// Why a command line was refused: the parser's text, empty where memory was refused or the words couldn't be read.
 #[derive(Debug, Drop)]

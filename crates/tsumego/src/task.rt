@@ -10,7 +10,8 @@ use std::alloc::Global;
 use std::sync::Wait;
 use std::thread::Threads;
 use tt_sgf::{MainLine, NoMemory};
-use tt_text::{CertKind, Options, TreeOutcome, score, solve};
+use tt_solve::{CertKind, Options};
+use tt_text::{TreeOutcome, score, solve};
 
 /// What is done with each tree of an input: it is scored as a record or solved as a problem.
 #[derive(Clone, Copy, Debug)]

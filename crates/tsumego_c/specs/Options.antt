@@ -3,10 +3,10 @@ use Rattle.std.specs.Prelude.{◌≡◌, ◌≤◌, ℕ, zero, suc, false, List,
 use Rattle.tt_dfpn.specs.declared.attempts.TheConstants.{MOST_POSITIONS}
 use Rattle.tt_proof.specs.declared.tree.TheConstants.{MOST_DEPTH}
 use Rattle.tt_search.specs.declared.limits.TheConstants.{MOST_EXPANDED}
-use Rattle.tt_text.specs.declared.options.CertKind.{CertKind}
-use Rattle.tt_text.specs.declared.options.CertKind.TheVariants.{Plain, Shared, Unasked}
-use Rattle.tt_text.specs.declared.options.Options.{Options}
-use Rattle.tt_text.specs.declared.options.TheConstants.{MOST_TOTAL}
+use Rattle.tt_solve.specs.declared.options.CertKind.{CertKind}
+use Rattle.tt_solve.specs.declared.options.CertKind.TheVariants.{Plain, Shared, Unasked}
+use Rattle.tt_solve.specs.declared.options.Options.{Options}
+use Rattle.tt_solve.specs.declared.options.TheConstants.{MOST_TOTAL}
 use Rattle.tt_text.specs.Solving.{Solves}
 use Rattle.tsumego_c.specs.declared.call_options.CallOptions.{CallOptions}
 use Rattle.tsumego_c.specs.declared.call_options.TheConstants.{SHARED_CERT}

@@ -6,7 +6,7 @@ ghost use Rattle.tsumego_c.specs.Options.{MeansOptions, AreInRange, cert_kind_nu
 
 use tt_dfpn::MOST_POSITIONS;
 use tt_search::Limits;
-use tt_text::{CertKind, MOST_TOTAL, Options};
+use tt_solve::{CertKind, MOST_TOTAL, Options};
 
 /// The number that asks for a certificate with shared parts.
 pub const SHARED_CERT: u32 = 2;

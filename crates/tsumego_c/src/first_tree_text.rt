@@ -7,10 +7,10 @@ ghost use Rattle.tt_text.specs.Trees.{outcome_line, status_of};
 ghost use Rattle.tsumego_c.specs.First.{IsFirstTreeOutcome, IsFirstTreeText};
 
 use crate::caller_buffer::TextAndStatus;
-use crate::in_caller_thread::solve;
 use std::alloc::Global;
 use tt_sgf::{NoMemory, SgfFault, read_tree};
-use tt_text::{Options, TreeOutcome, check_input, line, score};
+use tt_solve::Options;
+use tt_text::{TreeOutcome, check_input, line, score, solve_alone};
 
 /// What becomes of the first tree as a record.
 fn score_first_tree(alloc: Global, sgf: &[u8]) -> Result<TreeOutcome, NoMemory>
@@ -30,7 +30,7 @@ fn solve_first_tree(alloc: Global, sgf: &[u8], options: Options) -> Result<TreeO
     ensures { IfOk result (IsFirstTreeOutcome (Solves options) sgf.now) }
 {
     match read_tree(alloc, sgf) {
-        Ok((main, used)) => solve(alloc, &main, options, used),
+        Ok((main, used)) => solve_alone(alloc, &main, options, used),
         Err(SgfFault::Syntax) => Ok(TreeOutcome::Refused(1)),
         Err(SgfFault::TooLong) => Ok(TreeOutcome::Refused(2)),
         Err(SgfFault::NoMemory) => Err(NoMemory),

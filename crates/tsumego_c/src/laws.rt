@@ -1,5 +1,5 @@
 //! What the line on the first tree is to a run of the program. A function that does nothing, whose contract is the law.
-ghost use Rattle.tt_text.specs.declared.options.Options.{Options};
+ghost use Rattle.tt_solve.specs.declared.options.Options.{Options};
 ghost use Rattle.tt_text.specs.Scoring.{Scores};
 ghost use Rattle.tt_text.specs.Solving.{Solves};
 ghost use Rattle.tsumego_c.specs.First.{FirstTextIsWholeText};

@@ -4,7 +4,7 @@
 //! | Module | What it has |
 //! |---|---|
 //! | `call_options` | the options of a call |
-//! | `first_tree_text`, `in_caller_thread` | the answer for the first tree of an input, without threads |
+//! | `first_tree_text` | the answer for the first tree of an input, without threads |
 //! | `caller_buffer` | hands a text to the caller |
 //! | `laws` | the answer is that of a run of the program |
 #![tactic(auto)]
@@ -12,7 +12,6 @@
 mod call_options;
 mod caller_buffer;
 mod first_tree_text;
-mod in_caller_thread;
 pub mod laws;
 
 ghost use Rattle.std.specs.Prelude.{◌≡◌, ◌≢◌};

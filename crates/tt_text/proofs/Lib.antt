@@ -1,6 +1,7 @@
 pub mod CheckedLines
 pub mod Checks
 pub mod LinesOfTexts
+pub mod OnBoard
 pub mod OneCheck
 pub mod OneText
 pub mod OutcomeLines
@@ -8,7 +9,4 @@ pub mod OutputBlocks
 pub mod OutputLines
 pub mod ScoredLines
 pub mod SolvedLines
-pub mod Totals
-pub mod Turns
 pub mod Values
-pub mod Verdicts

@@ -17,9 +17,11 @@ use Rattle.tt_proof.specs.Strategy.{Strategy, Entries, done, pick, reply, none, 
 use Rattle.tt_search.specs.declared.limits.Limits.{Limits}
 use Rattle.tt_search.specs.declared.limits.Reason.{Reason}
 use Rattle.tt_search.specs.declared.limits.Reason.TheVariants.{Budget, Depth, Total, Memory}
-use Rattle.tt_text.specs.declared.options.CertKind.{CertKind}
-use Rattle.tt_text.specs.declared.options.CertKind.TheVariants.{Unasked, Plain, Shared}
-use Rattle.tt_text.specs.Solving.{AreTurnLines, CertificateFollowsIfAsked, TurnLinesFollowIfAsked, first_turn_text, reason_word, total_left, turn_value_line, value_text}
+use Rattle.tt_solve.specs.declared.options.CertKind.{CertKind}
+use Rattle.tt_solve.specs.declared.options.CertKind.TheVariants.{Unasked, Plain, Shared}
+use Rattle.tt_solve.specs.Solutions.{AreTurnValues, AreTurnValuesAsked, IsCertificateAsked}
+use Rattle.tt_solve.specs.Totals.{total_left}
+use Rattle.tt_text.specs.Solving.{certificate_line, first_turn_text, reason_word, turn_value_line, turn_value_lines, value_text}
 use Rattle.tt_text.specs.OtherLines.{SaysBelow, certificate, shared_certificate, turn_and_value}
 use Rattle.tt_text.proofs.OutputLines.{EachHasNoDigitInFront, EachHasNoNewline, HasNoDigitInFront, HasNoNewline, above_newline, decimal_in_line, no_newline_in_both, text_of_lines}
 
@@ -111,21 +113,22 @@ none_below Says text e = record { lines = []; text_is = e; in_line = tt; no_digi
 one_below : (Says : List ℕ → Type 0) (line text : List ℕ) → text ≡ line ++ newline ∷ [] → HasNoNewline line → HasNoDigitInFront line → Says line → LinesBelow Says text
 one_below Says line text e h n is = record { lines = line ∷ []; text_is = e; in_line = (h, tt); no_digit = (n, tt); says = All-cons Says line [] is (All-nil Says) }
 
-pub certificate_below : (p : LineWithUndo) (limits : Limits) (side : Side) (first : Option Turn) (cert : CertKind) (text : List ℕ)
-    → CertificateFollowsIfAsked p limits side first cert text → LinesBelow (SaysBelow p limits) text
-certificate_below p limits side first Unasked text e = none_below (SaysBelow p limits) text e
-certificate_below p limits side first Plain text h =
-    let is = h.1.is in
-    one_below (SaysBelow p limits) h.0 text h.2
-    (subst HasNoNewline (sym is.text) (behind_side side (tree_text p.frame.size h.1.strategy) (tree_in_line p.frame.size h.1.strategy)))
-    (subst HasNoDigitInFront (sym is.text) (no_digit_before side (tree_text p.frame.size h.1.strategy)))
-    (certificate side first h.0 h.1)
-certificate_below p limits side first Shared text h =
-    let is = h.1.is in
-    one_below (SaysBelow p limits) h.0 text h.2
-    (subst HasNoNewline (sym is.text) (behind_side side (outline_text p.frame.size h.1.outline) (outline_in_line p.frame.size [] h.1.outline is.closed)))
-    (subst HasNoDigitInFront (sym is.text) (no_digit_before side (outline_text p.frame.size h.1.outline)))
-    (shared_certificate side first h.0 h.1)
+pub certificate_below : (p : LineWithUndo) (limits : Limits) (side : Side) (first : Option Turn) (cert : CertKind) (c : Option (List ℕ))
+    → IsCertificateAsked p limits side first cert c → LinesBelow (SaysBelow p limits) (certificate_line c)
+certificate_below p limits side first Unasked None h = none_below (SaysBelow p limits) [] refl
+certificate_below p limits side first Unasked (Some bytes) h = absurd h
+certificate_below p limits side first Plain None h = absurd h
+certificate_below p limits side first Plain (Some bytes) h =
+    one_below (SaysBelow p limits) bytes (bytes ++ newline ∷ []) refl
+    (subst HasNoNewline (sym h.is.text) (behind_side side (tree_text p.frame.size h.strategy) (tree_in_line p.frame.size h.strategy)))
+    (subst HasNoDigitInFront (sym h.is.text) (no_digit_before side (tree_text p.frame.size h.strategy)))
+    (certificate side first bytes h)
+certificate_below p limits side first Shared None h = absurd h
+certificate_below p limits side first Shared (Some bytes) h =
+    one_below (SaysBelow p limits) bytes (bytes ++ newline ∷ []) refl
+    (subst HasNoNewline (sym h.is.text) (behind_side side (outline_text p.frame.size h.outline) (outline_in_line p.frame.size [] h.outline h.is.closed)))
+    (subst HasNoDigitInFront (sym h.is.text) (no_digit_before side (outline_text p.frame.size h.outline)))
+    (shared_certificate side first bytes h)
 
 -- ---- turns
 
@@ -175,21 +178,23 @@ words_in_line : (size : Size) (t : Turn) (value : Result Side Reason) → HasNoN
 words_in_line size t value =
     (above_newline 21, (above_newline 21, no_newline_in_both (readable_turn_text size t) (space ∷ value_words value) (readable_in_line size t) (above_newline 21, value_in_line value)))
 
-pub turns_below : (p : LineWithUndo) (limits : Limits) (total left : Option ℕ) (ts : List Turn) (text : List ℕ) → EachIsLegal p.frame p.state ts
-    → AreTurnLines p limits total left ts text → LinesBelow (SaysBelow p limits) text
-turns_below p limits total left [] text legal h = none_below (SaysBelow p limits) text h.1
-turns_below p limits total left (t ∷ ts) text legal h =
+pub turns_below : (p : LineWithUndo) (limits : Limits) (total left : Option ℕ) (ts : List Turn) (values : List (Turn × Result Side Reason)) → EachIsLegal p.frame p.state ts
+    → AreTurnValues p limits total left ts values → LinesBelow (SaysBelow p limits) (turn_value_lines p.frame.size values)
+turns_below p limits total left [] values legal h = none_below (SaysBelow p limits) _ (ap (turn_value_lines p.frame.size) h.1)
+turns_below p limits total left (t ∷ ts) values legal h =
     let size = p.frame.size in
     let words = turn_words size t h.1 in
+    let rest = turn_value_lines size h.2 in
     let more = turns_below p limits (total_left total h.0) left ts h.2 legal.1 h.5 in record {
       lines = words ∷ more.lines;
-      text_is = h.4 ∙ ap (λ (x : List ℕ). x ++ h.2) (turn_ends size t h.1) ∙ append_assoc words (newline ∷ []) h.2 ∙ ap (λ (x : List ℕ). words ++ (newline ∷ x)) more.text_is;
+      text_is = ap (turn_value_lines size) h.4 ∙ ap (λ (x : List ℕ). x ++ rest) (turn_ends size t h.1) ∙ append_assoc words (newline ∷ []) rest
+          ∙ ap (λ (x : List ℕ). words ++ (newline ∷ x)) more.text_is;
       in_line = (words_in_line size t h.1, more.in_line);
       no_digit = ((λ d. omega (arith, d.0)), more.no_digit);
       says = All-cons (SaysBelow p limits) words more.lines (turn_and_value t h.1 words total legal.0 h.3.within (sym (turn_ends size t h.1))) more.says;
     }
 
-pub turns_below_if_asked : (p : LineWithUndo) (limits : Limits) (total : Option ℕ) (asked : Bool) (text : List ℕ) → TurnLinesFollowIfAsked p limits total asked text
-    → LinesBelow (SaysBelow p limits) text
-turns_below_if_asked p limits total false text e = none_below (SaysBelow p limits) text e
-turns_below_if_asked p limits total true text h = turns_below p limits total h.0 (legal_turns p.frame p.state) text (legal_turns_are_legal p.frame p.state) h.1
+pub turns_below_if_asked : (p : LineWithUndo) (limits : Limits) (total : Option ℕ) (asked : Bool) (values : List (Turn × Result Side Reason))
+    → AreTurnValuesAsked p limits total asked values → LinesBelow (SaysBelow p limits) (turn_value_lines p.frame.size values)
+turns_below_if_asked p limits total false values e = none_below (SaysBelow p limits) _ (ap (turn_value_lines p.frame.size) e)
+turns_below_if_asked p limits total true values h = turns_below p limits total h.0 (legal_turns p.frame p.state) values (legal_turns_are_legal p.frame p.state) h.1

@@ -17,13 +17,18 @@ use Rattle.tt_game.specs.Sides.{verdict_word}
 use Rattle.tt_search.specs.declared.limits.Limits.{Limits}
 use Rattle.tt_search.specs.declared.limits.Reason.{Reason}
 use Rattle.tt_search.specs.declared.limits.Reason.TheVariants.{Budget, Depth, Total, Memory}
-use Rattle.tt_text.specs.declared.options.CertKind.{CertKind}
-use Rattle.tt_text.specs.declared.options.Options.{Options}
+use Rattle.tt_solve.specs.declared.options.CertKind.{CertKind}
+use Rattle.tt_solve.specs.declared.options.Options.{Options}
 use Rattle.tt_text.specs.declared.outcome.TreeOutcome.{TreeOutcome}
 use Rattle.tt_text.specs.declared.outcome.TreeOutcome.TheVariants.{Answered}
 use Rattle.tt_text.specs.Headline.{IsNumberedLine, IsProblem, IsTree, VerdictIsTrue, VerdictLinesAreTrue, lines_of}
 use Rattle.tt_text.specs.OtherLines.{LowerLineIsTrue, ReasonIsTrue, SaysBelow, SolveLinesAreTrue}
-use Rattle.tt_text.specs.Solving.{IsAnswerText, IsFirstTurnOfWinner, IsUnsettledFor, IsVerdict, Solves, SolvesProblemAs, decided, first_turn_text, reason_word, total_left, unsettled}
+use Rattle.tt_solve.specs.declared.solution.Solution.{Solution}
+use Rattle.tt_solve.specs.declared.solution.Solution.TheVariants.{Settled, Unsettled}
+use Rattle.tt_solve.specs.declared.solution.Solved.{Solved}
+use Rattle.tt_solve.specs.Solutions.{IsFirstTurnOfWinner, IsSolution, IsSolved, IsUnsettledFor}
+use Rattle.tt_solve.specs.Totals.{total_left}
+use Rattle.tt_text.specs.Solving.{Solves, SolvesProblemAs, answer_text, certificate_line, first_turn_text, reason_word, turn_value_lines, verdict_text}
 use Rattle.tt_text.specs.Trees.{BeginsTreesText}
 use Rattle.tt_text.proofs.LinesOfTexts.{LinesBelow, certificate_below, first_in_line, none_below, side_in_line, turns_below_if_asked, unsettled_in_line, unsettled_words}
 use Rattle.tt_text.proofs.OutcomeLines.{OutcomeLines, begins_with_lines, block_of, refused_lines}
@@ -74,32 +79,34 @@ reason_told Memory Depth e = absurd (let bad : 109 ≡ 100 = heads e in omega (a
 reason_told Memory Total e = absurd (let bad : 109 ≡ 116 = heads e in omega (arith, bad))
 reason_told Memory Memory e = refl
 
-verdict_lines : (p : LineWithUndo) (limits : Limits) (total : Option ℕ) (cert : CertKind) (text : List ℕ) → IsVerdict p limits total cert text → VerdictLines p limits total text
-verdict_lines p limits total cert text (decided side first lines value keeps follows) =
-    let turn = first_turn_text p.frame.size first in record {
+verdict_lines : (p : LineWithUndo) (limits : Limits) (total : Option ℕ) (cert : CertKind) (s : Solution) → IsSolution p limits total cert s
+    → VerdictLines p limits total (verdict_text p.frame.size s)
+verdict_lines p limits total cert (Settled side first c) is =
+    let turn = first_turn_text p.frame.size first in
+    let lines = certificate_line c in record {
       words = verdict_word side ++ turn;
       below = lines;
       text_is = append_assoc (verdict_word side) (turn ++ newline ∷ []) lines
           ∙ ap (λ (x : List ℕ). verdict_word side ++ x) (append_assoc turn (newline ∷ []) lines)
           ∙ sym (append_assoc (verdict_word side) turn (newline ∷ lines));
       in_line = no_newline_in_both (verdict_word side) turn (side_in_line side) (first_in_line p.frame.size first);
-      lines = certificate_below p limits side first cert lines follows;
+      lines = certificate_below p limits side first cert c is.2;
       value = λ other rest e. let same = verdict_word_is_prefix_free side other turn rest e in (
-        subst (λ (x : Side). HasValue p.frame p.state (value_won_by x)) same.0 value,
+        subst (λ (x : Side). HasValue p.frame p.state (value_won_by x)) same.0 is.0,
         first,
-        subst (λ (x : Side). IsFirstTurnOfWinner p x first) same.0 keeps,
+        subst (λ (x : Side). IsFirstTurnOfWinner p x first) same.0 is.1,
         sym same.1,
       );
       reason = λ reason e. absurd (unsettled_is_none side _ turn (sym e));
     }
-verdict_lines p limits total cert text (unsettled reason why) = record {
+verdict_lines p limits total cert (Unsettled reason) is = record {
   words = unsettled_words reason;
   below = [];
   text_is = sym (append_assoc (codes "unsettled ") (reason_word reason) (newline ∷ []));
   in_line = unsettled_in_line reason;
   lines = none_below (SaysBelow p limits) [] refl;
   value = λ side rest e. absurd (unsettled_is_none side _ rest e);
-  reason = λ other e. subst (λ (r : Reason). IsUnsettledFor p limits total r) (reason_told reason other (append_cancel_left (codes "unsettled ") (reason_word reason) (reason_word other) e)) why;
+  reason = λ other e. subst (λ (r : Reason). IsUnsettledFor p limits total r) (reason_told reason other (append_cancel_left (codes "unsettled ") (reason_word reason) (reason_word other) e)) is;
 }
 
 -- ---- one tree
@@ -110,14 +117,16 @@ module _ (options : Options) (input : List ℕ) where
   SolvedTruth k words tail = VerdictIsTrue input k words × ReasonIsTrue options.limits options.total input k words × All (LowerLineIsTrue options.limits input k) tail
 
   -- an answer's text
-  answered_lines : (k : ℕ) (p : LineWithUndo) (text : List ℕ) → IsProblem input k p → IsAnswerText options p text → OutcomeLines SolvedTruth k (Answered text)
-  answered_lines k p text is h =
+  answered_lines : (k : ℕ) (p : LineWithUndo) (s : Solved) → IsProblem input k p → IsSolved options p s
+      → OutcomeLines SolvedTruth k (Answered (answer_text p.frame.size s))
+  answered_lines k p s is h =
       let limits = options.limits in
-      let verdict = verdict_lines p limits options.total options.cert h.0 h.4.within in
-      let turns = turns_below_if_asked p limits (total_left options.total h.2) options.turns h.1 h.5 in
-      let both : text ≡ verdict.words ++ (newline ∷ text_of_lines (verdict.lines.lines ++ turns.lines)) =
-      h.3 ∙ ap (λ (x : List ℕ). x ++ h.1) verdict.text_is ∙ append_assoc verdict.words (newline ∷ verdict.below) h.1
-      ∙ ap (λ (x : List ℕ). verdict.words ++ (newline ∷ (x ++ h.1))) verdict.lines.text_is
+      let verdict = verdict_lines p limits options.total options.cert s.solution h.1.within in
+      let turns = turns_below_if_asked p limits (total_left options.total h.0) options.turns s.turn_values.items h.2 in
+      let below = turn_value_lines p.frame.size s.turn_values.items in
+      let both : answer_text p.frame.size s ≡ verdict.words ++ (newline ∷ text_of_lines (verdict.lines.lines ++ turns.lines)) =
+      ap (λ (x : List ℕ). x ++ below) verdict.text_is ∙ append_assoc verdict.words (newline ∷ verdict.below) below
+      ∙ ap (λ (x : List ℕ). verdict.words ++ (newline ∷ (x ++ below))) verdict.lines.text_is
       ∙ ap (λ (x : List ℕ). verdict.words ++ (newline ∷ (text_of_lines verdict.lines.lines ++ x))) turns.text_is
       ∙ sym (ap (λ (x : List ℕ). verdict.words ++ (newline ∷ x)) (text_of_both verdict.lines.lines turns.lines)) in record {
         words = verdict.words;

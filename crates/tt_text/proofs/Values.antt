@@ -14,9 +14,12 @@ use Rattle.tt_game.specs.laws.SideLaws.{verdict_word_is_prefix_free}
 use Rattle.tt_game.specs.Sides.{verdict_word}
 use Rattle.tt_proof.specs.CertificateText.{readable_turn_text}
 use Rattle.tt_search.specs.declared.limits.Limits.{Limits}
-use Rattle.tt_text.specs.declared.options.CertKind.{CertKind}
+use Rattle.tt_solve.specs.declared.options.CertKind.{CertKind}
 use Rattle.tt_text.specs.Laws.{VerdictsAreValues}
-use Rattle.tt_text.specs.Solving.{IsFirstTurnOfWinner, IsVerdict, decided, decided_line, first_turn_text, unsettled}
+use Rattle.tt_solve.specs.declared.solution.Solution.{Solution}
+use Rattle.tt_solve.specs.declared.solution.Solution.TheVariants.{Settled, Unsettled}
+use Rattle.tt_solve.specs.Solutions.{IsFirstTurnOfWinner, IsSolution}
+use Rattle.tt_text.specs.Solving.{certificate_line, decided_line, first_turn_text, verdict_text}
 
 -- the byte at an index, or 0
 abbrev byte : ℕ → List ℕ → ℕ
@@ -56,24 +59,26 @@ record Says (p : LineWithUndo) (side : Side) (rest : List ℕ) : Type 0 where
   text : first_turn_text p.frame.size first ++ newline ∷ lines ≡ rest
 
 -- a verdict that begins with a side's word says so
-says : (p : LineWithUndo) (limits : Limits) (total : Option ℕ) (cert : CertKind) (side : Side) (rest text : List ℕ) → IsVerdict p limits total cert text → text ≡ verdict_word side ++ rest → Says p side rest
-says p limits total cert side rest text (decided s first lines valued keeps more) e =
+says : (p : LineWithUndo) (limits : Limits) (total : Option ℕ) (cert : CertKind) (side : Side) (rest : List ℕ) (s : Solution) → IsSolution p limits total cert s
+    → verdict_text p.frame.size s ≡ verdict_word side ++ rest → Says p side rest
+says p limits total cert side rest (Settled winner first c) is e =
     let size = p.frame.size in
-    let parts : decided_line size s first ++ lines ≡ verdict_word s ++ (first_turn_text size first ++ newline ∷ lines) =
-    append_assoc (verdict_word s) (first_turn_text size first ++ newline ∷ []) lines ∙ ap (λ (x : List ℕ). verdict_word s ++ x) (append_assoc (first_turn_text size first) (newline ∷ []) lines) in
-    let same = verdict_word_is_prefix_free s side (first_turn_text size first ++ newline ∷ lines) rest (sym parts ∙ e) in
+    let lines = certificate_line c in
+    let parts : decided_line size winner first ++ lines ≡ verdict_word winner ++ (first_turn_text size first ++ newline ∷ lines) =
+    append_assoc (verdict_word winner) (first_turn_text size first ++ newline ∷ []) lines ∙ ap (λ (x : List ℕ). verdict_word winner ++ x) (append_assoc (first_turn_text size first) (newline ∷ []) lines) in
+    let same = verdict_word_is_prefix_free winner side (first_turn_text size first ++ newline ∷ lines) rest (sym parts ∙ e) in
     record {
       first = first;
       lines = lines;
-      valued = subst (λ (x : Side). HasValue p.frame p.state (value_won_by x)) same.0 valued;
-      first_is = subst (λ (x : Side). IsFirstTurnOfWinner p x first) same.0 keeps;
+      valued = subst (λ (x : Side). HasValue p.frame p.state (value_won_by x)) same.0 is.0;
+      first_is = subst (λ (x : Side). IsFirstTurnOfWinner p x first) same.0 is.1;
       text = same.1;
     }
-says p limits total cert Attacker rest text (unsettled reason h) e = let bad : 117 ≡ 107 = ap (byte 0) e in absurd (omega (arith, bad))
-says p limits total cert Defender rest text (unsettled reason h) e = let bad : 117 ≡ 108 = ap (byte 0) e in absurd (omega (arith, bad))
+says p limits total cert Attacker rest (Unsettled reason) is e = let bad : 117 ≡ 107 = ap (byte 0) e in absurd (omega (arith, bad))
+says p limits total cert Defender rest (Unsettled reason) is e = let bad : 117 ≡ 108 = ap (byte 0) e in absurd (omega (arith, bad))
 
 -- verdicts name the value, and the turn behind the word
 pub are_values : VerdictsAreValues
 are_values p limits total cert side rest v =
-    let said = says p limits total cert side rest (verdict_word side ++ rest) v refl in
+    let said = says p limits total cert side rest v.0 v.1 (sym v.2) in
     (said.valued, λ first lines e. subst (λ (o : Option Turn). IsFirstTurnOfWinner p side o) (firsts_same p.frame.size said.first first said.lines lines (said.text ∙ e)) said.first_is)

@@ -9,8 +9,9 @@ use Rattle.tt_game.specs.Game.{HasValue, value_won_by}
 use Rattle.tt_game.specs.Line.{LineWithUndo}
 use Rattle.tt_game.specs.Problems.{problem_of}
 use Rattle.tt_game.specs.Sides.{verdict_word}
-use Rattle.tt_text.specs.declared.options.Options.{Options}
-use Rattle.tt_text.specs.Solving.{IsFirstTurnOfWinner, Solves, first_turn_text}
+use Rattle.tt_solve.specs.declared.options.Options.{Options}
+use Rattle.tt_solve.specs.Solutions.{IsFirstTurnOfWinner}
+use Rattle.tt_text.specs.Solving.{Solves, first_turn_text}
 use Rattle.tt_text.specs.Trees.{BeginsTreesText}
 
 -- the lines that newlines end, the first of which begins with these bytes; what stands behind the last newline is no line

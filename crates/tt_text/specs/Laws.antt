@@ -7,8 +7,9 @@ use Rattle.tt_game.specs.Game.{HasValue, value_won_by}
 use Rattle.tt_game.specs.Line.{LineWithUndo}
 use Rattle.tt_game.specs.Sides.{verdict_word}
 use Rattle.tt_search.specs.declared.limits.Limits.{Limits}
-use Rattle.tt_text.specs.declared.options.CertKind.{CertKind}
-use Rattle.tt_text.specs.Solving.{IsFirstTurnOfWinner, IsVerdict, first_turn_text}
+use Rattle.tt_solve.specs.declared.options.CertKind.{CertKind}
+use Rattle.tt_solve.specs.Solutions.{IsFirstTurnOfWinner}
+use Rattle.tt_text.specs.Solving.{IsVerdict, first_turn_text}
 
 -- a verdict that begins with a side's word names the problem's value, and the turn behind the word, or its absence, is so
 abbrev pub VerdictsAreValues : Type 0

@@ -18,12 +18,13 @@ use Rattle.tt_proof.specs.Strategy.{Strategy}
 use Rattle.tt_proof.specs.Wins.{Wins, WinsOrLives}
 use Rattle.tt_search.specs.declared.limits.Limits.{Limits}
 use Rattle.tt_search.specs.declared.limits.Reason.{Reason}
-use Rattle.tt_text.specs.declared.options.Options.{Options}
+use Rattle.tt_solve.specs.declared.options.Options.{Options}
 use Rattle.tt_text.specs.declared.outcome.TreeOutcome.TheVariants.{Scored}
 use Rattle.tt_text.specs.Checking.{IsCheckText}
 use Rattle.tt_text.specs.Headline.{IsNumberedLine, IsProblem, IsTree, lines_of}
 use Rattle.tt_text.specs.Scoring.{Scores}
-use Rattle.tt_text.specs.Solving.{IsUnsettledFor, IsValueOrReason, IsWinningCertificate, Solves, reason_word, turn_value_line}
+use Rattle.tt_solve.specs.Solutions.{IsUnsettledFor, IsValueOrReason, IsWinningCertificate}
+use Rattle.tt_text.specs.Solving.{Solves, reason_word, turn_value_line}
 use Rattle.tt_text.specs.Trees.{BeginsTreesText, outcome_line}
 
 -- ---- `solve`

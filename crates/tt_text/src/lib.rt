@@ -2,7 +2,6 @@
 //!
 //! | Module | What it has |
 //! |---|---|
-//! | `options` | how a problem is to be solved |
 //! | `solving` | solves a tree's problem |
 //! | `checking` | what is found on a certificate |
 //! | `verdict`, `outcome` | the text of a verdict; the lines of a tree |
@@ -12,13 +11,10 @@
 
 mod checking;
 pub mod laws;
-mod options;
 mod outcome;
 mod solving;
 mod verdict;
 
 pub use checking::{CheckOutcome, check_input};
-pub use options::{CertKind, MOST_TOTAL, Options};
 pub use outcome::{TreeOutcome, line, score};
-pub use solving::{checkable_dfpn_proof, dfpn_verdict, solve};
-pub use verdict::verdict_text;
+pub use solving::{solve, solve_alone};

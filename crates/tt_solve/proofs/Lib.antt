@@ -1,0 +1,4 @@
+pub mod ProofCertificates
+pub mod ProofSolutions
+pub mod Totals
+pub mod TurnValues

@@ -1,0 +1,174 @@
+//! The solution that df-pn finds.
+ghost use Rattle.std.specs.Prelude.{◌≡◌, ◌≢◌, ◌≤◌, None, IfOk, IfSome};
+ghost use Rattle.tt_game.specs.Game.{winner_of};
+ghost use Rattle.tt_game.specs.GameLaws.{IsWellFormedState};
+ghost use Rattle.tt_proof.specs.declared.tree.TheConstants.{MOST_DEPTH};
+ghost use Rattle.tt_proof.specs.ProofClaim.{StandsAt};
+ghost use Rattle.tt_proof.specs.Strategy as strategy;
+ghost use Rattle.tt_solve.specs.declared.options.CertKind.{CertKind};
+ghost use Rattle.tt_solve.specs.Solutions.{HasCertificateWithin, IsDecided};
+
+use crate::certificate_kinds::solution_of_proof;
+use crate::options::{CertKind, Options};
+use crate::solution::Solution;
+use std::alloc::Global;
+use tt_dfpn::{VisitsLeft, find_life_proof, find_proof};
+use tt_game::Line;
+use tt_proof::{LifeProof, Proof, write_shared_cert};
+use tt_search::Limits;
+use tt_sgf::{ItemList, NoMemory};
+
+/// What df-pn finds at a line within so many positions. Its frame is large, and is never made where df-pn isn't asked for.
+#[inline(never)]
+fn proof_by_dfpn(
+    alloc: Global,
+    line: &Line,
+    depth: u16,
+    positions: u32,
+) -> Result<Option<Proof>, NoMemory>
+    requires { depth ≤ MOST_DEPTH }
+    ensures stands { IfOk result (λ o. IfSome o (λ p. StandsAt p line.now.frame line.now.state)) }
+    ensures shallow { IfOk result (λ o. IfSome o (λ p. strategy.depth p.tree ≤ depth)) }
+{
+    let mut visits = VisitsLeft { left: positions };
+    let mut copy = line.try_clone()?;
+    find_proof(alloc, &mut copy, depth, &mut visits)
+}
+
+/// The same, where the tree may end at life.
+#[inline(never)]
+fn life_proof_by_dfpn(
+    alloc: Global,
+    line: &Line,
+    depth: u16,
+    positions: u32,
+) -> Result<Option<LifeProof>, NoMemory>
+    requires { depth ≤ MOST_DEPTH }
+    ensures { IfOk result (λ o. IfSome o (λ p. StandsAt p line.now.frame line.now.state)) }
+{
+    let mut visits = VisitsLeft { left: positions };
+    let mut copy = line.try_clone()?;
+    find_life_proof(alloc, &mut copy, depth, &mut visits)
+}
+
+/// The solution by a proof that df-pn finds and that ends at wins, where its certificate takes at most so many bytes.
+fn plain_solution(
+    alloc: Global,
+    line: &Line,
+    options: Options,
+    positions: u32,
+    most_bytes: usize,
+) -> Result<Option<Solution>, NoMemory>
+    requires open { winner_of line.now.frame line.now.state ≡ None }
+    requires state { IsWellFormedState line.now.frame line.now.state }
+    ensures decides { IfOk result (λ o. IfSome o (IsDecided line.now options.limits options.cert)) }
+    ensures short { IfOk result (λ o. IfSome o (HasCertificateWithin most_bytes)) }
+{
+    let Some(proof) = proof_by_dfpn(alloc, line, options.limits.depth(), positions)? else {
+        return Ok(None);
+    };
+    // each node takes a byte or more
+    if proof.nodes() > most_bytes as u64 {
+        return Ok(None);
+    }
+    let solution = solution_of_proof(alloc, line, options, &proof)?;
+    if solution.has_certificate_within(most_bytes) {
+        Ok(Some(solution))
+    } else {
+        Ok(None)
+    }
+}
+
+/// The solution that a proof at the line is whose tree may end at life, without a certificate.
+fn bare_solution(line: &Line, limits: &Limits, proof: &LifeProof) -> Solution
+    requires open { winner_of line.now.frame line.now.state ≡ None }
+    requires state { IsWellFormedState line.now.frame line.now.state }
+    requires stands { StandsAt proof.now line.now.frame line.now.state }
+    ensures decides { IsDecided line.now limits.now CertKind.Unasked result }
+    ensures short { HasCertificateWithin 0 result }
+{
+    let side = proof.side();
+    let first = proof.first();
+    Solution::Settled {
+        side,
+        first,
+        certificate: None,
+    }
+}
+
+/// The same, with a certificate with shared parts of at most so many bytes, where one is found.
+fn shared_solution(
+    alloc: Global,
+    line: &Line,
+    limits: &Limits,
+    proof: &LifeProof,
+    most_bytes: usize,
+) -> Result<Option<Solution>, NoMemory>
+    requires open { winner_of line.now.frame line.now.state ≡ None }
+    requires state { IsWellFormedState line.now.frame line.now.state }
+    requires stands { StandsAt proof.now line.now.frame line.now.state }
+    ensures decides { IfOk result (λ o. IfSome o (IsDecided line.now limits.now CertKind.Shared)) }
+    ensures short { IfOk result (λ o. IfSome o (HasCertificateWithin most_bytes)) }
+{
+    let side = proof.side();
+    let tree = proof.tree();
+    let depth = limits.depth();
+    let Some(text) = write_shared_cert(alloc, side, tree, line, depth, most_bytes)? else {
+        return Ok(None);
+    };
+    let first = proof.first();
+    Ok(Some(Solution::Settled {
+        side,
+        first,
+        certificate: Some(ItemList::from_vec(text)),
+    }))
+}
+
+/// The solution by a proof that df-pn finds and whose tree may end at life, with the certificate that is asked for, where that takes at
+/// most so many bytes.
+fn life_solution(
+    alloc: Global,
+    line: &Line,
+    options: Options,
+    positions: u32,
+    most_bytes: usize,
+) -> Result<Option<Solution>, NoMemory>
+    requires open { winner_of line.now.frame line.now.state ≡ None }
+    requires state { IsWellFormedState line.now.frame line.now.state }
+    requires kind { options.cert ≢ CertKind.Plain }
+    ensures decides { IfOk result (λ o. IfSome o (IsDecided line.now options.limits options.cert)) }
+    ensures short { IfOk result (λ o. IfSome o (HasCertificateWithin most_bytes)) }
+{
+    let limits = options.limits;
+    let Some(proof) = life_proof_by_dfpn(alloc, line, limits.depth(), positions)? else {
+        return Ok(None);
+    };
+    if options.cert == CertKind::Unasked {
+        Ok(Some(bare_solution(line, &limits, &proof)))
+    } else {
+        shared_solution(alloc, line, &limits, &proof, most_bytes)
+    }
+}
+
+/// The solution that df-pn finds, where it is asked for: by a tree that may end at life, unless a plain certificate is asked for. None
+/// where it finds nothing, or where the certificate takes more than so many bytes.
+pub(crate) fn dfpn_solution(
+    alloc: Global,
+    line: &Line,
+    options: Options,
+    most_bytes: usize,
+) -> Result<Option<Solution>, NoMemory>
+    requires open { winner_of line.now.frame line.now.state ≡ None }
+    requires state { IsWellFormedState line.now.frame line.now.state }
+    ensures decides { IfOk result (λ o. IfSome o (IsDecided line.now options.limits options.cert)) }
+    ensures short { IfOk result (λ o. IfSome o (HasCertificateWithin most_bytes)) }
+{
+    let Some(positions) = options.dfpn else {
+        return Ok(None);
+    };
+    if options.cert == CertKind::Plain {
+        plain_solution(alloc, line, options, positions, most_bytes)
+    } else {
+        life_solution(alloc, line, options, positions, most_bytes)
+    }
+}
