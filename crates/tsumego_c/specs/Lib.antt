@@ -2,3 +2,4 @@
 pub mod Calls
 pub mod First
 pub mod Options
+pub mod Refusals

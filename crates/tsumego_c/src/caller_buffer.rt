@@ -40,7 +40,7 @@ fn tell_length_and_copy_if_room(text: &[u8], out: &mut [u8], taken: &mut usize) 
 }
 
 /// Says how many bytes a text takes, hands it over where it has room, and answers the status.
-fn hand_over_text(text: &[u8], status: u32, out: &mut [u8], taken: &mut usize) -> u32
+pub fn hand_over_text(text: &[u8], status: u32, out: &mut [u8], taken: &mut usize) -> u32
     ensures { CallEnds (λ bytes s. (bytes ≡ text.now) × (s ≡ status)) out.old out.new taken.new result }
 {
     let has_room = tell_length_and_copy_if_room(text, out, taken);

@@ -5,12 +5,14 @@
 //! |---|---|
 //! | `call_options` | the options of a call |
 //! | `first_tree_text` | the answer for the first tree of an input, without threads |
+//! | `first_refusal` | where the first tree of an input is refused |
 //! | `caller_buffer` | hands a text to the caller |
 //! | `laws` | the answer is that of a run of the program |
 #![tactic(auto)]
 
 mod call_options;
 mod caller_buffer;
+mod first_refusal;
 mod first_tree_text;
 pub mod laws;
 
@@ -20,12 +22,16 @@ ghost use Rattle.tt_text.specs.Scoring.{Scores};
 ghost use Rattle.tsumego_c.specs.Calls.{CallEnds, WritesNothing};
 ghost use Rattle.tsumego_c.specs.First.{IsFirstTreeText};
 ghost use Rattle.tsumego_c.specs.Options.{AreInRange, IsSolveText};
+ghost use Rattle.tsumego_c.specs.Refusals.{IsExplained};
 
 pub use call_options::CallOptions;
 use call_options::options_of;
-use caller_buffer::hand_over;
+use caller_buffer::{hand_over, hand_over_text};
+pub use first_refusal::Refusal;
+use first_refusal::explain;
 use first_tree_text::{check_text, score_text, solve_text};
 use std::alloc::Global;
+use tt_text::reason_of_refusal;
 
 /// The status where an option is out of its range.
 const BAD_OPTION: u32 = 4;
@@ -81,4 +87,25 @@ pub extern "C" fn tsumego_c_solve(
             BAD_OPTION
         }
     }
+}
+
+/// Says where the first tree of an input is refused, as a record or as a problem.
+#[unsafe(no_mangle)]
+pub extern "C" fn tsumego_c_explain(
+    alloc: Global,
+    sgf: &[u8],
+    is_record: bool,
+    refusal: &mut Refusal,
+) -> u32
+    ensures { IsExplained is_record sgf.now refusal.new result }
+{
+    explain(alloc, sgf, is_record, refusal)
+}
+
+/// Hands over the words of the refusal with this number: no byte where no refusal has it.
+#[unsafe(no_mangle)]
+pub extern "C" fn tsumego_c_reason(number: u8, out: &mut [u8], taken: &mut usize) -> u32
+    ensures { CallEnds (λ _ status. status ≡ 0) out.old out.new taken.new result }
+{
+    hand_over_text(reason_of_refusal(number), 0, out, taken)
 }
