@@ -5,6 +5,7 @@
 //! | `solving` | solves a tree's problem |
 //! | `checking` | what is found on a certificate |
 //! | `verdict`, `outcome` | the text of a verdict; the lines of a tree |
+//! | `reasons` | the words of each refusal |
 //! | `laws` | what the lines say of the definitions |
 
 #![tactic(auto)]
@@ -12,9 +13,11 @@
 mod checking;
 pub mod laws;
 mod outcome;
+mod reasons;
 mod solving;
 mod verdict;
 
 pub use checking::{CheckOutcome, check_input};
 pub use outcome::{TreeOutcome, line, score};
+pub use reasons::reason_of_refusal;
 pub use solving::{solve, solve_alone};
