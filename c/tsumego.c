@@ -5,6 +5,8 @@
 uint32_t tsumego_c_solve(const char *, size_t, const tsumego_options *, char *, size_t, size_t *);
 uint32_t tsumego_c_check(const char *, size_t, _Bool, char *, size_t, size_t *);
 uint32_t tsumego_c_score(const char *, size_t, char *, size_t, size_t *);
+uint32_t tsumego_c_explain(const char *, size_t, _Bool, tsumego_refusal *);
+uint32_t tsumego_c_reason(uint8_t, char *, size_t, size_t *);
 
 /* Whether there are so many bytes at a pointer, or none are asked for. */
 static int is_slice(const char *at, size_t size) {
@@ -37,6 +39,27 @@ int tsumego_check(const char *sgf, size_t size, int parts, char *out, size_t cap
 int tsumego_score(const char *sgf, size_t size, char *out, size_t capacity, size_t *length) {
     if (!are_fit(&sgf, size, &out, capacity, length)) return TSUMEGO_BAD_POINTER;
     return (int)tsumego_c_score(sgf, size, out, capacity, length);
+}
+
+int tsumego_explain(const char *sgf, size_t size, int record, tsumego_refusal *refusal) {
+    if (!refusal) return TSUMEGO_BAD_POINTER;
+    *refusal = (tsumego_refusal){0, TSUMEGO_NONE, TSUMEGO_NONE, TSUMEGO_NONE, TSUMEGO_NONE};
+    if (!is_slice(sgf, size)) return TSUMEGO_BAD_POINTER;
+    return (int)tsumego_c_explain(sgf ? sgf : nothing, size, record != 0, refusal);
+}
+
+/* The words of each refusal, with bytes of 0 behind them. */
+static char reasons[UINT8_MAX + 1][256];
+
+/* Copies them before any call, so that threads only read. */
+__attribute__((constructor)) static void copy_reasons(void) {
+    size_t length;
+    for (size_t number = 0; number <= UINT8_MAX; number++)
+        tsumego_c_reason((uint8_t)number, reasons[number], sizeof reasons[number] - 1, &length);
+}
+
+const char *tsumego_reason(uint32_t number) {
+    return number <= UINT8_MAX ? reasons[number] : "";
 }
 
 const char *tsumego_version(void) {

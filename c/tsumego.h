@@ -1,7 +1,8 @@
 /* tsumego: a solver of life-and-death problems in Go, for programs in C and whatever calls C.
 
-   Each call takes bytes of SGF and answers by a line of text, the line that the program tsumego writes on the first game
+   A call takes bytes of SGF and answers by a line of text, the line that the program tsumego writes on the first game
    tree of these bytes, with number 1. docs/FORMATS.md says what lines there are, docs/USING.md how a problem is marked.
+   tsumego_explain says where a tree is refused, tsumego_reason says why.
 
    A call starts no thread, keeps nothing behind and frees all memory that it took, so there is no handle to free. Any number
    of threads may call at once. A call can't be stopped: only its options bound it. Set `total`, since with the defaults a call
@@ -74,6 +75,27 @@ int tsumego_check(const char *sgf, size_t size, int parts, char *out, size_t cap
 
 /* Scores the record that is the first tree. */
 int tsumego_score(const char *sgf, size_t size, char *out, size_t capacity, size_t *length);
+
+/* A number that there isn't. */
+#define TSUMEGO_NONE SIZE_MAX
+
+/* What is refused, and where. Each of the last four is TSUMEGO_NONE where there is none. */
+typedef struct {
+    uint32_t number; /* of the refusal, as the line has it; 0: nothing is refused */
+    size_t node;     /* of the main line, from 1 */
+    size_t property; /* of this node, from 0: the one with a value that is no point and no colour (12) */
+    size_t value;    /* of this property, from 0 */
+    size_t point;    /* at fault: its row times the columns of the board and its column, both from 0 */
+} tsumego_refusal;
+
+/* Says where the first tree is refused: by tsumego_score where `record` isn't 0, else by tsumego_solve and, for its problem, by
+   tsumego_check. It solves nothing, so it takes the time of a score. It returns DONE where nothing is refused, REFUSED,
+   NO_MEMORY or BAD_POINTER. `sgf` may be null where `size` is 0; `refusal` may not be null. */
+int tsumego_explain(const char *sgf, size_t size, int record, tsumego_refusal *refusal);
+
+/* Why something is refused with this number, in English, behind which a byte of 0 stands; "" where no refusal has the number. The
+   text stays there until the program ends: don't write to it, nor free it. */
+const char *tsumego_reason(uint32_t number);
 
 /* TSUMEGO_VERSION of the library. */
 const char *tsumego_version(void);

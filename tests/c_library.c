@@ -92,11 +92,35 @@ static void refusals(void) {
     see(!strcmp(tsumego_version(), TSUMEGO_VERSION), "the version");
 }
 
+/* The place of a refusal of a text. */
+static void place(const char *sgf, int record, int end, tsumego_refusal want) {
+    tsumego_refusal found = {7, 7, 7, 7, 7};
+    see(tsumego_explain(sgf, strlen(sgf), record, &found) == end, sgf);
+    see(found.number == want.number && found.node == want.node && found.property == want.property && found.value == want.value && found.point == want.point, sgf);
+}
+
+/* A node, a property with a value, a point, no place, and what no caller owes. */
+static void places(void) {
+    const size_t none = TSUMEGO_NONE;
+    tsumego_refusal found = {7, 7, 7, 7, 7};
+    place("(;SZ[3];B[aa];W[bb]B[cc])", 1, TSUMEGO_REFUSED, (tsumego_refusal){14, 3, none, none, none});
+    place("(;SZ[3];C[x]AB[aa]AW[bb]AW[cc][ab:cb][dd][ee])", 0, TSUMEGO_REFUSED, (tsumego_refusal){12, 2, 3, 2, none});
+    place("(;SZ[3:2];B[cb];W[cb])", 1, TSUMEGO_REFUSED, (tsumego_refusal){16, 3, none, none, 5});
+    place("(;SZ[3]", 1, TSUMEGO_REFUSED, (tsumego_refusal){1, none, none, none, none});
+    place("(;SZ[3]AW[aa])", 1, TSUMEGO_DONE, (tsumego_refusal){0, none, none, none, none});
+    see(tsumego_explain(NULL, 1, 0, &found) == TSUMEGO_BAD_POINTER && !found.number && found.node == none, "a null input to explain");
+    see(tsumego_explain("", 0, 0, NULL) == TSUMEGO_BAD_POINTER, "a null refusal");
+    see(tsumego_explain(NULL, 0, 0, &found) == TSUMEGO_REFUSED && found.number == 1, "no input to explain at null");
+    see(strlen(tsumego_reason(20)) > 20 && tsumego_reason(20) == tsumego_reason(20), "words that stay");
+    see(!*tsumego_reason(0) && !*tsumego_reason(21) && !*tsumego_reason(256 + 20) && !*tsumego_reason(UINT32_MAX), "numbers without words");
+}
+
 int main(int words, char **names) {
     pthread_t threads[THREADS];
     files = names + 1;
     count = words - 1;
     refusals();
+    places();
     for (int i = 0; i < THREADS; i++)
         if (pthread_create(&threads[i], NULL, work, (void *)(size_t)i)) return 2;
     for (int i = 0; i < THREADS; i++) pthread_join(threads[i], NULL);
