@@ -29,7 +29,7 @@ const TOTAL_HELP: &str =
 const DFPN_HELP: &str =
     "How many positions df-pn may visit before the search begins, 1 to 100000000";
 
-const WORKERS_HELP: &str = "How many threads search first turns in parallel, 1 to 64";
+const WORKERS_HELP: &str = "How many threads search in parallel, 1 to 64";
 
 const CHECK_PARTS_HELP: &str = "Read a certificate that may share parts";
 

@@ -12,15 +12,17 @@ use crate::certificate_kinds::solution_of_proof;
 use crate::options::{CertKind, Options};
 use crate::solution::Solution;
 use std::alloc::Global;
+use std::thread::Threads;
 use tt_dfpn::{VisitsLeft, find_life_proof, find_proof};
 use tt_game::Line;
 use tt_proof::{LifeProof, Proof, write_shared_cert};
 use tt_search::Limits;
 use tt_sgf::{ItemList, NoMemory};
+use tt_team::{find_life_proof_by_workers, find_proof_by_workers};
 
-/// What df-pn finds at a line within so many positions. Its frame is large, and is never made where df-pn isn't asked for.
+/// What df-pn finds in the caller's thread within so many positions. Its frame is large, and is never made where df-pn isn't asked for.
 #[inline(never)]
-fn proof_by_dfpn(
+fn proof_alone(
     alloc: Global,
     line: &Line,
     depth: u16,
@@ -37,7 +39,7 @@ fn proof_by_dfpn(
 
 /// The same, where the tree may end at life.
 #[inline(never)]
-fn life_proof_by_dfpn(
+fn life_proof_alone(
     alloc: Global,
     line: &Line,
     depth: u16,
@@ -51,20 +53,59 @@ fn life_proof_by_dfpn(
     find_life_proof(alloc, &mut copy, depth, &mut visits)
 }
 
+/// What df-pn finds by so many workers within so many positions.
+#[inline(never)]
+fn proof_by_workers<X: Threads + Sync>(
+    rt: &X,
+    alloc: Global,
+    line: &Line,
+    depth: u16,
+    workers: usize,
+    positions: u32,
+) -> Result<Option<Proof>, NoMemory>
+    requires { depth ≤ MOST_DEPTH }
+    ensures stands { IfOk result (λ o. IfSome o (λ p. StandsAt p line.now.frame line.now.state)) }
+    ensures shallow { IfOk result (λ o. IfSome o (λ p. strategy.depth p.tree ≤ depth)) }
+{
+    let mut visits = VisitsLeft { left: positions };
+    let mut copy = line.try_clone()?;
+    find_proof_by_workers(rt, alloc, &mut copy, depth, workers, &mut visits)
+}
+
+/// The same, where the tree may end at life.
+#[inline(never)]
+fn life_proof_by_workers<X: Threads + Sync>(
+    rt: &X,
+    alloc: Global,
+    line: &Line,
+    depth: u16,
+    workers: usize,
+    positions: u32,
+) -> Result<Option<LifeProof>, NoMemory>
+    requires { depth ≤ MOST_DEPTH }
+    ensures { IfOk result (λ o. IfSome o (λ p. StandsAt p line.now.frame line.now.state)) }
+{
+    let mut visits = VisitsLeft { left: positions };
+    let mut copy = line.try_clone()?;
+    find_life_proof_by_workers(rt, alloc, &mut copy, depth, workers, &mut visits)
+}
+
 /// The solution by a proof that df-pn finds and that ends at wins, where its certificate takes at most so many bytes.
 fn plain_solution(
     alloc: Global,
     line: &Line,
     options: Options,
-    positions: u32,
+    proof: Option<Proof>,
     most_bytes: usize,
 ) -> Result<Option<Solution>, NoMemory>
     requires open { winner_of line.now.frame line.now.state ≡ None }
     requires state { IsWellFormedState line.now.frame line.now.state }
+    requires stands { IfSome proof (λ p. StandsAt p line.now.frame line.now.state) }
+    requires shallow { IfSome proof (λ p. strategy.depth p.tree ≤ options.limits.depth) }
     ensures decides { IfOk result (λ o. IfSome o (IsDecided line.now options.limits options.cert)) }
     ensures short { IfOk result (λ o. IfSome o (HasCertificateWithin most_bytes)) }
 {
-    let Some(proof) = proof_by_dfpn(alloc, line, options.limits.depth(), positions)? else {
+    let Some(proof) = proof else {
         return Ok(None);
     };
     // each node takes a byte or more
@@ -130,17 +171,18 @@ fn life_solution(
     alloc: Global,
     line: &Line,
     options: Options,
-    positions: u32,
+    proof: Option<LifeProof>,
     most_bytes: usize,
 ) -> Result<Option<Solution>, NoMemory>
     requires open { winner_of line.now.frame line.now.state ≡ None }
     requires state { IsWellFormedState line.now.frame line.now.state }
     requires kind { options.cert ≢ CertKind.Plain }
+    requires stands { IfSome proof (λ p. StandsAt p line.now.frame line.now.state) }
     ensures decides { IfOk result (λ o. IfSome o (IsDecided line.now options.limits options.cert)) }
     ensures short { IfOk result (λ o. IfSome o (HasCertificateWithin most_bytes)) }
 {
     let limits = options.limits;
-    let Some(proof) = life_proof_by_dfpn(alloc, line, limits.depth(), positions)? else {
+    let Some(proof) = proof else {
         return Ok(None);
     };
     if options.cert == CertKind::Unasked {
@@ -150,8 +192,8 @@ fn life_solution(
     }
 }
 
-/// The solution that df-pn finds, where it is asked for: by a tree that may end at life, unless a plain certificate is asked for. None
-/// where it finds nothing, or where the certificate takes more than so many bytes.
+/// The solution that df-pn finds in the caller's thread, where it is asked for: by a tree that may end at life, unless a plain certificate
+/// is asked for. None where it finds nothing, or where the certificate takes more than so many bytes.
 pub(crate) fn dfpn_solution(
     alloc: Global,
     line: &Line,
@@ -166,9 +208,39 @@ pub(crate) fn dfpn_solution(
     let Some(positions) = options.dfpn else {
         return Ok(None);
     };
+    let depth = options.limits.depth();
     if options.cert == CertKind::Plain {
-        plain_solution(alloc, line, options, positions, most_bytes)
+        let proof = proof_alone(alloc, line, depth, positions)?;
+        plain_solution(alloc, line, options, proof, most_bytes)
     } else {
-        life_solution(alloc, line, options, positions, most_bytes)
+        let proof = life_proof_alone(alloc, line, depth, positions)?;
+        life_solution(alloc, line, options, proof, most_bytes)
+    }
+}
+
+/// The same by workers.
+pub(crate) fn dfpn_solution_by_workers<X: Threads + Sync>(
+    rt: &X,
+    alloc: Global,
+    line: &Line,
+    options: Options,
+    most_bytes: usize,
+) -> Result<Option<Solution>, NoMemory>
+    requires open { winner_of line.now.frame line.now.state ≡ None }
+    requires state { IsWellFormedState line.now.frame line.now.state }
+    ensures decides { IfOk result (λ o. IfSome o (IsDecided line.now options.limits options.cert)) }
+    ensures short { IfOk result (λ o. IfSome o (HasCertificateWithin most_bytes)) }
+{
+    let Some(positions) = options.dfpn else {
+        return Ok(None);
+    };
+    let depth = options.limits.depth();
+    let workers = options.workers;
+    if options.cert == CertKind::Plain {
+        let proof = proof_by_workers(rt, alloc, line, depth, workers, positions)?;
+        plain_solution(alloc, line, options, proof, most_bytes)
+    } else {
+        let proof = life_proof_by_workers(rt, alloc, line, depth, workers, positions)?;
+        life_solution(alloc, line, options, proof, most_bytes)
     }
 }

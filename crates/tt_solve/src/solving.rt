@@ -9,7 +9,7 @@ ghost use Rattle.tt_solve.specs.Solutions.{AreTurnValues, AreTurnValuesAsked, Is
 ghost use Rattle.tt_solve.specs.Totals.{HasGrants, HoldsLeaving, total_left};
 
 use crate::certificate_kinds::solution_of_proof;
-use crate::dfpn::dfpn_solution;
+use crate::dfpn::{dfpn_solution, dfpn_solution_by_workers};
 use crate::engines::{search_alone, search_by_workers};
 use crate::options::Options;
 use crate::solution::{Solution, Solved};
@@ -65,7 +65,7 @@ fn solve_line<X: Threads + Wait + Sync, G: Gate>(
     requires state { IsWellFormedState line.now.frame line.now.state }
     ensures { IfOk result (λ r. HoldsLeaving (λ t. IsSolution line.now options.limits t options.cert r.0) total r.1) }
 {
-    if let Ok(Some(solution)) = dfpn_solution(alloc, line, options, most_bytes) {
+    if let Ok(Some(solution)) = dfpn_solution_by_workers(rt, alloc, line, options, most_bytes) {
         return Ok((solution, total));
     }
     let (answer, granted) = search_by_workers(rt, alloc, line, options, total, gate)?;

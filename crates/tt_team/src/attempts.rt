@@ -29,7 +29,7 @@ fn find_by_attempts<R: Threads + Sync>(
     line: &mut Line,
     depth: u16,
     may_end_at_life: bool,
-    workers: u32,
+    workers: usize,
     visits: &mut VisitsLeft,
 ) -> Result<Option<LifeProof>, NoMemory>
     requires depth { depth ≤ MOST_DEPTH }
@@ -67,7 +67,7 @@ pub fn find_proof_by_workers<R: Threads + Sync>(
     alloc: Global,
     line: &mut Line,
     depth: u16,
-    workers: u32,
+    workers: usize,
     visits: &mut VisitsLeft,
 ) -> Result<Option<Proof>, NoMemory>
     requires depth { depth ≤ MOST_DEPTH }
@@ -88,7 +88,7 @@ pub fn find_life_proof_by_workers<R: Threads + Sync>(
     alloc: Global,
     line: &mut Line,
     depth: u16,
-    workers: u32,
+    workers: usize,
     visits: &mut VisitsLeft,
 ) -> Result<Option<LifeProof>, NoMemory>
     requires depth { depth ≤ MOST_DEPTH }

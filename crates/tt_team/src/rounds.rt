@@ -11,7 +11,7 @@ use tt_game::{Line, Side};
 use tt_sgf::NoMemory;
 
 /// So many workers search at most: more don't find sooner.
-const MOST_FINDERS: u32 = 8;
+const MOST_FINDERS: usize = 8;
 
 /// How many visits the first worker has alone. Most problems are settled then, and need no threads.
 const VISITS_ALONE: u32 = 16_384;
@@ -98,7 +98,7 @@ pub(crate) fn search_winner<R: Threads + Sync>(
     alloc: Global,
     line: &Line,
     advisor: &mut Advisor,
-    workers: u32,
+    workers: usize,
     visits: &mut VisitsLeft,
 ) -> Result<Option<Side>, NoMemory>
     ensures fewer { visits.new.left ≤ visits.old.left }
@@ -110,20 +110,13 @@ pub(crate) fn search_winner<R: Threads + Sync>(
     if alone.is_some() {
         return Ok(alone);
     }
+    let finders = workers.min(MOST_FINDERS) as u32;
     let mut most = FIRST_ROUND_VISITS;
     for _ in 0..MOST_ROUNDS {
         if visits.left == 0 {
             break;
         }
-        let winner = search_round(
-            rt,
-            alloc,
-            line,
-            advisor,
-            workers.min(MOST_FINDERS),
-            most,
-            visits,
-        )?;
+        let winner = search_round(rt, alloc, line, advisor, finders, most, visits)?;
         if winner.is_some() {
             return Ok(winner);
         }
