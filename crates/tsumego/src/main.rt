@@ -4,12 +4,11 @@
 //! |---|---|
 //! | `arguments`, `request` | the command line, and what it asks for |
 //! | `answer`, `task` | the answer to an input, tree by tree |
-//! | `progress`, `advice` | what stands on standard error meanwhile, and what people are told there |
+//! | `progress`, `tips` | what stands on standard error meanwhile, and what people are told there |
 //! | `laws` | what a run writes; `headline` |
 //! | `command_tests`, `command_cases` | rows of words, input and answer |
 #![tactic(auto)]
 
-mod advice;
 mod answer;
 mod arguments;
 #[cfg(test)]
@@ -20,8 +19,8 @@ mod laws;
 mod progress;
 mod request;
 mod task;
+mod tips;
 
-use advice::{READS_TERMINAL, file_advice, unsettled_advice};
 use answer::{run, run_telling};
 use arguments::{ArgFault, command};
 use devices::Watched;
@@ -31,6 +30,7 @@ use std::alloc::AllocError;
 use std::io::IsTerminal;
 use std::process::ExitCode;
 use std::{env, io};
+use tips::{READS_TERMINAL, file_tips, unsettled_tip};
 
 fn command_line_words(rt: &HostRuntime) -> Result<Vec<String>, ArgFault> {
     let alloc = rt.alloc();
@@ -49,16 +49,16 @@ fn print_fault(rt: &HostRuntime, text: &str) -> io::Result<()> {
         return rt.eprintln("");
     }
     rt.eprint(text)?;
-    match refused_file_advice(rt, text) {
-        Ok(advice) => rt.eprint(advice.as_str()),
+    match refused_file_tips(rt, text) {
+        Ok(tips) => rt.eprint(tips.as_str()),
         Err(AllocError) => Ok(()),
     }
 }
 
 /// What is said behind the refusal of the command line's words.
-fn refused_file_advice(rt: &HostRuntime, text: &str) -> Result<String, AllocError> {
+fn refused_file_tips(rt: &HostRuntime, text: &str) -> Result<String, AllocError> {
     match command_line_words(rt) {
-        Ok(words) => file_advice(rt.alloc(), words.as_slice(), text),
+        Ok(words) => file_tips(rt.alloc(), words.as_slice(), text),
         Err(_) => Ok(String::new(rt.alloc())),
     }
 }
@@ -91,12 +91,12 @@ fn main(rt: HostRuntime) -> ExitCode {
     let alloc = rt.alloc();
     let terminal = rt.stderr().is_terminal();
     let ran = if shows_progress(&command, terminal) {
-        let advice = if terminal {
-            unsettled_advice(&command)
+        let tip = if terminal {
+            unsettled_tip(&command)
         } else {
             ""
         };
-        let line = ProgressLine::new(&rt, alloc, advice);
+        let line = ProgressLine::new(&rt, alloc, tip);
         run_telling(&rt, alloc, &command, &mut reader, &mut writer, &line)
     } else {
         run(&rt, alloc, &command, &mut reader, &mut writer)

@@ -30,18 +30,18 @@ impl Progress for NoProgress {
 }
 
 /// Shows the problem, and the first turn that was begun last, on one line of standard error, which is wiped in the end. Then it says what
-/// may settle an unsettled problem, if it has some advice.
+/// may settle an unsettled problem, if it has a tip.
 #[derive(Clone, Copy)]
 pub struct ProgressLine<'a, X> {
     rt: &'a X,
     alloc: Global,
-    advice: &'static str,
+    tip: &'static str,
 }
 
 impl<'a, X> ProgressLine<'a, X> {
     /// A line on which nothing stands yet.
-    pub fn new(rt: &'a X, alloc: Global, advice: &'static str) -> ProgressLine<'a, X> {
-        ProgressLine { rt, alloc, advice }
+    pub fn new(rt: &'a X, alloc: Global, tip: &'static str) -> ProgressLine<'a, X> {
+        ProgressLine { rt, alloc, tip }
     }
 }
 
@@ -61,8 +61,8 @@ impl<X: Eprint + Sync> Progress for ProgressLine<'_, X> {
 
     fn end_problem(&self, unsettled: bool) {
         let _ = self.rt.eprint("\r\u{1b}[K");
-        if unsettled && !self.advice.is_empty() {
-            let _ = self.rt.eprintln(self.advice);
+        if unsettled && !self.tip.is_empty() {
+            let _ = self.rt.eprintln(self.tip);
         }
     }
 }

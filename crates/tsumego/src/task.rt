@@ -3,9 +3,9 @@ ghost use Rattle.std.specs.Prelude.{◌≡◌, IfOk, true};
 ghost use Rattle.tsumego.specs.CommandLine.{IsInRange};
 ghost use Rattle.tsumego.specs.Tasks.{IsTaskOf, MakesOutcome, asks_for_certificate, asks_for_shared_parts};
 
-use crate::advice::is_unsettled;
 use crate::progress::{ProblemGate, Progress};
 use crate::request::Command;
+use crate::tips::is_unsettled;
 use std::alloc::Global;
 use std::sync::Wait;
 use std::thread::Threads;

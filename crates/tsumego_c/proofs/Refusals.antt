@@ -9,7 +9,7 @@ use Rattle.tt_game.specs.declared.records.Record.{Record}
 use Rattle.tt_game.specs.Line.{LineWithUndo}
 use Rattle.tt_game.specs.Problems.{problem_of}
 use Rattle.tt_game.specs.Records.{record_of}
-use Rattle.tt_text.specs.declared.options.Options.{Options}
+use Rattle.tt_solve.specs.declared.options.Options.{Options}
 use Rattle.tt_text.specs.declared.outcome.TreeOutcome.{TreeOutcome}
 use Rattle.tt_text.specs.Scoring.{Scores, record_outcome}
 use Rattle.tt_text.specs.Solving.{Solves, SolvesProblemAs}

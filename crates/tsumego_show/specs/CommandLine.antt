@@ -63,8 +63,8 @@ point_name_of_word (b ∷ bs) = sgf_or_editor_point_name b bs (sgf_row bs)
 
 -- ---- words
 
-abbrev pub flag_arg : Text → Rule
-flag_arg name = record (new_rule name) { long = Some name; action = Some SetTrue }
+abbrev pub flag_word : Text → Rule
+flag_word name = record (new_rule name) { long = Some name; action = Some SetTrue }
 
 -- `--depth N`
 abbrev pub depth_arg : Rule
@@ -78,17 +78,17 @@ depth_arg = record (new_rule (codes "depth")) {
 abbrev pub point_arg : Rule
 point_arg = record (new_rule (codes "point")) { value_names = 1 }
 
-abbrev pub with_version_flag : App → App
-with_version_flag a = record a { top = record a.top { has_version = true } }
+abbrev pub with_version_word : App → App
+with_version_word a = record a { top = record a.top { has_version = true } }
 
 -- the program's words, as the argument parser reads them
 unfoldable pub show_app : App
-show_app = with_rule (with_rule (with_rule (with_rule (with_rule (with_rule (with_version_flag (new_app (codes "tsumego-show")))
-    (flag_arg (codes "mark")))
+show_app = with_rule (with_rule (with_rule (with_rule (with_rule (with_rule (with_version_word (new_app (codes "tsumego-show")))
+    (flag_word (codes "mark")))
     point_arg)
-    (flag_arg (codes "close")))
-    (flag_arg (codes "svg")))
-    (flag_arg (codes "sgf")))
+    (flag_word (codes "close")))
+    (flag_word (codes "svg")))
+    (flag_word (codes "sgf")))
     depth_arg
 
 -- ---- what they ask for

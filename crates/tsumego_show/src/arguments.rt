@@ -3,7 +3,7 @@ ghost use Rattle.std.specs.Prelude.{◌≡◌, ◌⊎◌, [], IfErr, IfOk, None,
 ghost use Rattle.clap.specs.Words.{app_of, fault_of, first_of, found_of, kind_of, matches_of, new_app, rows_of, rule_of, takes, IsAmong};
 ghost use Rattle.clap.specs.declared.builder.command.Command.TheViews.{out-Command};
 ghost use Rattle.tt_sgf.specs.Values.{number_of};
-ghost use Rattle.tsumego_show.specs.CommandLine.{column_of_editor_letter, coordinate_of_sgf_letter, depth_arg, editor_point_name, flag_arg, is_given, mark_mode, mode_asked, mode_in, point_arg, point_name_of_word, sgf_mode, sgf_row, show_app, variations_to};
+ghost use Rattle.tsumego_show.specs.CommandLine.{column_of_editor_letter, coordinate_of_sgf_letter, depth_arg, editor_point_name, flag_word, is_given, mark_mode, mode_asked, mode_in, point_arg, point_name_of_word, sgf_mode, sgf_row, show_app, variations_to};
 
 use crate::mode::{Mode, PointName, WantedMarks};
 use clap::error::ErrorKind;
@@ -173,7 +173,7 @@ fn mode_asked(
 
 /// A flag.
 fn flag_option<'a>(alloc: Global, name: &'a str, help: &'a str) -> Arg<'a>
-    ensures rule { rule_of result ≡ flag_arg name.entry.now }
+    ensures rule { rule_of result ≡ flag_word name.entry.now }
     ensures local { result.global ≡ false }
 {
     Arg::new(alloc, name)

@@ -24,7 +24,7 @@ const MOST_TURNS_TO_DEPTH: usize = 350_000;
 
 /// Where in a strategy a turn stands: whose strategy it is, whether the turn is a first one, and how many more are written.
 #[derive(Clone, Copy)]
-struct Place {
+struct TurnPlace {
     owner: Colour,
     is_first: bool,
     left: usize,
@@ -195,7 +195,7 @@ fn put_variation(
     turn: &Turn,
     behind: &Tree,
     line: &mut Line,
-    place: Place,
+    place: TurnPlace,
     main: &[Turn],
 ) -> Result<(), NoMemory>
     ensures { line.new ≡ line.old }
@@ -206,7 +206,7 @@ fn put_variation(
     let is_own = side_colour(line, line.to_move()) == place.owner;
     let wins = if place.is_first { Some(is_own) } else { None };
     put_move_node(out, line, *turn, wins)?;
-    let below = Place {
+    let below = TurnPlace {
         owner: place.owner,
         is_first: false,
         left: place.left.saturating_sub(1),
@@ -224,7 +224,7 @@ fn put_replies(
     out: &mut Vec<u8>,
     list: &[(Turn, Tree)],
     line: &mut Line,
-    place: Place,
+    place: TurnPlace,
     main: &[Turn],
     is_main: bool,
 ) -> Result<(), NoMemory>
@@ -254,7 +254,7 @@ fn put_tree_variations(
     out: &mut Vec<u8>,
     tree: &Tree,
     line: &mut Line,
-    place: Place,
+    place: TurnPlace,
     main: &[Turn],
 ) -> Result<(), NoMemory>
     ensures { line.new ≡ line.old }
@@ -300,7 +300,7 @@ fn put_strategies(
     for (side, tree) in found.strategies.as_slice() {
         let mut main = main_line(alloc, line, tree)?;
         main.truncate(depth);
-        let place = Place {
+        let place = TurnPlace {
             owner: side_colour(line, *side),
             is_first: true,
             left: shown_depth(tree, depth, most.saturating_sub(main.len())),

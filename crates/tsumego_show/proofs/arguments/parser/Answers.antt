@@ -2,14 +2,14 @@ use Rattle.std.proofs.Common.{ap, ap₂, codes, ◌≡◌, ◌∙◌}
 use Rattle.std.proofs.lemmas.Result.{IfOk-weaker}
 use Rattle.clap.specs.Words.{app_of, new_app, with_rule}
 use Rattle.clap.specs.Simple.{app_of_fields}
-use Rattle.tsumego_show.specs.CommandLine.{show_app, with_version_flag}
+use Rattle.tsumego_show.specs.CommandLine.{show_app, with_version_word}
 use Rattle.tsumego_show.proofs.arguments.parser.Goals as goal
 
 pub returns : goal.returns
 unfolding show_app
 returns c =
-    let plain_is : app_of c.version-plain.result ≡ with_version_flag (new_app (codes "tsumego-show")) =
-    ap app_of_fields c.version-plain.ensures ∙ ap with_version_flag c.bare_parser.ensures in
+    let plain_is : app_of c.version-plain.result ≡ with_version_word (new_app (codes "tsumego-show")) =
+    ap app_of_fields c.version-plain.ensures ∙ ap with_version_word c.bare_parser.ensures in
     let one_is = c.in_ok-one.ensures.shape c.flag_option-mark.ensures.local ∙ ap₂ with_rule plain_is c.flag_option-mark.ensures.rule in
     let two_is = c.in_ok-two.ensures.shape c.point_word-point.ensures.local ∙ ap₂ with_rule one_is c.point_word-point.ensures.rule in
     let three_is = c.in_ok-three.ensures.shape c.flag_option-close.ensures.local ∙ ap₂ with_rule two_is c.flag_option-close.ensures.rule in

@@ -36,7 +36,7 @@ fn named_command(words: &[String]) -> &str {
 }
 
 /// What is said behind the refusal of words among which the name of a file stands: how a file is read. Nothing for other refusals.
-pub fn file_advice(alloc: Global, words: &[String], fault: &str) -> Result<String, AllocError> {
+pub fn file_tips(alloc: Global, words: &[String], fault: &str) -> Result<String, AllocError> {
     match unexpected_word(fault) {
         Some(file) if is_like_file(file) => {
             let command = named_command(words);
@@ -49,7 +49,7 @@ pub fn file_advice(alloc: Global, words: &[String], fault: &str) -> Result<Strin
 }
 
 /// What may settle a problem that a command left unsettled.
-pub fn unsettled_advice(command: &Command) -> &'static str {
+pub fn unsettled_tip(command: &Command) -> &'static str {
     match command {
         Command::Solve { dfpn: Some(n), .. } if *n >= MANY_POSITIONS => "try fewer squares (SQ)",
         _ => "try --dfpn 2000000, or fewer squares (SQ)",
