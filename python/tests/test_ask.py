@@ -104,6 +104,7 @@ def test_help_and_version(word: str) -> None:
     [
         (["--jsno", "-"], "is --json meant?"),
         (["nothing.sgf"], "there is no file nothing.sgf"),
+        (["I18"], "I18 is no file and no point: a point is written as C18 (there is no column I), or as cb"),
         (["-", "C18", "D18"], "several stones are named"),
         (["-", "--seconds", "0"], "--seconds"),
         (["C18"], "no FILE is named"),
@@ -119,6 +120,11 @@ def test_an_input_is_never_overwritten(book: Path) -> None:
     before = book.read_text()
     ended = ask(str(book), "-o", str(book))
     assert ended.returncode == 2 and "name another one" in ended.stderr and book.read_text() == before
+
+
+def test_one_file_for_both_is_refused(book: Path, tmp_path: Path) -> None:
+    ended = ask(str(book), "-o", str(tmp_path / "x"), "--html", str(tmp_path / "x"))
+    assert ended.returncode == 2 and "at once" in ended.stderr and not (tmp_path / "x").exists()
 
 
 def test_a_program_that_is_missing() -> None:

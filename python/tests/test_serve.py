@@ -55,6 +55,9 @@ def test_json(service: Served) -> None:
     ways = service.data("/mark?point=D18&close=1", CORNER)["ways"]
     assert len(ways) == 9 and ways[0]["stones"] == ["F19", "A15"] and ways[0]["points"] == 10
     assert service.data("/solve?seconds=x", STRAIGHT) == {"status": 400, "error": "seconds is no number above 0"}
+    assert service.data("/ask?stone=D18", CORNER) == {"status": 400, "error": "/ask takes no stone"}
+    assert service.data("/mark?point=D18&close=0", CORNER) == {"status": 400, "error": "close is 1, or isn't there"}
+    assert service.data("/mark?point=I9", STRAIGHT)["status"] == 400
     assert service.data("/nosuch", STRAIGHT)["status"] == 404
 
 

@@ -78,6 +78,8 @@ def run(args: argparse.Namespace) -> int:
     for written in (each for each in (args.out, args.html) if each):
         if any(os.path.exists(written) and file != "-" and os.path.samefile(file, written) for file in files):
             raise UsageError(f"{shown(written)} is one of the files to read: name another one to write")
+    if args.out and args.html and os.path.abspath(args.out) == os.path.abspath(args.html):
+        raise UsageError(f"{shown(args.out)} can't be the SGF and the HTML at once")
     given = [each for file in files for each in read_file(file)]
     with open(args.out or os.devnull, "wb") as out:
         asking = Asking(stone, args.seconds, args.json, out if args.out else None)

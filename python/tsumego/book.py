@@ -2,7 +2,7 @@
 
 Each problem of the files is answered as tsumego-ask does. Then each line of its solution is checked: lines called right keep the win, and
 lines called wrong lose. A line is called so by TE and BM or by words as Correct, RIGHT, Wrong; without any the first line counts as right.
-A problem whose name or comment asks whether the group is alive needs no solution.
+A problem without a solution is answered, and is no fault. One whose name or comment asks whether the group is alive needs none.
 
 FOLDER gets report.html (faults first, with pictures), report.tsv, report.json (an object in a line for each problem) and marked.sgf, the
 problems with marks and all that stood in them. A further run asks again only what is new, changed or wasn't settled, and says which

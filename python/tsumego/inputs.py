@@ -34,6 +34,8 @@ def files_and_stone(words: List[str]) -> Tuple[List[str], Optional[str]]:
     files = [word for word in words if word == "-" or os.path.exists(word)]
     others = [word for word in words if word not in files]
     wrong = [word for word in others if not _POINT.fullmatch(word)]
+    if wrong and re.fullmatch("[A-Za-z][0-9]+", wrong[0]):
+        raise UsageError(f"{wrong[0]} is no file and no point: a point is written as C18 (there is no column I), or as cb")
     if wrong:
         raise UsageError(f"there is no file {shown(wrong[0])}")
     if len(others) > 1:

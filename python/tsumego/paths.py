@@ -1,6 +1,7 @@
 """What a service answers to each path: by which program, and how as JSON."""
 import json
 import os
+import re
 import sys
 from dataclasses import dataclass
 from typing import Any, Callable, Dict, List, Mapping, Tuple
@@ -56,7 +57,10 @@ def _sgf(programs: Programs, limits: Limits, query: Query) -> List[str]:
 def _mark(programs: Programs, limits: Limits, query: Query) -> List[str]:
     if query.get("close"):
         return _worker("mark")(programs, limits, query)
-    return [programs.show, "--mark"] + ([_point(query)] if query.get("point") else [])
+    point = query.get("point")
+    if point and not re.fullmatch("[A-HJ-Ta-hj-t][1-9][0-9]?|[a-s]{2}", point):
+        raise ValueError("point is no point: write it as C18 (there is no column I) or as cb")
+    return [programs.show, "--mark"] + ([point] if point else [])
 
 
 def _point(query: Query) -> str:
@@ -138,9 +142,19 @@ PATHS: Dict[str, Path] = {
 }
 
 
+# The words that may stand behind ?: limits, and what single paths take.
+LIMITS = ("seconds", "memory", "total", "dfpn", "bytes")
+WORDS = {"/mark": ("point", "close"), "/ask": ("point",), "/solution": ("point",), "/sgf": ("depth",)}
+
+
 def path_of(name: str, query: Query) -> Tuple[Path, bool]:
-    """The path of a name, and whether a worker answers."""
+    """The path of a name, and whether a worker answers. Raises ValueError where the path takes no such word."""
     path = PATHS[name]
+    for word in query:
+        if word not in LIMITS + WORDS.get(name, ()):
+            raise ValueError(f"{name} takes no {word}")
+    if query.get("close", "1") != "1":
+        raise ValueError("close is 1, or isn't there")
     return path, path.is_worker or (name == "/mark" and bool(query.get("close")))
 
 

@@ -36,8 +36,8 @@ class Service:
 
     def answer(self, request: Request, given: IO[bytes], told: Optional[Callable[[bytes], object]] = None) -> IO[bytes]:
         """The answer in a file. If a worker answers in JSON, `told` takes the parts, and the file is empty. Raises Failed where there is no answer."""
-        path, is_worker = path_of(request.path, request.query)
         try:
+            path, is_worker = path_of(request.path, request.query)
             limits = self.limits.below(request.query)
             words = path.words(self.programs, limits, request.query)
         except ValueError as fault:
