@@ -1,4 +1,4 @@
-"""What the scripts of tests/ and bench/ and docs/check share: the built programs, how a command is run, and how checks are counted and told.
+"""What the scripts of tests/, bench/ and docs/check share: the built programs, how a command is run, and how checks are counted and told.
 
 A script compares by `see`, or by `tell`, and ends by `end`. It needs nothing but Python.
 """
@@ -11,7 +11,7 @@ import os
 import subprocess
 import sys
 from types import ModuleType
-from typing import Callable, Iterable, Iterator, List, NamedTuple, Optional, TypeVar
+from typing import Callable, Iterator, List, NamedTuple, Optional, TypeVar
 
 TOP = os.path.dirname(os.path.dirname(os.path.realpath(__file__)))
 
@@ -30,17 +30,18 @@ class Ran(NamedTuple):
     returncode: int
 
 
-def run(words: List[str], given: bytes = b"", timeout: float = 600, **more) -> Ran:
+def run(words: List[str], given: bytes = b"", timeout: Optional[float] = 600, **more) -> Ran:
     done = subprocess.run(words, input=given, stdout=subprocess.PIPE, stderr=subprocess.PIPE, timeout=timeout, **more)
     return Ran(done.stdout, done.stderr, done.returncode)
 
 
 def asked(doc: str, **options) -> argparse.Namespace:
-    """The words of the command line: options with these defaults, and behind them PROGRAM and SHOW, a tsumego and a tsumego-show; without
-    these those of this tree."""
+    """The words of the command line: options with these defaults, where False is a flag's, and behind them PROGRAM and SHOW, a tsumego and
+    a tsumego-show; without these those of this tree."""
     parser = argparse.ArgumentParser(description=doc, formatter_class=argparse.RawDescriptionHelpFormatter)
     for name, default in options.items():
-        parser.add_argument(f"--{name}", type=type(default), default=default)
+        kind = {"action": "store_true"} if default is False else {"type": type(default), "default": default}
+        parser.add_argument(f"--{name}", **kind)
     for name, built in ("program", "tsumego"), ("show", "tsumego_show"):
         parser.add_argument(name, nargs="?", default=os.path.join(TOP, "crates", built, "out", built))
     return parser.parse_args()
@@ -54,7 +55,7 @@ def begin() -> None:
 
 
 def loaded(path: str) -> ModuleType:
-    """The Python file of this tree as a module."""
+    """A Python file of this tree as a module."""
     name = os.path.basename(path).partition(".")[0]
     found = importlib.util.spec_from_loader(name, importlib.machinery.SourceFileLoader(name, os.path.join(TOP, path)))
     module = importlib.util.module_from_spec(found)
