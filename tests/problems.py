@@ -30,4 +30,4 @@ UNFIT = b"(;SZ[5:1]AB[aa];W[ca]TR[ca])"
 UNFIT_KILLED = b"killed =!da=?ba=!aa.ea=!ba=?aa=!ba=?da.--=!da.;ba=!da=?aa.--!aa.;da=!ba.--=!ba*2;--=!ba.;"
 
 # A lone stone of White's on an open board.
-OPEN = b"(;SZ[5]AW[cc]PL[B]TR[cc])"
+OPEN_BOARD = b"(;SZ[5]AW[cc]PL[B]TR[cc])"
