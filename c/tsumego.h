@@ -48,10 +48,12 @@ enum {
 
 /* How a problem is solved, as by the options of `tsumego solve`. */
 typedef struct {
+    /* tools/options begins */
     uint32_t budget; /* how many nodes may be expanded after each first turn: 1 to 1000000 */
     uint32_t depth;  /* how many turns deep a search may go from the problem: 1 to 512 */
-    uint32_t total;  /* how many nodes may be expanded after all first turns together: to 362000000; 0: no such bound */
-    uint32_t dfpn;   /* how many positions df-pn may visit before the search begins: to 100000000; 0: no df-pn */
+    uint32_t total;  /* how many nodes may be expanded after all first turns together: 1 to 362000000; 0: none */
+    uint32_t dfpn;   /* how many positions df-pn may visit before the search begins: 1 to 100000000; 0: none */
+    /* tools/options ends */
     uint32_t cert;   /* 0: no certificate; 1: it follows the verdict on a line of its own; 2: the same, with shared parts. A
                         strategy of df-pn whose certificate is too long for a check isn't used, so 1 may answer `unsettled`
                         where 0 answers `killed` or `lives`, and 2 seldom does */

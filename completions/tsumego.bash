@@ -5,7 +5,9 @@ _tsumego() {
     case $COMP_CWORD,${COMP_WORDS[1]},$word in
         1,*) words='solve score check' ;;
         *,check,-*) words='--parts' ;;
+        # tools/options begins
         *,solve,-*) words='--budget --depth --total --dfpn --workers --cert --parts --turns --progress' ;;
+        # tools/options ends
     esac
     mapfile -t COMPREPLY < <(compgen -W "$words" -- "$word")
 }
