@@ -88,7 +88,7 @@ def _asked(found: Marked, clock: Clock, tell: Tell) -> Answer:
     (others, after), (ours, leaning) = rest
     each_other = [others.pop(0) if _is_other_open(each, word) else Verdict(word.word) for each, word in zip(problems, verdicts)]
     closings = tuple(Closing(stones, *each) for (stones, _), each in zip(found.ways, zip(problems, verdicts, each_other)))
-    result = replace(result, other=each_other[0], closings=closings)
+    result = replace(result, if_other_begins=each_other[0], closings=closings)
     if not result.verdict.is_settled:
         return result
     result = replace(result, turns=_answered(problem, ours) if is_lost and ours else _turns(result, dict(zip(asked, after))))
@@ -113,7 +113,7 @@ def _turns(result: Answer, found: Dict[str, Verdict]) -> Tuple[Turn, ...]:
     turns = {turn: _turn(problem, turn, each) for turn, each in found.items() if (each.word, each.detail) != (REFUSED, REPEATS)}
     if first and first != PASS:
         turns[first] = Turn(first, True)
-    if first == PASS or (problem.to_move == problem.defender and result.other and result.other.word == LIVES):
+    if first == PASS or (problem.to_move == problem.defender and result.if_other_begins and result.if_other_begins.word == LIVES):
         turns[PASS] = Turn(PASS, True)
     return tuple(turns[turn] for turn in problem.open_points() + [PASS] if turn in turns)
 
