@@ -20,13 +20,13 @@ def names(answer: tsumego.Answer) -> List[str]:
 
 
 def refutations(answer: tsumego.Answer) -> Dict[str, str]:
-    return {answer.problem.point(each.turn): answer.problem.point(each.answer) for each in answer.failing}
+    return {answer.problem.point(each.turn): answer.problem.point(each.refutation) for each in answer.failing}
 
 
 @pytest.mark.parametrize("stone", [None, "D18", "db"])
 def test_the_corner_with_a_stone_on_the_edge(stone: str) -> None:
     answer = tsumego.solve(data.CORNER, stone, SECONDS)
-    assert (answer.verdict.word, answer.other.word) == ("killed", "lives")
+    assert (answer.verdict.word, answer.if_other_begins.word) == ("killed", "lives")
     assert names(answer) == ["A18", "B18", "A17"]
     assert refutations(answer) == {"A19": "B18", "B19": "B18", "D19": "B18", "E19": "B18", "C18": "A18", "A16": "B18"}
     assert len(answer.closings) == 9 and {each.verdict.word for each in answer.closings} == {"killed"} and not answer.closings_agree
@@ -34,7 +34,7 @@ def test_the_corner_with_a_stone_on_the_edge(stone: str) -> None:
 
 def test_the_tripod_is_dead() -> None:
     answer = tsumego.solve(data.TRIPOD, None, SECONDS)
-    assert (answer.verdict.word, answer.other.word, answer.closings_agree) == ("killed", "killed", True)
+    assert (answer.verdict.word, answer.if_other_begins.word, answer.closings_agree) == ("killed", "killed", True)
     assert "Black begins and can kill White's group at C18, by A19, B19, C19, D19, A18, B18, A17 or A16. It is dead as it stands." in " ".join(words.said(answer))
 
 
@@ -42,7 +42,7 @@ def test_five_on_the_second_line() -> None:
     answer = tsumego.solve(data.FIVE, None, SECONDS)
     assert names(answer) == ["B19", "E19"]
     # E19 is the vital point itself.
-    assert {each.stones: (each.verdict.word, each.other.word) for each in answer.closings} == {
+    assert {each.stones: (each.verdict.word, each.if_other_begins.word) for each in answer.closings} == {
         ("ga",): ("killed", "lives"), ("fa",): ("killed", "lives"), ("ea",): ("killed", "killed")}
 
 
@@ -74,14 +74,14 @@ def test_shapes_with_a_hole_in_the_wall(name: str, verdict: str, marks: str, tex
 @pytest.mark.parametrize("name, verdict, text", data.SUITE[::12], ids=[row[0] for row in data.SUITE[::12]])
 def test_problems_of_the_suite(name: str, verdict: str, text: str) -> None:
     answer = tsumego.solve(text, None, SECONDS)
-    assert answer.verdict.word == verdict and all(each.answer for each in answer.failing)
+    assert answer.verdict.word == verdict and all(each.refutation for each in answer.failing)
 
 
 def test_both_sides_of_a_shape_agree_about_the_other() -> None:
     by_name = {row[0]: tsumego.solve(row[3], None, SECONDS) for row in data.SHAPES if row[0].startswith("side_")}
     for name, answer in by_name.items():
         other = by_name[name[:-1] + ("W" if name.endswith("B") else "B")]
-        assert answer.other.word == other.verdict.word, name
+        assert answer.if_other_begins.word == other.verdict.word, name
 
 
 def test_the_other_side_and_a_group_that_needs_no_move() -> None:

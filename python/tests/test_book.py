@@ -57,14 +57,14 @@ def test_planted_errors_are_told_and_nothing_else(book: Path, tmp_path: Path) ->
     rows = [json.loads(line) for line in (out / "report.json").read_text().splitlines()]
     assert [row["name"] for row in rows if row["faults"]] == ["the wrong move", "the wrong side", "a line called wrong", "needs no move"]
     told = {row["name"]: row["faults"] for row in rows}
-    assert told["the wrong move"][0] == "F9: move 1, F9, loses to E9"
+    assert told["the wrong move"][0] == "the right line F9 fails, for it loses to E9"
     assert told["the wrong side"] == ["the solution begins with Black, but White is to move"]
-    assert told["a line called wrong"] == ["F9 is called wrong, but Black still wins", "E9: move 1, E9, loses to F9"]
+    assert told["a line called wrong"] == ["the line F9 is called wrong, but Black still wins", "the right line E9 fails, for it loses to F9"]
     assert told["needs no move"] == ["no move is needed: the group lives as it stands"]
     page = (out / "report.html").read_text()
     assert page.count("class=fault") == 4 and page.rindex("class=fault") < page.index(f"{book}, problem 1: one")
     table = [line.split("\t") for line in (out / "report.tsv").read_text().splitlines()]
-    assert len(table) == 9 and {len(row) for row in table} == {10} and table[1][2:5] == ["one", "killed", "F9"]
+    assert len(table) == 9 and {len(row) for row in table} == {11} and table[1][2:5] == ["one", "killed", "F9"] and [row[8] for row in table[:2]] == ["ko", "no"]
     marked = trees_of((out / "marked.sgf").read_text())
     assert len(marked) == 8 and all(tree.nodes[0].has("TR") and tree.nodes[0].has("SQ") for tree in marked)
     assert marked[1].variations[0].nodes[0].first("C") == "Wrong."
@@ -93,7 +93,7 @@ def test_a_book_of_sixty_with_five_errors(tmp_path: Path) -> None:
     assert told[-1] == f"60 problems, 4 to look at: {out}/report.html" and len(told) == 5
     assert [line.partition(", problem ")[2].partition(":")[0] for line in told[:4]] == ["9", "19", "48", "59"]
     assert "the wall is open: is a stone missing at " in told[0] and "A18 and A17 win" in told[1] and "begins with Black, but White is to move" in told[2]
-    assert "move 1, F9, loses to E9" in told[3]
+    assert "the right line F9 fails, for it loses to E9" in told[3]
     page = (out / "report.html").read_text()
     first = [part.partition("</h2>")[0] for part in page.split("<h2>")[1:6]]
     assert [name.rpartition("problem ")[2] for name in first[:4]] == [f"{at}: {planted[at][1].partition('GN[')[2].partition(']')[0]}" for at in (9, 19, 48, 59)]
@@ -173,6 +173,11 @@ def test_a_folder_of_others_is_left_alone(book: Path, tmp_path: Path) -> None:
     assert ended.returncode == 2 and "names a new folder" in ended.stderr and ended.stdout == ""
 
 
+def test_a_file_is_no_folder(book: Path, tmp_path: Path) -> None:
+    ended = run(str(book), str(tmp_path / "out"))
+    assert ended.returncode == 2 and ended.stderr == f"tsumego-book: {book} is a file: the first word names a folder for the report, and the files come behind it\n"
+
+
 def test_an_open_wall_is_told(tmp_path: Path) -> None:
     path = tmp_path / "open.sgf"
     path.write_text(data.CORNER)
@@ -188,5 +193,5 @@ def test_names_of_files_stay_in_their_line(tmp_path: Path) -> None:
     ended = run(str(tmp_path / "out"), str(path))
     assert ended.stdout.splitlines()[0] == f"{name}, problem 1: refused: line 1: the tree that begins in line 1 isn't closed"
     table = [line.split("\t") for line in (tmp_path / "out" / "report.tsv").read_text().splitlines()]
-    assert [len(row) for row in table] == [10, 10] and table[1][0] == name
+    assert [len(row) for row in table] == [11, 11] and table[1][0] == name
     assert json.loads((tmp_path / "out" / "report.json").read_text())["file"] == str(path)

@@ -36,16 +36,25 @@ def test_right_solutions(solution: str) -> None:
 @pytest.mark.parametrize(
     "solution, fault",
     [
-        (";B[ba]", "B7: move 1, B7, loses to C7"),
-        ("(;B[ca]C[Wrong.])(;B[da]C[Correct.])", "C7 is called wrong, but Black still wins"),
-        ("(;B[da]C[Correct.])", "D7: move 1, D7, loses to C7"),
+        (";B[ba]", "the right line B7 fails, for it loses to C7"),
+        ("(;B[ca]C[Wrong.])(;B[da]C[Correct.])", "the line C7 is called wrong, but Black still wins"),
+        ("(;B[da]C[Correct.])", "the right line D7 fails, for it loses to C7"),
         (";W[ca];B[ba]", "the solution begins with White, but Black is to move"),
-        (";B[ca];W[ca]", "C7 C7: move 2, C7, can't be played"),
-        ("(;B[ba])(;B[ca]C[RIGHT];W[zz])", "C7 zz: move 2, zz, can't be played"),
+        (";B[ca];W[ca]", "the line C7 C7: move 2, C7, can't be played"),
+        (";B[ba];W[ca]", "the right line B7 C7 fails: move 1, B7, loses to C7"),
+        (";B[C7]", "B[C7], move 1 of a line, is no point of the board: SGF counts two small letters from the upper left"),
+        (";B[ca];W[jj]", "W[jj], move 2 of a line, is no point of the board"),
+        ("(;B[ba])(;B[ca]C[RIGHT];W[zz])", "W[zz], move 2 of a line, is no point of the board"),
     ],
 )
 def test_faults(solution: str, fault: str) -> None:
     assert any(fault in each for each in found(solution))
+
+
+def test_a_setup_that_lacks_its_side() -> None:
+    row = next(row for row in data.SHAPES if row[0] == "centre_straight_three_B")
+    tree = trees_of(row[3].replace("PL[B]", "")[:-1] + ";W[ee])")[0]
+    assert "the solution begins with White, but Black is to move: is PL[W] missing?" in faults(tree, tsumego.solve(tree, None, 50), 50)
 
 
 def test_a_losing_third_move() -> None:

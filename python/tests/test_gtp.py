@@ -116,6 +116,13 @@ def test_gogui(tmp_path: Path) -> None:
     assert told[-2] == "= alive" and all(each.startswith("=") for each in told)
 
 
+@pytest.mark.parametrize(
+    "name, said", [("ko_black_takes", "a ko decides: with one ko threat White lives"), ("straight_three_black", "no ko decides")]
+)
+def test_whether_a_ko_decides(name: str, said: str, tmp_path: Path) -> None:
+    assert loaded((TOP / f"examples/{name}.sgf").read_text(), tmp_path).respond("tsumego-ko", []) == said
+
+
 def test_moves_are_history() -> None:
     text = (TOP / "examples/ko_white_took.sgf").read_text()
     problem = problem_of(trees_of(text)[0])

@@ -14,8 +14,8 @@ from tsumego.sgf import trees_of
 from tsumego.strategy import read_certificate
 
 EXAMPLES = Path(__file__).resolve().parents[2] / "examples"
-# So that a busy machine settles the problems with threats too.
-SECONDS = 400
+# (how much is asked doesn't go by the machine: a busy one gets the same answers later)
+SECONDS = 10
 
 
 def shape(name: str) -> kos.Shape:

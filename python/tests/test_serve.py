@@ -43,6 +43,11 @@ def test_texts_are_those_of_the_programs(service: Served) -> None:
     assert b"TE[1]" in service.post("/solution?point=D18", CORNER)[2]
 
 
+def test_a_port_that_is_taken(service: Served) -> None:
+    ended = subprocess.run([*COMMAND, "--port", str(service.port)], stderr=subprocess.PIPE, text=True, check=False)
+    assert (ended.returncode, ended.stderr) == (2, f"tsumego-serve: port {service.port} is taken, perhaps by another tsumego-serve; --port 0 takes a free one\n")
+
+
 def test_json(service: Served) -> None:
     assert service.data("/solve", STRAIGHT + "(;)") == {"problems": [{"problem": 1, "verdict": "killed", "turn": "ca"}, {"problem": 2, "verdict": "refused", "number": 20}]}
     turns = service.data("/turns", STRAIGHT)["problems"][0]["turns"]
@@ -51,6 +56,10 @@ def test_json(service: Served) -> None:
     certificate = service.data("/cert", STRAIGHT)["problems"][0]["certificate"]
     assert service.data("/check", STRAIGHT + certificate) == {"verdict": "valid"}
     assert service.data("/check", STRAIGHT) == {"verdict": "refused", "number": 30}
+    for path in ("/ask", "/solution"):
+        told = service.data(path, "(;SZ[9])")
+        assert told["number"] == 20 and told.get("cause") is None
+    assert service.data("/ask", STRAIGHT).get("cause") is None
     assert service.data("/score", STRAIGHT)["records"] == [{"record": 1, "black": 39, "white": 10, "finished": False}]
     ways = service.data("/mark?point=D18&close=1", CORNER)["ways"]
     assert len(ways) == 9 and ways[0]["stones"] == ["F19", "A15"] and ways[0]["points"] == 10

@@ -37,6 +37,12 @@ def test_faults_name_their_line(text: str, line: int, words: str) -> None:
     assert fault.value.line == line and words in str(fault.value)
 
 
+@pytest.mark.parametrize("encoding", ["utf-16", "utf-16-le", "utf-16-be"])
+def test_another_encoding_is_named(encoding: str) -> None:
+    with pytest.raises(SgfError, match="UTF-16: save it as UTF-8"):
+        trees_of(read_bytes("(;SZ[9]AB[aa])".encode(encoding)))
+
+
 def test_trees_in_front_of_a_fault_are_kept() -> None:
     with pytest.raises(SgfError) as fault:
         trees_of("(;B[aa])(;W[ab])(;B[")

@@ -33,12 +33,12 @@ def verdict_of(line: str) -> Verdict:
 
 @dataclass(frozen=True)
 class Turn:
-    """A first turn of the side to move: whether it wins (None: unknown), the other side's answer to it where it fails, and the winner's
-    strategy after it, if it was asked for and found."""
+    """A first turn of the side to move: whether it wins (None: unknown), what refutes it where it fails (a turn, or None where it fails at
+    once), and the winner's strategy after it, if it was asked for and found."""
 
     turn: str
     wins: Optional[bool]
-    answer: Optional[str] = None
+    refutation: Optional[str] = None
     strategy: Optional[Strategy] = None
 
 
@@ -49,7 +49,7 @@ class Closing:
     stones: Tuple[str, ...]
     problem: Problem
     verdict: Verdict
-    other: Verdict
+    if_other_begins: Verdict
 
 
 @dataclass(frozen=True)
@@ -67,7 +67,7 @@ class Answer:
     """All that was asked about one problem.
 
     `verdict.word` is killed, lives, unsettled or refused; `why` says more of the latter two. `turns` has the first turns row by row.
-    `other` is the verdict where the other side begins. `closings` has the ways in which an open wall was closed: the first is the
+    `if_other_begins` is the verdict where the other side begins. `closings` has the ways in which an open wall was closed: the first is the
     one that `problem`, `verdict` and `turns` are about. `ko` says whether a ko decides the verdict.
     """
 
@@ -75,7 +75,7 @@ class Answer:
     verdict: Verdict
     problem: Optional[Problem] = None
     turns: Tuple[Turn, ...] = ()
-    other: Optional[Verdict] = None
+    if_other_begins: Optional[Verdict] = None
     closings: Tuple[Closing, ...] = ()
     ko: Optional[Ko] = None
     why: str = ""
@@ -98,7 +98,7 @@ class Answer:
     @property
     def closings_agree(self) -> bool:
         """Whether all closings give the same verdict, whoever begins."""
-        return len({(each.verdict.word, each.other.word) for each in self.closings}) <= 1
+        return len({(each.verdict.word, each.if_other_begins.word) for each in self.closings}) <= 1
 
     @property
     def winner(self) -> Optional[str]:

@@ -55,7 +55,7 @@ def _asked(found: Marked, clock: Clock, tell: Tell) -> Answer:
     problems = [problem for _, problem in found.ways]
     first = in_parallel(lambda problem: settled(problem, clock) if problem is problems[0] else (verdict(problem, clock), None), problems)
     verdicts, line = [word for word, _ in first], first[0][1]
-    result, problem, took = Answer("", verdicts[0], problems[0]), problems[0], clock.spent()
+    result, problem = Answer("", verdicts[0], problems[0]), problems[0]
     tell(result.verdict)
     is_lost = result.verdict.is_settled and not result.is_mover_winner
     if is_lost and not line:
@@ -71,8 +71,12 @@ def _asked(found: Marked, clock: Clock, tell: Tell) -> Answer:
 
     def ask_rest() -> Tuple[List[Verdict], List[Verdict]]:
         others = [each.with_other_side() for each, word in zip(problems, verdicts) if _is_other_open(each, word)]
-        words = in_parallel(lambda ask: ask(), [partial(ask_turn, turn) for turn in asked] + [partial(verdict, each, clock) for each in others])
-        return words[len(asked) :], words[: len(asked)]
+        asks: List[Callable[[], Verdict]] = [partial(verdict, each, clock) for each in others]
+        # (what takes longest begins first)
+        asks[1:1] = [partial(ask_turn, turn) for turn in asked]
+        words = in_parallel(lambda ask: ask(), asks)
+        after = [words.pop(1 if others else 0) for _ in asked]
+        return words, after
 
     def look_through() -> Tuple[Optional[Strategy], Optional[List[Problem]]]:
         # (a long certificate takes a while to read: so that is done while the programs run, as is what the ko test wants of it)
@@ -84,11 +88,11 @@ def _asked(found: Marked, clock: Clock, tell: Tell) -> Answer:
     (others, after), (ours, leaning) = rest
     each_other = [others.pop(0) if _is_other_open(each, word) else Verdict(word.word) for each, word in zip(problems, verdicts)]
     closings = tuple(Closing(stones, *each) for (stones, _), each in zip(found.ways, zip(problems, verdicts, each_other)))
-    result = replace(result, other=each_other[0], closings=closings)
+    result = replace(result, if_other_begins=each_other[0], closings=closings)
     if not result.verdict.is_settled:
         return result
     result = replace(result, turns=_answered(problem, ours) if is_lost and ours else _turns(result, dict(zip(asked, after))))
-    return replace(result, ko=ko_of(result, leaning, clock, took))
+    return replace(result, ko=ko_of(result, leaning, clock))
 
 
 def _is_other_open(problem: Problem, found: Verdict) -> bool:
@@ -109,7 +113,7 @@ def _turns(result: Answer, found: Dict[str, Verdict]) -> Tuple[Turn, ...]:
     turns = {turn: _turn(problem, turn, each) for turn, each in found.items() if (each.word, each.detail) != (REFUSED, REPEATS)}
     if first and first != PASS:
         turns[first] = Turn(first, True)
-    if first == PASS or (problem.to_move == problem.defender and result.other and result.other.word == LIVES):
+    if first == PASS or (problem.to_move == problem.defender and result.if_other_begins and result.if_other_begins.word == LIVES):
         turns[PASS] = Turn(PASS, True)
     return tuple(turns[turn] for turn in problem.open_points() + [PASS] if turn in turns)
 

@@ -36,7 +36,8 @@ from .words import as_data, heading, said, shown
 __all__ = ["main"]
 
 KEPT = "answers.json"
-COLUMNS = ("file", "problem", "name", "verdict", "winning", "failing", "if_other_begins", "closings", "certificate", "faults")
+KO = {True: "decides", False: "no", None: "unknown"}
+COLUMNS = ("file", "problem", "name", "verdict", "winning", "failing", "if_other_begins", "closings", "ko", "certificate", "faults")
 
 
 def parser() -> Parser:
@@ -59,7 +60,7 @@ def asked(given: Input, limit: float, has_certificates: bool) -> Dict[str, Any]:
     if checked not in ("valid", "too long", "-"):
         wrong.append(f"its certificate is {checked}")
     name = heading(given.file, given.number, found.name)
-    lines = [f"Look: {each}." for each in wrong] + said(found)
+    lines = [f"Look: {each}{'' if each.endswith('?') else '.'}" for each in wrong] + said(found)
     tree = to_text(with_marks(given.tree, found)) if given.tree else ""
     return {**as_data(given.file, given.number, found), "certificate": checked, "faults": wrong, "card": card(name, lines, pictures(found), bool(wrong)), "tree": tree}
 
@@ -155,6 +156,7 @@ def cells(row: Dict[str, Any]) -> List[str]:
         "file": shown(row["file"]),
         "winning": " ".join(row["winning"]),
         "failing": " ".join(f"{each['turn']}:{each['refutation'] or '-'}" for each in row["failing"]),
+        "ko": KO[row["ko"]["decides"]] if row.get("ko") else "",
         "closings": "; ".join(f"{' '.join(each['stones'])}: {each['verdict']}" for each in row["closings"]),
         "faults": "; ".join(row["faults"]),
     }
@@ -183,6 +185,8 @@ def changes(before: Dict[str, str], now: Dict[str, str]) -> Iterator[str]:
 
 
 def run(args: argparse.Namespace) -> int:
+    if os.path.isfile(args.folder):
+        raise UsageError(f"{shown(args.folder)} is a file: the first word names a folder for the report, and the files come behind it")
     given = [each for file in args.files for each in read_file(file)]
     if os.path.exists(args.folder) and not os.path.exists(os.path.join(args.folder, KEPT)) and (not os.path.isdir(args.folder) or os.listdir(args.folder)):
         raise UsageError(f"{shown(args.folder)} is neither empty nor of an earlier run: the first word names a new folder for the report")

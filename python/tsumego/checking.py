@@ -10,7 +10,7 @@ from typing import Dict, Iterator, List, Optional, Tuple
 
 from .answers import LIVES, REFUSED, Answer, Verdict
 from .board import NAMES
-from .points import PASS
+from .points import PASS, read_point
 from .problems import MOVES, SETUP, Problem, asked_at, turn_of
 from .sgf import GameTree, Node, main_line, plain
 from .solving import Clock, verdict
@@ -85,6 +85,12 @@ class _Solution:
         self.problem, self.solver, self.clock = problem, solver, clock
         self.known: Dict[Tuple[Tuple[str, str], ...], Verdict] = {}
 
+    def is_point(self, turn: str) -> bool:
+        try:
+            return turn == read_point(turn, self.problem.columns, self.problem.rows)
+        except ValueError:
+            return False
+
     def after(self, moves: Tuple[Tuple[str, str], ...]) -> Verdict:
         if moves not in self.known:
             nodes = tuple(Node([(colour, ["" if turn == PASS else turn])]) for colour, turn in moves)
@@ -102,16 +108,19 @@ class _Solution:
         """What is wrong with what the file says of a line."""
         name = " ".join(self.problem.point(turn) for _, turn in line.moves)
         for count, (colour, turn) in enumerate(line.moves, 1):
+            if turn != PASS and not self.is_point(turn):
+                return f"{colour}[{turn}], move {count} of a line, is no point of the board: SGF counts two small letters from the upper left"
             found = self.after(line.moves[:count])
             if found.word == REFUSED and found.detail != TARGET_TAKEN:
-                return f"{name}: move {count}, {self.problem.point(turn)}, can't be played"
+                return f"the line {name}: move {count}, {self.problem.point(turn)}, can't be played"
             if line.is_right and colour == self.solver and self.wins(line.moves[:count]) is False:
                 by = f" to {self.problem.point(found.turn)}" if found.turn else ""
-                return f"{name}: move {count}, {self.problem.point(turn)}, loses{by}"
+                which = f": move {count}, {self.problem.point(turn)}, loses" if len(line.moves) > 1 else ", for it loses"
+                return f"the right line {name} fails{which}{by}"
             if found.word == REFUSED:
                 break
         if line.is_right is False and self.wins(line.moves):
-            return f"{name} is called wrong, but {NAMES[self.solver]} still wins"
+            return f"the line {name} is called wrong, but {NAMES[self.solver]} still wins"
         return None
 
 
@@ -128,7 +137,8 @@ def faults(tree: GameTree, answer: Answer, seconds: float) -> List[str]:
     lines = lines_of(tree, problem.to_move)
     begins = {line.moves[0][0] for line in lines}
     if begins and problem.to_move not in begins:
-        return found + [f"the solution begins with {NAMES[min(begins)]}, but {NAMES[problem.to_move]} is to move"]
+        lacks = "" if any(node.has("PL", *MOVES) for node in problem.nodes) else f": is PL[{min(begins)}] missing?"
+        return found + [f"the solution begins with {NAMES[min(begins)]}, but {NAMES[problem.to_move]} is to move{lacks}"]
     if not answer.verdict.is_settled:
         return found + ["who wins wasn't found in time"]
     solution = _Solution(problem, problem.to_move, Clock(seconds))
@@ -149,7 +159,7 @@ def _first_moves(problem: Problem, answer: Answer, lines: List[Line]) -> List[st
     plays = [turn for turn in answer.winning if turn != PASS]
     if not answer.is_mover_winner:
         return [f"no first move wins: {NAMES[problem.to_move]} can't {'live' if problem.to_move == problem.defender else 'kill'}"]
-    if PASS in answer.winning or (answer.other and answer.other.word == answer.verdict.word):
+    if PASS in answer.winning or (answer.if_other_begins and answer.if_other_begins.word == answer.verdict.word):
         return [f"no move is needed: the group {'lives' if answer.verdict.word == LIVES else 'is dead'} as it stands"]
     given = {line.moves[0][1] for line in lines}
     others = [problem.point(turn) for turn in plays if turn not in given]

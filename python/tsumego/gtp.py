@@ -26,13 +26,14 @@ from .programs import ProgramError
 from .sgf import GameTree, Node, main_line
 from .solving import Clock, strategy, verdict
 from .strategy import Strategy
-from .words import listed
+from .words import ko_said, listed
 
 __all__ = ["Engine", "GtpError", "main"]
 
 ANALYZE = (
     "gfx/First moves/tsumego-turns",
     "string/Status/dragon_status %p",
+    "string/Ko/tsumego-ko",
     "varc/Strategy/tsumego-line %c",
     "none/Group/tsumego-target %p",
     "plist/Region/tsumego-region",
@@ -243,7 +244,7 @@ class Engine:
 
     def do_captures(self, colour: str = "", *_: str) -> str:
         """How many stones of the other side a colour has taken since the setup."""
-        wanted, board, _ = colour_of(colour), *replace(self.problem, nodes=self.problem.nodes[:1]).position()
+        wanted, board, _to_move = colour_of(colour), *replace(self.problem, nodes=self.problem.nodes[:1]).position()
         taken = [board.play(*turn) for turn in self.turns()]
         return str(sum(len(stones) for (by, turn), stones in zip(self.turns(), taken) if by == wanted and turn not in stones))
 
@@ -298,6 +299,14 @@ class Engine:
         if attack == "0":
             return "alive"
         return "dead" if defend == "0" else f"critical {attack[2:]} {defend[2:]}"
+
+    def do_tsumego__ko(self, *_: str) -> str:
+        """Whether a ko decides, where the side to move begins. The other commands know no ko threats."""
+        found = self.answer(self.problem.to_move)
+        assert found.ko
+        if found.ko.decides is None:
+            return "it isn't known whether a ko decides"
+        return ko_said(found) or "no ko decides"
 
     def do_reg_genmove(self, colour: str = "", *_: str) -> str:
         return vertex(self.turn(colour_of(colour)), self.problem.rows)
@@ -359,7 +368,7 @@ class Engine:
         problem = found.problem
         assert problem
         allowed = {self.turn_of(each) for at, word in enumerate(words) if word == "allow" for each in "".join(words[at + 2 : at + 3]).split(",") if each}
-        shown = [(turn, 1, "") for turn in found.winning] + [(each.turn, 0, each.answer or "") for each in found.failing]
+        shown = [(turn, 1, "") for turn in found.winning] + [(each.turn, 0, each.refutation or "") for each in found.failing]
         parts: List[str] = []
         for turn, wins, then in shown:
             if not allowed or turn in allowed:

@@ -18,67 +18,93 @@ What this can't see: a ko that needs more threats; without room for a threat, a 
 """
 import itertools
 from dataclasses import replace
-from typing import Dict, FrozenSet, List, Optional, Set, Tuple
+from typing import Dict, FrozenSet, Iterator, List, Optional, Set, Tuple
 
 from .answers import KILLED, LIVES, Answer, Ko, Verdict
 from .board import OTHER, Board
 from .points import PASS, sgf_name
 from .problems import Problem, set_up
-from .programs import in_parallel
-from .solving import Clock, first_turns, verdict
+from .solving import OUT_OF_TIME, Clock, first_turns, verdicts
 from .strategy import Strategy
 
 __all__ = ["ko_of", "leaning_on_repetition", "with_attackers_threat", "with_defenders_threat"]
 
 MOST_THREATS = 3
-# A problem with a threat takes at least so many times as long as one without.
-HARDER = 3
+# For each second that an answer may take so many made problems are asked, and of each so many positions; and as many as for some seconds at
+# least. Problems with threats are harder than others, and few.
+ASKED, POSITIONS, HARDER, SECONDS = 8, 300, 10, 10
 # A strategy of more positions isn't looked through: that takes too long. And so many of them are asked about.
 LONGEST, MOST_LEANING = 5_000, 24
 # So many turns of the defender lead to a ko at most, and so many turns of the attacker are followed at each.
 DEEPEST, MOST_TURNS = 2, 3
 
 
-def ko_of(answer: Answer, leaning: Optional[List[Problem]], clock: Clock, took: float = 0.0) -> Ko:
+def ko_of(answer: Answer, leaning: Optional[List[Problem]], clock: Clock) -> Ko:
     """What made problems say of a settled answer: with how many threats of the loser it becomes another one, up to three. `leaning` are
-    the positions at which the winner's strategy leans on repetition, if that is known. It takes a twentieth of the clock's seconds at most;
-    `took` says how many the verdict took: problems with threats take longer, so they aren't made where that would be too long."""
+    the positions at which the winner's strategy leans on repetition, if that is known. How much is asked goes by the clock's seconds, and not
+    by how fast the machine is: so the answer is the same again, if the clock doesn't run out."""
     problem = answer.problem
     assert problem
-    clock = clock.part(20)
-    if leaning is not None:
-        found = in_parallel(lambda each: verdict(each, clock), leaning)
-        if all(each.word == answer.verdict.word for each in found):
-            return Ko(False, 1 if found else 0, tuple(leaning))
-    if took * HARDER > clock.left():
-        return Ko(None, 0, ())
-    threats = _with_threats(problem, answer.verdict, clock)
+    asking = _Asking(clock)
+    if leaning is not None and all(each.word == answer.verdict.word for each in asking.verdicts(leaning, HARDER)):
+        return Ko(False, 1 if leaning else 0, tuple(leaning))
+    threats = _with_threats(problem, answer.verdict, asking)
     if threats.decides or answer.verdict.word == LIVES:
         return threats
-    taking = _TakingBack(clock)
     if problem.to_move == problem.attacker and not answer.unknown:
-        taking.known[problem.text()] = {turn: KILLED for turn in answer.winning}
+        asking.known[problem.text()], asking.kills[problem.text()] = answer.verdict, list(answer.winning)
     # (a defender that can do nothing passes, and the attacker begins)
     begins = [problem] if problem.to_move == problem.attacker else [problem, problem.after(PASS)]
     for depth in range(1, DEEPEST + 1):
         for each in begins:
-            after = taking.living(each, depth)
+            after = _living(each, depth, asking)
             if after:
                 return Ko(True, 1, tuple(after))
     return threats
 
 
-def _with_threats(problem: Problem, verdict_without: Verdict, clock: Clock) -> Ko:
+class _Asking:
+    """Asks about made problems, so many at most, of each so many positions."""
+
+    def __init__(self, clock: Clock) -> None:
+        seconds = max(SECONDS, clock.seconds)
+        self.clock, self.left, self.positions = clock, round(ASKED * seconds), round(POSITIONS * seconds)
+        self.known: Dict[str, Verdict] = {}
+        self.kills: Dict[str, List[str]] = {}
+
+    def verdicts(self, problems: List[Problem], times: int = 1) -> List[Verdict]:
+        """Who wins each problem, in so many times the positions. Those past the bound aren't settled."""
+        texts = [each.text() for each in problems]
+        new = {text: each for text, each in zip(texts, problems) if text not in self.known}
+        asked = dict(list(new.items())[: self.left])
+        self.left -= len(asked)
+        self.known.update(zip(asked, verdicts(list(asked.values()), self.clock, self.positions * times)))
+        return [self.known.get(text, OUT_OF_TIME) for text in texts]
+
+    def verdict(self, problem: Problem) -> Verdict:
+        return self.verdicts([problem])[0]
+
+    def killing(self, problem: Problem) -> List[str]:
+        """The turns of the attacker that kill; none where that isn't known."""
+        text = problem.text()
+        if text not in self.kills:
+            found = first_turns(problem, self.clock, self.positions) if self.left > 0 else {}
+            self.left -= len(found)
+            self.kills[text] = [turn for turn, word in found.items() if word == KILLED]
+        return self.kills[text]
+
+
+def _with_threats(problem: Problem, verdict_without: Verdict, asking: _Asking) -> Ko:
     """What the problems with one, two and three threats of the loser say."""
     add = with_attackers_threat if verdict_without.word == LIVES else with_defenders_threat
     tried: List[Problem] = []
     made = add(problem) if problem.region else None
     while made and len(tried) < MOST_THREATS:
         tried.append(made)
-        found = verdict(made, clock)
-        if not found.is_settled or found.word != verdict_without.word:
-            return Ko(True if found.is_settled else None, len(tried), tuple(tried))
         made = add(made)
+    for count, found in enumerate(asking.verdicts(tried, HARDER), 1):
+        if found.word != verdict_without.word:
+            return Ko(True if found.is_settled else None, count, tuple(tried[:count]))
     return Ko(False if tried else None, len(tried), tuple(tried))
 
 
@@ -169,46 +195,36 @@ def _are_safe(board: Board, made: Board, but: Set[str], region: Set[str]) -> boo
 # ---- without room for a threat: the defender takes back
 
 
-class _TakingBack:
-    """What was asked about kos that the defender takes back."""
+def _living(problem: Problem, depth: int, asking: _Asking) -> List[Problem]:
+    """The problems after kos in which the defender lives, if there is one for each turn of the attacker that kills; else none. So many
+    turns of the defender may lead to the ko."""
+    board, to_move = problem.position()
+    if not all(target in board.stones for target in problem.targets):
+        return []
+    if to_move == problem.defender:
+        # (the attacker may have taken a ko: set up anew, the defender may take back)
+        made = _anew(problem)
+        if problem.nodes[-1].has(problem.attacker) and asking.verdict(made).word == LIVES:
+            return [made]
+        return next(filter(None, _after_turns(problem, depth - 1, asking)), []) if depth else []
+    first = asking.verdict(problem)
+    if first.word != KILLED or not first.turn:
+        return []
+    found = [_living(problem.after(first.turn), depth, asking)]
+    # (most positions need no other turn of the attacker)
+    others = [turn for turn in asking.killing(problem) if turn != first.turn] if found[0] else []
+    for turn in others if len(others) < MOST_TURNS else []:
+        found += [_living(problem.after(turn), depth, asking)] if found[-1] else []
+    return [made for each in found for made in each] if all(found) and len(others) < MOST_TURNS else []
 
-    def __init__(self, clock: Clock) -> None:
-        self.clock = clock
-        self.known: Dict[str, Dict[str, str]] = {}
 
-    def first_turns(self, problem: Problem) -> Dict[str, str]:
-        text = problem.text()
-        if text not in self.known:
-            self.known[text] = first_turns(problem, self.clock)
-        return self.known[text]
-
-    def living(self, problem: Problem, depth: int) -> List[Problem]:
-        """The problems after kos in which the defender lives, if there is one for each turn of the attacker that kills; else none."""
-        board, to_move = problem.position()
-        if not all(target in board.stones for target in problem.targets):
-            return []
-        if to_move == problem.defender:
-            made = _anew(problem)
-            if problem.nodes[-1].has(problem.attacker) and verdict(made, self.clock).word == LIVES:
-                return [made]
-            for turn in problem.open_points() if depth and self.clock.left() > 0 else []:
-                found = self.living(problem.after(turn), depth - 1)
-                if found:
-                    return found
-            return []
-        kills = [turn for turn, word in self.first_turns(problem).items() if word == KILLED]
-        after = [self.after(problem, turn, depth) for turn in kills] if len(kills) <= MOST_TURNS else [[]]
-        return [made for each in after for made in each] if all(after) else []
-
-    def after(self, problem: Problem, turn: str, depth: int) -> List[Problem]:
-        """If the turn takes a ko and the defender lives by taking back, the problem that says so; else what follows the turn."""
-        board, colour = problem.position()
-        taken = board.play(colour, turn)
-        if len(taken) == 1 and board.liberties(turn) == taken and len(board.chain(turn)) == 1:
-            made = _anew(problem.after(turn))
-            if verdict(made, self.clock).word == LIVES:
-                return [made]
-        return self.living(problem.after(turn), depth)
+def _after_turns(problem: Problem, depth: int, asking: _Asking) -> Iterator[List[Problem]]:
+    """What follows each play of the defender."""
+    turns = list(map(problem.after, problem.open_points()))
+    kills = [(each, found.turn) for each, found in zip(turns, asking.verdicts(turns)) if found.word == KILLED and found.turn]
+    # (asked side by side)
+    asking.verdicts([_anew(each.after(turn)) for each, turn in kills])
+    return (_living(each, depth, asking) for each, _ in kills)
 
 
 def _anew(problem: Problem) -> Problem:

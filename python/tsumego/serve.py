@@ -41,6 +41,7 @@ object). Each line of standard output is one with the same `id`, a `status` and 
 Without --address the service listens on this machine alone. The archive has a unit for systemd and a Containerfile.
 """
 import argparse
+import errno
 import io
 import shutil
 import subprocess
@@ -103,7 +104,8 @@ def main(words: Optional[List[str]] = None) -> int:
         log(f"tsumego-serve: {fault.said or 'the program is out of time'}")
         return 2
     except (OSError, OverflowError, ValueError, ProgramError) as fault:
-        log(f"tsumego-serve: {fault}")
+        is_taken = isinstance(fault, OSError) and fault.errno == errno.EADDRINUSE
+        log(f"tsumego-serve: {f'port {args.port} is taken, perhaps by another tsumego-serve; --port 0 takes a free one' if is_taken else fault}")
         return 2
     if server:
         server.serve()

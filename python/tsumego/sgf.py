@@ -143,6 +143,8 @@ def _error(text: str, begin: int, at: int, is_token: bool) -> SgfError:
     if at >= len(text):
         begun = text.count("\n", 0, begin) + 1
         return SgfError(f"the tree that begins in line {begun} isn't closed", begin, line)
+    if text[at] == "\0":
+        return SgfError("the text is in no encoding that is read, perhaps in UTF-16: save it as UTF-8", at, line)
     if text[at] == "[" and not is_token:
         return SgfError("a value isn't closed: its ] is missing", at, line)
     return SgfError(f"{text[at]!r} can't stand here", at, line)

@@ -42,8 +42,8 @@ def _first(problem: Problem, turn: Turn, share: int) -> GameTree:
         words += " " + tree.nodes[0].first("C")
     properties = [(colour, [value(turn.turn)]), ("TE" if turn.wins else "BM", ["1"]), ("C", [escaped(words)])]
     tree.nodes[0] = Node(properties + tree.nodes[0].without(colour, "C").properties)
-    if turn.answer and not turn.strategy:
-        tree.nodes.append(Node([(OTHER[colour], [value(turn.answer)])]))
+    if turn.refutation and not turn.strategy:
+        tree.nodes.append(Node([(OTHER[colour], [value(turn.refutation)])]))
     return tree
 
 

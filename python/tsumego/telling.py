@@ -12,7 +12,7 @@ import sys
 from typing import Any, Dict, List, Optional, Tuple, Union
 
 from . import solving
-from .answers import Turn, Verdict
+from .answers import UNSETTLED, Turn, Verdict
 from .asking import SECONDS, answer, with_strategies
 from .command import status_of
 from .marking import Marked, Refused, marked
@@ -52,7 +52,7 @@ def way(stones: Tuple[str, ...], problem: Problem) -> Dict[str, Any]:
 
 
 def turn_data(problem: Problem, turn: Turn) -> Dict[str, Any]:
-    return {"turn": problem.point(turn.turn), "wins": turn.wins, "refutation": problem.point(turn.answer) if turn.answer else None}
+    return {"turn": problem.point(turn.turn), "wins": turn.wins, "refutation": problem.point(turn.refutation) if turn.refutation else None}
 
 
 def text_of(tree: GameTree) -> str:
@@ -63,7 +63,8 @@ def text_of(tree: GameTree) -> str:
 def ask(tree: GameTree, stone: Optional[str], seconds: float) -> None:
     found = answer(tree, stone, seconds, Telling())
     turns = [turn_data(found.problem, each) for each in found.turns] if found.problem else []
-    tell("answer", lines=said(found), turns=turns, cause=found.verdict.detail, **as_data("", 1, found))
+    cause = found.verdict.detail if found.verdict.word == UNSETTLED else None
+    tell("answer", lines=said(found), turns=turns, cause=cause, **as_data("", 1, found))
 
 
 def mark(tree: GameTree, stone: Optional[str], _: float) -> None:
@@ -74,7 +75,7 @@ def mark(tree: GameTree, stone: Optional[str], _: float) -> None:
 def make_solution(tree: GameTree, stone: Optional[str], seconds: float) -> None:
     found = answer(tree, stone, seconds / 2)
     if found.problem is None:
-        tell("refused", why=found.why)
+        tell("refused", number=int(found.verdict.detail), why=found.why)
     else:
         tell("solution", sgf=text_of(solution(with_strategies(found, seconds / 2))), lines=said(found))
 
@@ -88,7 +89,7 @@ def run(args: argparse.Namespace) -> int:
         tree = chapter(trees_of(read_bytes(sys.stdin.buffer.read()))[0])[0]
         KINDS[args.kind](tree, args.stone, args.seconds)
     except (SgfError, Refused) as fault:
-        tell("refused", why=str(fault), lines=[f"Refused: {fault}."])
+        tell("refused", number=fault.number if isinstance(fault, Refused) else 1, why=str(fault), lines=[f"Refused: {fault}."])
     return 0
 
 

@@ -7,7 +7,7 @@ from .board import NAMES, OTHER
 from .points import PASS
 from .problems import Problem
 
-__all__ = ["as_data", "heading", "listed", "refutation", "said", "shown"]
+__all__ = ["as_data", "heading", "ko_said", "listed", "refutation", "said", "shown"]
 
 
 def listed(words: Iterable[str], last: str = "and") -> str:
@@ -50,7 +50,7 @@ def _wall(answer: Answer) -> List[str]:
         return lines
     if answer.closings_agree:
         return lines + [f"All {len(answer.closings)} closings agree."]
-    for colour, word in ((problem.to_move, "verdict"), (OTHER[problem.to_move], "other")):
+    for colour, word in ((problem.to_move, "verdict"), (OTHER[problem.to_move], "if_other_begins")):
         lines.append(_agreement(answer, colour, word))
     return lines
 
@@ -80,7 +80,7 @@ def _unsettled(answer: Answer) -> str:
 
 def _settled(answer: Answer) -> List[str]:
     problem = answer.problem
-    assert problem and answer.other
+    assert problem and answer.if_other_begins
     mover, other = NAMES[problem.to_move], NAMES[OTHER[problem.to_move]]
     is_defender = problem.to_move == problem.defender
     does = f"save the group at {problem.point(problem.targets[0])}" if is_defender else f"kill {group(problem)}"
@@ -89,7 +89,7 @@ def _settled(answer: Answer) -> List[str]:
         return [f"{mover} begins and can't {does}. {stands}"] + _ko(answer) + _failing(answer, other)
     plays = [problem.point(turn) for turn in answer.winning if turn != PASS]
     lines = [f"{mover} begins and can {does}{', by ' + listed(plays, 'or') if plays else ''}."]
-    if PASS in answer.winning or answer.other.word == answer.verdict.word:
+    if PASS in answer.winning or answer.if_other_begins.word == answer.verdict.word:
         lines.append("It lives as it stands: it needs no move." if is_defender else "It is dead as it stands.")
     lines += _ko(answer) + _failing(answer, other)
     if answer.unknown:
@@ -99,12 +99,18 @@ def _settled(answer: Answer) -> List[str]:
 
 def _ko(answer: Answer) -> List[str]:
     """That a ko decides, where it does."""
+    found = ko_said(answer)
+    return [f"But {found}."] if found else []
+
+
+def ko_said(answer: Answer) -> str:
+    """With how many threats a ko decides; nothing where none does, or that isn't known."""
     problem, ko = answer.problem, answer.ko
     assert problem
     if ko is None or not ko.decides:
-        return []
+        return ""
     loser, does = (problem.attacker, "kills") if answer.verdict.word == LIVES else (problem.defender, "lives")
-    return [f"But a ko decides: with {('one', 'two', 'three')[ko.threats - 1]} ko threat{'s' if ko.threats > 1 else ''} {NAMES[loser]} {does}."]
+    return f"a ko decides: with {('one', 'two', 'three')[ko.threats - 1]} ko threat{'s' if ko.threats > 1 else ''} {NAMES[loser]} {does}"
 
 
 def _failing(answer: Answer, other: str) -> List[str]:
@@ -121,13 +127,13 @@ def _failing(answer: Answer, other: str) -> List[str]:
 
 def refutation(problem: Problem, turn: Turn, other: str) -> str:
     """What the other side does after a turn that fails."""
-    if turn.answer is None:
+    if turn.refutation is None:
         return "at once"
-    return f"{other} needs no answer" if turn.answer == PASS else f"{other} {problem.point(turn.answer)}"
+    return f"{other} needs no answer" if turn.refutation == PASS else f"{other} {problem.point(turn.refutation)}"
 
 
 def _other_side(answer: Answer) -> List[str]:
-    problem, other = answer.problem, answer.other
+    problem, other = answer.problem, answer.if_other_begins
     assert problem and other
     colour = OTHER[problem.to_move]
     if other.word == answer.verdict.word:
@@ -135,7 +141,7 @@ def _other_side(answer: Answer) -> List[str]:
     if not other.is_settled:
         return [f"Open: who wins if {NAMES[colour]} begins."]
     does = "lives" if colour == problem.defender else "kills"
-    begins = "If" if len({each.other.word for each in answer.closings}) < 2 else "As it is closed here, if"
+    begins = "If" if len({each.if_other_begins.word for each in answer.closings}) < 2 else "As it is closed here, if"
     return [f"{begins} {NAMES[colour]} begins, {NAMES[colour]} {does}{', by ' + problem.point(other.turn) if other.turn else ''}."]
 
 
@@ -144,17 +150,17 @@ def as_data(file: str, number: int, answer: Answer) -> Dict[str, Any]:
     data: Dict[str, Any] = {"file": file, "problem": number, "name": answer.name, "verdict": answer.verdict.word, "winning": [], "failing": [], "closings": []}
     problem = answer.problem
     if problem is None:
-        return {**data, "why": answer.why}
+        return {**data, "number": int(answer.verdict.detail), "why": answer.why}
     data.update(
         to_move=NAMES[problem.to_move],
         winner=NAMES[answer.winner] if answer.winner else None,
         group=list(map(problem.point, problem.targets)),
         winning=list(map(problem.point, answer.winning)),
-        failing=[{"turn": problem.point(each.turn), "refutation": problem.point(each.answer) if each.answer else None} for each in answer.failing],
+        failing=[{"turn": problem.point(each.turn), "refutation": problem.point(each.refutation) if each.refutation else None} for each in answer.failing],
         open=list(map(problem.point, answer.unknown)),
-        if_other_begins=answer.other.word if answer.other else None,
+        if_other_begins=answer.if_other_begins.word if answer.if_other_begins else None,
         closings=[
-            {"stones": list(map(problem.point, each.stones)), "verdict": each.verdict.word, "if_other_begins": each.other.word} for each in answer.closings if each.stones
+            {"stones": list(map(problem.point, each.stones)), "verdict": each.verdict.word, "if_other_begins": each.if_other_begins.word} for each in answer.closings if each.stones
         ],
         ko=answer.ko and {"decides": answer.ko.decides, "threats": answer.ko.threats, "problems": [each.text() for each in answer.ko.tried]},
         hints=list(answer.notes),
