@@ -33,7 +33,7 @@ fn are_empty(board: &Board, points: &PointSet) -> bool
 }
 
 /// The board with stones of a colour added, where each stone has a liberty then.
-fn board_with_stones(board: &Board, colour: Colour, stones: &PointSet) -> Option<Board>
+pub fn board_with_stones(board: &Board, colour: Colour, stones: &PointSet) -> Option<Board>
     ensures { IfSome result (λ b. (b ≡ record { size = board.now.size; points = with_stones board.now.size board.now.points colour stones.now })
         × AllHaveLiberties board.now.size (with_stones board.now.size board.now.points colour stones.now)) }
 {
@@ -109,97 +109,35 @@ fn list_if_closing(
     Ok(())
 }
 
-/// Lists what closes the wall with one stone more than these.
-fn list_by_one(
-    board: &Board,
-    colour: Colour,
-    stone: Point,
-    ways: &Ways,
-    stones: &Bits,
-    found: &mut Vec<Closing>,
-) -> Result<(), NoMemory>
-    requires { stone < point_count board.now.size }
-    ensures { AreClosings board.now.size board.now.points colour stone found.old.items → AreClosings board.now.size board.now.points colour stone found.new.items }
-{
-    let way = ways.shortest(stones);
-    for p in 0..board.size().point_count() {
-        if !way.has(p) {
-            continue;
-        }
-        let mut more = *stones;
-        more.set(p);
-        if !ways.are_shut_by(&more) {
-            continue;
-        }
-        list_if_closing(board, colour, stone, &more, found)?;
-    }
-    Ok(())
-}
-
-/// Lists what closes the wall with two stones more than these.
-fn list_by_two(
-    board: &Board,
-    colour: Colour,
-    stone: Point,
-    ways: &Ways,
-    stones: &Bits,
-    found: &mut Vec<Closing>,
-) -> Result<(), NoMemory>
-    requires { stone < point_count board.now.size }
-    ensures { AreClosings board.now.size board.now.points colour stone found.old.items → AreClosings board.now.size board.now.points colour stone found.new.items }
-{
-    let way = ways.shortest(stones);
-    for p in 0..board.size().point_count() {
-        if !way.has(p) {
-            continue;
-        }
-        let mut more = *stones;
-        more.set(p);
-        list_by_one(board, colour, stone, ways, &more, found)?;
-    }
-    Ok(())
-}
-
-/// Lists what closes the wall with three stones.
-fn list_by_three(
-    board: &Board,
-    colour: Colour,
-    stone: Point,
-    ways: &Ways,
-    found: &mut Vec<Closing>,
-) -> Result<(), NoMemory>
-    requires { stone < point_count board.now.size }
-    ensures { AreClosings board.now.size board.now.points colour stone found.old.items → AreClosings board.now.size board.now.points colour stone found.new.items }
-{
-    let way = ways.shortest(&Bits::none());
-    for p in 0..board.size().point_count() {
-        if !way.has(p) {
-            continue;
-        }
-        let mut more = Bits::none();
-        more.set(p);
-        list_by_two(board, colour, stone, ways, &more, found)?;
-    }
-    Ok(())
-}
-
-/// Lists what closes the wall with so many stones, 1 to `MOST_STONES`.
+/// Lists what closes the wall with so many stones more than these. Each is on a shortest way that the others leave open.
 fn list_by(
     board: &Board,
     colour: Colour,
     stone: Point,
     ways: &Ways,
-    stones: usize,
+    stones: &Bits,
+    left: usize,
     found: &mut Vec<Closing>,
 ) -> Result<(), NoMemory>
     requires { stone < point_count board.now.size }
     ensures { AreClosings board.now.size board.now.points colour stone found.old.items → AreClosings board.now.size board.now.points colour stone found.new.items }
 {
-    match stones {
-        1 => list_by_one(board, colour, stone, ways, &Bits::none(), found),
-        2 => list_by_two(board, colour, stone, ways, &Bits::none(), found),
-        _ => list_by_three(board, colour, stone, ways, found),
+    if left == 0 {
+        if !ways.are_shut_by(stones) {
+            return Ok(());
+        }
+        return list_if_closing(board, colour, stone, stones, found);
     }
+    let way = ways.shortest(stones);
+    for p in 0..board.size().point_count() {
+        if !way.has(p) {
+            continue;
+        }
+        let mut more = *stones;
+        more.set(p);
+        list_by(board, colour, stone, ways, &more, left - 1, found)?;
+    }
+    Ok(())
 }
 
 /// The closings with so many stones, the best first.
@@ -215,13 +153,22 @@ pub(crate) fn closings_by(
     ensures { IfOk result (λ v. AreClosings board.now.size board.now.points colour stone v.items) }
 {
     let mut found = Vec::new(alloc);
-    list_by(board, colour, stone, ways, stones, &mut found)?;
+    list_by(
+        board,
+        colour,
+        stone,
+        ways,
+        &Bits::none(),
+        stones,
+        &mut found,
+    )?;
     found.sort_by_key(|closing| closing.rank)?;
     Ok(found)
 }
 
-/// The stones that close the wall around the group of a stone of this colour, with as few of them as do, at most `MOST_STONES`. The best
-/// come first: those of which fewest are beside a stone of the group's colour, then those that leave the group most room.
+/// The stones that close the wall around the group of a stone of this colour, at most `MOST_STONES` together: more are looked for only where
+/// fewer weren't found, but now and then one of them isn't needed. The best come first: those of which fewest are beside a stone of the
+/// group's colour, then those that leave the group most room.
 pub fn closings(
     alloc: Global,
     board: &Board,
