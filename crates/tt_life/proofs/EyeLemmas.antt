@@ -1,6 +1,6 @@
 -- Eyes by the sets of what is linked.
-use Rattle.std.proofs.Common.{◌≡◌, ◌≢◌, ℕ, ◌+◌, ◌<◌, ◌≤◌, ◌↔◌, ◌&&◌, List, Some, None, true, false, IsTrue, inl, inr, sym, ap, subst, ◌∙◌, arith}
-use Rattle.std.proofs.lemmas.Bool.{cases_eq, cases_lt, true≢false, and_parts, and_from, or_cases, or_left, or_right}
+use Rattle.std.proofs.Common.{◌≡◌, ◌≢◌, ℕ, ◌<◌, ◌≤◌, ◌↔◌, ◌&&◌, List, Some, None, true, false, IsTrue, inl, inr, sym, ◌∙◌, arith}
+use Rattle.std.proofs.lemmas.Bool.{cases_lt, true≢false, and_parts, and_from, or_cases, or_left, or_right}
 use Rattle.std.proofs.lemmas.Option.{none-some}
 use Rattle.tt_sgf.specs.declared.size.Size.{Size}
 use Rattle.tt_sgf.specs.declared.bits.TheConstants.{BITS}
@@ -65,27 +65,6 @@ module _ (s : Size) (near empty starts : List ℕ) (starts_are : (q : ℕ) → q
       let in_p = points_on_board s empty p e in
       let there = bit_of_point s near p (at.0 p (linked_itself s space p)) in
       true≢false (sym (starts_are p (small s p in_p) ∙ and_from _ _ there (bit_of_point s empty p e)) ∙ off)
-
--- one point more is looked at
-module _ (eyes : List ℕ) (IsEmpty IsAt : ℕ → Type 0) (p : ℕ) (found : (q : ℕ) → q < BITS → (bit_in eyes q ≡ true) ↔ ((q < p) × IsEmpty q × IsAt q)) where
-  pub none_more : (IsEmpty p → IsAt p → ⊥) → (q : ℕ) → q < BITS → (bit_in eyes q ≡ true) ↔ ((q < p + 1) × IsEmpty q × IsAt q)
-  none_more not_ q lt = (
-    λ on. let h = (found q lt).0 on in (omega (arith, h.0), h.1, h.2),
-    λ h. elim (cases_eq q p) [
-      | inl same ↦ absurd (not_ (subst IsEmpty same h.1) (subst IsAt same h.2))
-      | inr apart ↦ (found q lt).1 (omega (arith, h.0), h.1, h.2)
-    ],
-  )
-
-  pub one_more : IsEmpty p → IsAt p → (made : List ℕ) → bit_in made p ≡ true → ((q : ℕ) → q < BITS → (q ≡ p → ⊥) → bit_in made q ≡ bit_in eyes q)
-      → (q : ℕ) → q < BITS → (bit_in made q ≡ true) ↔ ((q < p + 1) × IsEmpty q × IsAt q)
-  one_more e at made on rest q lt = elim (cases_eq q p) [
-    | inl same ↦ (λ _. (omega arith, subst IsEmpty (sym same) e, subst IsAt (sym same) at), λ _. ap (bit_in made) same ∙ on)
-    | inr apart ↦ (
-      λ h. let was = (found q lt).0 (sym (rest q lt apart) ∙ h) in (omega (arith, was.0), was.1, was.2),
-      λ h. rest q lt apart ∙ (found q lt).1 (omega (arith, h.0), h.1, h.2),
-    )
-  ]
 
 -- a linked set is an eye where its first point is at one
 module _ (s : Size) (space stones near : Points) (p : ℕ) (eye : Points) (linked : IsLinkedSet s space p eye) where

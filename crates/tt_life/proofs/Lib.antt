@@ -6,3 +6,5 @@ pub mod EyeLemmas
 pub mod AliveLemmas
 pub mod SiftLemmas
 pub mod GroundLemmas
+pub mod OutsideLemmas
+pub mod FoundEyesLemmas

@@ -18,7 +18,7 @@ use Rattle.tt_life.proofs.LinkedLemmas.{in_points, points_on_board, bit_of_point
 use Rattle.tt_life.proofs.LinkedSetLemmas.{small}
 
 -- what is linked to a point is linked to each of it
-same_chain : (s : Size) (stones chain : List ℕ) (p : ℕ) → IsTrue (points_in s stones p) → IsLinkedSet s (points_in s stones) p (points_in s chain)
+pub same_chain : (s : Size) (stones chain : List ℕ) (p : ℕ) → IsTrue (points_in s stones p) → IsLinkedSet s (points_in s stones) p (points_in s chain)
     → (q : ℕ) → IsTrue (points_in s chain q) → IsLinkedSet s (points_in s stones) q (points_in s chain)
 same_chain s stones chain p mine linked q there x =
     let way = (linked q).0 there in (
@@ -37,15 +37,6 @@ pub record IsSifted (f : Frame) (g : Ground) (stones kept done : List ℕ) (p : 
       → IsAliveAmong f c (points_in f.size stones) q → bit_in kept q ≡ true
 
 module _ (f : Frame) (g : Ground) (stones : List ℕ) where
-  pub sift_first : (kept done : List ℕ) → ((q : ℕ) → q < BITS → bit_in kept q ≡ false) → ((q : ℕ) → q < BITS → bit_in done q ≡ false) → IsSifted f g stones kept done 0
-  sift_first kept done none none' = record {
-    kept_on = λ q past lt. none q lt;
-    covers = λ q before in_q h. absurd (omega arith);
-    within = λ q in_q h. absurd (true≢false (sym h ∙ none q (small f.size q in_q)));
-    sound = λ c is own q in_q h. absurd (true≢false (sym h ∙ none q (small f.size q in_q)));
-    full = λ c is own q in_q h. absurd (true≢false (sym h ∙ none' q (small f.size q in_q)));
-  }
-
   -- no stone, or one that is done
   pub sift_past : (kept done : List ℕ) (p : ℕ) → (bit_in stones p ≡ true → bit_in done p ≡ true) → IsSifted f g stones kept done p → IsSifted f g stones kept done (p + 1)
   sift_past kept done p so was = record {

@@ -53,7 +53,7 @@ fn is_touched_eye(size: Size, first: &Bits, eye: &Bits, stones: &Bits, near: &Bi
     eye.is_within_union(near, near)
 }
 
-/// The empty points of the eyes that are walled in by the stones and all near.
+/// The empty points of the eyes that are walled in by the stones and all near. Each eye is looked at once.
 pub(crate) fn touched_eyes(
     size: Size,
     ground: &Ground,
@@ -69,14 +69,20 @@ pub(crate) fn touched_eyes(
 {
     let starts = near.and(&ground.empty);
     let mut eyes = Bits::none();
+    let mut done = Bits::none();
     for p in 0..size.point_count() {
         if !starts.has(p) {
             continue;
         }
-        let eye = linked_to(size, &ground.space, p);
-        if is_touched_eye(size, first, &eye, stones, near) {
-            eyes.set(p);
+        if done.has(p) {
+            continue;
         }
+        let eye = linked_to(size, &ground.space, p);
+        done = done.or(&eye);
+        if !is_touched_eye(size, first, &eye, stones, near) {
+            continue;
+        }
+        eyes = eyes.or(&eye.and(&starts));
     }
     eyes
 }
@@ -104,7 +110,7 @@ fn is_alive(frame: &Frame, ground: &Ground, first: &Bits, stones: &Bits, chain: 
     eyes.minus(&eye).first_from(0) < BITS
 }
 
-/// The stones that are alive among these.
+/// The stones that are alive among these: all with a liberty outside the region, which are found at once, and the others chain by chain.
 fn survivors(frame: &Frame, ground: &Ground, first: &Bits, stones: &Bits) -> Bits
     requires first { AreFirstColumn frame.now.size first.now.words }
     requires sound { IsSoundGround frame.now.size ground.now }
@@ -115,8 +121,10 @@ fn survivors(frame: &Frame, ground: &Ground, first: &Bits, stones: &Bits) -> Bit
     ensures within { IsSubset (points_in frame.now.size result.words) (points_in frame.now.size stones.now.words) }
     ensures still_on_board { AreOn frame.now.size result.words }
 {
-    let mut kept = Bits::none();
-    let mut done = Bits::none();
+    let inner = stones.minus(&ground.outside);
+    let safe = reaching(frame.size, &inner, &ground.outside);
+    let mut kept = safe;
+    let mut done = safe;
     for p in 0..frame.size.point_count() {
         if !stones.has(p) {
             continue;
