@@ -6,7 +6,6 @@ import argparse
 import concurrent.futures
 import glob
 import importlib.machinery
-import importlib.util
 import os
 import subprocess
 import sys
@@ -40,8 +39,10 @@ def asked(doc: str, **options) -> argparse.Namespace:
     a tsumego-show; without these those of this tree."""
     parser = argparse.ArgumentParser(description=doc, formatter_class=argparse.RawDescriptionHelpFormatter)
     for name, default in options.items():
-        kind = {"action": "store_true"} if default is False else {"type": type(default), "default": default}
-        parser.add_argument(f"--{name}", **kind)
+        if default is False:
+            parser.add_argument(f"--{name}", action="store_true")
+        else:
+            parser.add_argument(f"--{name}", type=type(default), default=default)
     for name, built in ("program", "tsumego"), ("show", "tsumego_show"):
         parser.add_argument(name, nargs="?", default=os.path.join(TOP, "crates", built, "out", built))
     return parser.parse_args()
@@ -57,9 +58,9 @@ def begin() -> None:
 def loaded(path: str) -> ModuleType:
     """A Python file of this tree as a module."""
     name = os.path.basename(path).partition(".")[0]
-    found = importlib.util.spec_from_loader(name, importlib.machinery.SourceFileLoader(name, os.path.join(TOP, path)))
-    module = importlib.util.module_from_spec(found)
-    found.loader.exec_module(module)
+    module, file = ModuleType(name), os.path.join(TOP, path)
+    module.__file__ = file
+    importlib.machinery.SourceFileLoader(name, file).exec_module(module)
     return module
 
 
