@@ -42,7 +42,7 @@ def test_right_solutions(solution: str) -> None:
         (";W[ca];B[ba]", "the solution begins with White, but Black is to move"),
         (";B[ca];W[ca]", "the line C7 C7: move 2, C7, can't be played"),
         (";B[ba];W[ca]", "the right line B7 C7 fails: move 1, B7, loses to C7"),
-        (";B[C7]", "B[C7], move 1 of a line, is no point of the board: SGF counts two small letters from the upper left"),
+        (";B[C7]", "B[C7], move 1 of a line, is no point in SGF, which writes B[ca]"),
         (";B[ca];W[jj]", "W[jj], move 2 of a line, is no point of the board"),
         ("(;B[ba])(;B[ca]C[RIGHT];W[zz])", "W[zz], move 2 of a line, is no point of the board"),
     ],

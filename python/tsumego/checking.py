@@ -85,11 +85,12 @@ class _Solution:
         self.problem, self.solver, self.clock = problem, solver, clock
         self.known: Dict[Tuple[Tuple[str, str], ...], Verdict] = {}
 
-    def is_point(self, turn: str) -> bool:
+    def read(self, turn: str) -> Optional[str]:
+        """The point of the board that a value names in SGF's letters, or as editors do."""
         try:
-            return turn == read_point(turn, self.problem.columns, self.problem.rows)
+            return read_point(turn, self.problem.columns, self.problem.rows)
         except ValueError:
-            return False
+            return None
 
     def after(self, moves: Tuple[Tuple[str, str], ...]) -> Verdict:
         if moves not in self.known:
@@ -108,8 +109,10 @@ class _Solution:
         """What is wrong with what the file says of a line."""
         name = " ".join(self.problem.point(turn) for _, turn in line.moves)
         for count, (colour, turn) in enumerate(line.moves, 1):
-            if turn != PASS and not self.is_point(turn):
-                return f"{colour}[{turn}], move {count} of a line, is no point of the board: SGF counts two small letters from the upper left"
+            if turn != PASS and self.read(turn) != turn:
+                meant = self.read(turn)
+                says = f"is no point in SGF, which writes {colour}[{meant}]" if meant else "is no point of the board"
+                return f"{colour}[{turn}], move {count} of a line, {says}"
             found = self.after(line.moves[:count])
             if found.word == REFUSED and found.detail != TARGET_TAKEN:
                 return f"the line {name}: move {count}, {self.problem.point(turn)}, can't be played"
@@ -162,5 +165,8 @@ def _first_moves(problem: Problem, answer: Answer, lines: List[Line]) -> List[st
     if PASS in answer.winning or (answer.if_other_begins and answer.if_other_begins.word == answer.verdict.word):
         return [f"no move is needed: the group {'lives' if answer.verdict.word == LIVES else 'is dead'} as it stands"]
     given = {line.moves[0][1] for line in lines}
+    if given - {PASS, *problem.position()[0].points()}:
+        # (what is no point is told already, and may be the move meant)
+        return []
     others = [problem.point(turn) for turn in plays if turn not in given]
     return [f"{'also ' if given else ''}{listed(others)} win{'s' if len(others) == 1 else ''}"] if others and (given or len(others) > 1) else []
