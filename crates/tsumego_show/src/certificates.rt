@@ -1,7 +1,8 @@
 //! Reads certificates.
 use std::alloc::Global;
 use tt_game::{Side, Turn};
-use tt_proof::{CertFault, Outline, Tree, read_cert, read_shared_cert};
+use tt_parts::{Outline, read_shared_cert};
+use tt_proof::{CertFault, Tree, read_cert};
 use tt_sgf::{NoMemory, Size};
 
 /// Another handle of the tree with this name.

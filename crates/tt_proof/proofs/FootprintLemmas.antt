@@ -13,7 +13,8 @@ use Rattle.tt_proof.specs.declared.footprints.Footprint.{Footprint}
 use Rattle.tt_proof.specs.Strategy.{Strategy, done, pick, reply, none, entries_of}
 use Rattle.tt_proof.specs.Footprints.{IsNeeded, IsNeededBehind, IsAvoided, IsAvoidedBehind, IsMet, IsMetBehind, MakesColouring, IsRepeatedByPlay, path_after_turn}
 use Rattle.tt_proof.specs.KeptFootprints.{IsFootprint, IsEntryJoined, HaveFrameSize, board_of_colouring}
-use Rattle.tt_proof.specs.inside.Collecting.{IsPassedUp, IsPlayed, IsPicked, IsMadeWithin}
+use Rattle.tt_proof.specs.inside.Collecting.{IsPicked, IsMadeWithin}
+use Rattle.tt_proof.specs.laws.PlayedBoards.{IsPassedUp, IsPlayed}
 use Rattle.tt_proof.specs.declared.board_set_bounds.BoardSetBound.{BoardSetBound}
 use Rattle.tt_proof.specs.BoardSetBounds.{MayContainBoard, IsWiderOrSame}
 use Rattle.tt_proof.proofs.NeedLemmas.{needed_less, needed_more}

@@ -17,15 +17,6 @@ pub mod ReadLemmas
 pub mod ProvenLemmas
 pub mod MeasureLemmas
 pub mod StrategyLemmas
-pub mod OutlineLemmas
-pub mod NameLemmas
-pub mod OutlineDeepLemmas
-pub mod OutlineReadLemmas
-pub mod OutlineFaultLemmas
-pub mod OutlineReplayLemmas
-pub mod OutlineWinsLemmas
-pub mod OutlineSameLemmas
-pub mod OutlineLawLemmas
 pub mod CertificateLemmas
 pub mod WinsLemmas
 pub mod Sent

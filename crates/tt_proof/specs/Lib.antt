@@ -11,11 +11,7 @@ pub mod ProofClaim
 pub mod Rejections
 pub mod CertificateText
 pub mod CertificateFaults
-pub mod Outlines
-pub mod OutlineLaws
-pub mod SharedParts
-pub mod SharedWins
--- What crates above cite: laws of the definitions, with their proofs. Nobody has to believe these.
+-- What crates above cite besides: laws of the definitions, with their proofs, and what their own proofs need. Nobody has to believe these.
 pub mod laws
 -- What private contracts and proofs cite. Nobody has to believe these.
 pub mod inside

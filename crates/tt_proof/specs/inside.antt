@@ -2,7 +2,5 @@
 pub mod Replaying
 pub mod Collecting
 pub mod CertificateReading
-pub mod OutlineReading
-pub mod OutlineReplaying
 pub mod WonChildren
 pub mod RisingHashes

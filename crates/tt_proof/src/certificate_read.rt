@@ -100,7 +100,7 @@ fn read_point(first: u8, second: u8, size: Size) -> Option<Point>
 }
 
 /// The turn at the front of the bytes, its number, and what follows.
-pub(crate) fn read_turn(bytes: &[u8], size: Size) -> Option<(Turn, u16, &[u8])>
+pub fn read_turn(bytes: &[u8], size: Size) -> Option<(Turn, u16, &[u8])>
     ensures { MatchOption result
         ((t : Turn) (y : List ℕ) → IsTurnOnBoardOfSize size t → bytes.now ≡ turn_text size t ++ y → ⊥)
         (λ r. IsTurnOnBoardOfSize size r.0 × (r.1 ≡ turn_number_on_size size r.0) × (r.1 ≤ MOST_POINTS) × (bytes.now ≡ turn_text size r.0 ++ r.2.now)) }
@@ -115,7 +115,7 @@ pub(crate) fn read_turn(bytes: &[u8], size: Size) -> Option<(Turn, u16, &[u8])>
 }
 
 /// What follows the end of a reply, where that is at the front of the bytes.
-pub(crate) fn strip_reply_end(bytes: &[u8]) -> Option<&[u8]>
+pub fn strip_reply_end(bytes: &[u8]) -> Option<&[u8]>
     ensures { MatchOption result ((y : List ℕ) → bytes.now ≡ semicolon ∷ y → ⊥) (λ r. bytes.now ≡ semicolon ∷ r.now) }
 {
     match bytes {
@@ -223,7 +223,7 @@ fn strip_side_prefix(bytes: &[u8], s: Side) -> Option<&[u8]>
 }
 
 /// The side whose word is at the front of the bytes, and what follows.
-pub(crate) fn split_side(bytes: &[u8]) -> Option<(Side, &[u8])>
+pub fn split_side(bytes: &[u8]) -> Option<(Side, &[u8])>
     ensures { MatchOption result ((s : Side) (y : List ℕ) → bytes.now ≡ side_prefix s ++ y → ⊥) (λ r. bytes.now ≡ side_prefix r.0 ++ r.1.now) }
 {
     if let Some(rest) = strip_side_prefix(bytes, Side::Attacker) {

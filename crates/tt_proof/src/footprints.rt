@@ -10,7 +10,8 @@ ghost use Rattle.tt_proof.specs.declared.tree.TheConstants.{MOST_DEPTH};
 ghost use Rattle.tt_proof.specs.Strategy.{Strategy, done, pick, reply, none, depth, depth_of_entries, strategy_of, entries_of, entries_of_reply, IsInOrder, AreInOrder, IsTurnOnBoardOfSize};
 ghost use Rattle.tt_proof.specs.Footprints.{IsRepeatedByPlay};
 ghost use Rattle.tt_proof.specs.KeptFootprints.{IsFootprint, IsBoardAfter, IsEntryJoined, HaveFrameSize, board_of_colouring, AreLegalPlays};
-ghost use Rattle.tt_proof.specs.inside.Collecting.{IsPassedUp, IsPlayed, IsMadeWithin};
+ghost use Rattle.tt_proof.specs.inside.Collecting.{IsMadeWithin};
+ghost use Rattle.tt_proof.specs.laws.PlayedBoards.{IsPassedUp, IsPlayed};
 ghost use Rattle.tt_proof.specs.BoardSetBounds.{IsWiderOrSame};
 
 use crate::board_set::BoardSet;

@@ -1,6 +1,5 @@
 //! Laws of trees and of certificates, over the definitions alone.
 
-ghost use Rattle.tt_proof.specs.OutlineLaws.{OneOutlinePerCertificate, PlainIsSharedCertificate, OneAnswerPerOutline};
 ghost use Rattle.tt_proof.specs.StrategyLaws.{WinningStrategyForces, StrategyToLifeForces, WinsAreWinsOrLives, FittingTreesWin, FittingTreesWinOrLive, FootprintsCarryOverIfUnmet, NeedsLosePlayedColouring, OneStrategyPerTextPrefix, OneStrategyPerCertificate, StrategyOfEquations};
 
 /// A winning tree of depth n makes its side force a win within n turns.
@@ -56,19 +55,4 @@ pub fn one_strategy_per_certificate()
 /// its list.
 pub fn strategy_of_equations()
     ensures { StrategyOfEquations }
-{}
-
-/// Bytes are the certificate with shared parts of one side and one outline at the most, and so of one tree.
-pub fn one_outline_per_certificate()
-    ensures { OneOutlinePerCertificate }
-{}
-
-/// A certificate is one with shared parts, of the same tree, and no part of it doesn't fit.
-pub fn plain_is_shared_certificate()
-    ensures { PlainIsSharedCertificate }
-{}
-
-/// The rule for shared parts has one answer to an outline at a state: it wins, it doesn't, or a part doesn't fit.
-pub fn one_answer_per_outline()
-    ensures { OneAnswerPerOutline }
 {}

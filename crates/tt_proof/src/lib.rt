@@ -4,11 +4,10 @@
 //! |---|---|
 //! | `tree`, `tree_builders`, `measures`, `measured_tree` | `Tree`, a strategy; its depth and number of nodes |
 //! | `replays` | whether a tree wins at a line |
-//! | `footprints`, `position_footprint` | on which boards of the history that rests |
+//! | `footprints` | on which boards of the history that rests |
 //! | `board_set`, `board_set_bounds`, `shared_board_set` | sets of boards, which share them |
 //! | `proven`, `life_proof` | `Proof`: a tree that wins. `LifeProof`: one that may end at life |
 //! | `certificate_read`, `certificate_write` | a tree as text |
-//! | `outlines`, `outline_read`, `outline_write`, `outline_replay` | a tree with shared parts, as text and back; its replay |
 //! | `laws` | facts about trees and certificates |
 #![tactic(auto)]
 
@@ -21,11 +20,6 @@ pub mod laws;
 mod life_proof;
 mod measured_tree;
 mod measures;
-mod outline_read;
-mod outline_replay;
-mod outline_write;
-mod outlines;
-mod position_footprint;
 mod proven;
 mod replays;
 mod shared_board_set;
@@ -34,15 +28,12 @@ mod tree_builders;
 
 pub use board_set::BoardSet;
 pub use board_set_bounds::{BoardSetBound, is_board_within};
-pub use certificate_read::{CertFault, read_cert};
+pub use certificate_read::{CertFault, read_cert, read_turn, split_side, strip_reply_end};
 pub use certificate_write::{put_readable_turn, put_turn, write_cert};
 pub use footprints::{Footprint, footprint_of};
 pub use life_proof::LifeProof;
 pub use measured_tree::{MeasuredTree, ReplyBuilder};
-pub use outline_read::read_shared_cert;
-pub use outline_replay::replay_shared_cert;
-pub use outline_write::write_shared_cert;
-pub use outlines::Outline;
 pub use proven::{Proof, Rejected};
-pub use replays::replay;
+pub use replays::{awaits_other_side, replay};
+pub use shared_board_set::SharedBoardSet;
 pub use tree::{MOST_DEPTH, Tree};

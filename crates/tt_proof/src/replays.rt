@@ -66,7 +66,7 @@ fn plays_are_answered(list: &[(Turn, Tree)], line: &Line) -> bool
 }
 
 /// Whether nobody has won and the other side is to move.
-pub(crate) fn awaits_other_side(s: Side, line: &Line) -> bool
+pub fn awaits_other_side(s: Side, line: &Line) -> bool
     ensures { IsTrue result ↔ ((winner_of line.now.frame line.now.state ≡ None) × (line.now.state.to_move ≡ opponent s)) }
 {
     line.winner().is_none() && line.to_move() == s.opponent()

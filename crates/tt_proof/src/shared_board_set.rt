@@ -16,7 +16,7 @@ use tt_sgf::NoMemory;
 /// A set of boards, held by a handle. `rises` says that it is known to be in the order of hashes, in which a board is found by halving.
 /// Contracts see the boards.
 #[derive(Drop)]
-pub(crate) struct SharedBoardSet {
+pub struct SharedBoardSet {
     set: Arc<BoardSet>,
     rises: bool,
 }
@@ -36,7 +36,7 @@ impl Model for SharedBoardSet {
 
 impl SharedBoardSet {
     /// The set behind a handle.
-    pub(crate) fn of(alloc: Global, set: BoardSet) -> Result<SharedBoardSet, NoMemory>
+    pub fn of(alloc: Global, set: BoardSet) -> Result<SharedBoardSet, NoMemory>
         ensures { IfOk result (λ s. s ≡ set) }
     {
         let rises = set.do_hashes_rise();
@@ -59,7 +59,7 @@ impl SharedBoardSet {
     }
 
     /// The same set, by another handle.
-    pub(crate) fn try_clone(&self) -> Result<SharedBoardSet, NoMemory>
+    pub fn try_clone(&self) -> Result<SharedBoardSet, NoMemory>
         ensures { IfOk result (λ s. s ≡ self.now) }
     {
         let set = Arc::try_clone(&self.set)?;
@@ -91,7 +91,7 @@ impl SharedBoardSet {
     }
 
     /// The set without the board.
-    pub(crate) fn without(self, alloc: Global, board: &Board) -> Result<SharedBoardSet, NoMemory>
+    pub fn without(self, alloc: Global, board: &Board) -> Result<SharedBoardSet, NoMemory>
         ensures { IfOk result (λ s. (b : Position) → Contains s b ↔ (Contains self b × (b ≢ board.now))) }
     {
         if !self.has(board) {
@@ -103,7 +103,7 @@ impl SharedBoardSet {
     }
 
     /// The set with the board.
-    pub(crate) fn with(self, alloc: Global, board: &Board) -> Result<SharedBoardSet, NoMemory>
+    pub fn with(self, alloc: Global, board: &Board) -> Result<SharedBoardSet, NoMemory>
         ensures { IfOk result (λ s. (b : Position) → Contains s b ↔ (Contains self b ⊎ (b ≡ board.now))) }
     {
         let mut set = self.into_set(alloc)?;
@@ -121,11 +121,7 @@ impl SharedBoardSet {
     }
 
     /// Both sets in one: one of them, where it holds all of the other.
-    pub(crate) fn joined(
-        self,
-        alloc: Global,
-        others: SharedBoardSet,
-    ) -> Result<SharedBoardSet, NoMemory>
+    pub fn joined(self, alloc: Global, others: SharedBoardSet) -> Result<SharedBoardSet, NoMemory>
         ensures { IfOk result (λ s. (b : Position) → Contains s b ↔ (Contains self b ⊎ Contains others b)) }
     {
         if self.has_all_of(&others) {
@@ -141,14 +137,14 @@ impl SharedBoardSet {
     }
 
     /// Whether all are boards of the line's history.
-    pub(crate) fn all_in_history(&self, line: &Line) -> bool
+    pub fn all_in_history(&self, line: &Line) -> bool
         ensures { IsTrue result ↔ ((b : Position) → Contains self.now b → HasBoardInHistory line.now.frame line.now.state b) }
     {
         self.set().all_in_history(line)
     }
 
     /// Whether none is a board of the line's history. Where these are fewer, each is looked up here.
-    pub(crate) fn none_in_history(&self, line: &Line) -> bool
+    pub fn none_in_history(&self, line: &Line) -> bool
         ensures { IsTrue result ↔ ((b : Position) → Contains self.now b → HasBoardInHistory line.now.frame line.now.state b → ⊥) }
     {
         let boards = line.history();

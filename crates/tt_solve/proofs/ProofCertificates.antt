@@ -9,9 +9,9 @@ use Rattle.tt_proof.specs.CertificateText.{certificate_text}
 use Rattle.tt_proof.specs.ProofClaim.{IsWinningTree, ProofClaim, StandsAt, first_turn_of}
 use Rattle.tt_proof.specs.Strategy.{Strategy, depth}
 use Rattle.tt_proof.specs.Wins.{WinsOrLives}
-use Rattle.tt_proof.specs.SharedWins.{IsWinningSharedCertificate}
+use Rattle.tt_parts.specs.SharedWins.{IsWinningSharedCertificate}
 use Rattle.tt_proof.proofs.HoldsLemmas.{wins_either}
-use Rattle.tt_proof.proofs.OutlineLawLemmas.{certificates_shared}
+use Rattle.tt_parts.proofs.OutlineLawLemmas.{certificates_shared}
 use Rattle.tt_search.specs.declared.limits.Limits.{Limits}
 use Rattle.tt_solve.specs.declared.options.CertKind.TheVariants.{Plain, Shared}
 use Rattle.tt_solve.specs.Solutions.{IsCertificateAsked}

@@ -8,7 +8,7 @@ use Rattle.tt_game.specs.Line.{LineWithUndo, problem_after_turn}
 use Rattle.tt_game.specs.Turns.{legal_turns}
 use Rattle.tt_proof.specs.CertificateText.{IsCertificate}
 use Rattle.tt_proof.specs.ProofClaim.{first_turn_of}
-use Rattle.tt_proof.specs.SharedWins.{IsWinningSharedCertificate}
+use Rattle.tt_parts.specs.SharedWins.{IsWinningSharedCertificate}
 use Rattle.tt_proof.specs.Strategy.{Strategy, depth}
 use Rattle.tt_proof.specs.Wins.{Wins}
 use Rattle.tt_search.specs.declared.limits.Limits.{Limits}

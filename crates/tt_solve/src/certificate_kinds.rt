@@ -5,7 +5,7 @@ ghost use Rattle.tt_game.specs.GameLaws.{IsWellFormedState};
 ghost use Rattle.tt_proof.specs.declared.tree.TheConstants.{MOST_DEPTH};
 ghost use Rattle.tt_proof.specs.CertificateText.{certificate_text};
 ghost use Rattle.tt_proof.specs.ProofClaim.{IsWinningTree, StandsAt, first_turn_of};
-ghost use Rattle.tt_proof.specs.SharedWins.{IsWinningSharedCertificate};
+ghost use Rattle.tt_parts.specs.SharedWins.{IsWinningSharedCertificate};
 ghost use Rattle.tt_proof.specs.Strategy.{depth};
 ghost use Rattle.tt_solve.specs.Solutions.{IsCertificateAsked, IsDecided};
 
@@ -13,7 +13,8 @@ use crate::options::{CertKind, Options};
 use crate::solution::Solution;
 use std::alloc::Global;
 use tt_game::Line;
-use tt_proof::{Proof, write_cert, write_shared_cert};
+use tt_parts::write_shared_cert;
+use tt_proof::{Proof, write_cert};
 use tt_search::Limits;
 use tt_sgf::{ItemList, NoMemory};
 

@@ -15,7 +15,7 @@ use Rattle.tt_game.proofs.SizedProblems.{problem_state}
 use Rattle.tt_game.proofs.SomeSide.{values_forced}
 use Rattle.tt_proof.proofs.ForcesLemmas.{win_forces}
 use Rattle.tt_proof.proofs.HoldsLemmas.{strategy_forces}
-use Rattle.tt_proof.specs.Outlines.{unfolded}
+use Rattle.tt_parts.specs.Outlines.{unfolded}
 use Rattle.tt_proof.specs.Strategy.{depth}
 use Rattle.tt_text.specs.declared.checking.CheckOutcome.{CheckOutcome}
 use Rattle.tt_text.specs.declared.checking.CheckOutcome.TheVariants.{Valid, Invalid, Refused}

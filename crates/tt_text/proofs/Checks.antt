@@ -11,11 +11,12 @@ use Rattle.tt_game.specs.Line.{LineWithUndo}
 use Rattle.tt_game.specs.Problems.{problem_of}
 use Rattle.tt_proof.specs.declared.certificate_read.CertFault.{CertFault}
 use Rattle.tt_proof.specs.declared.certificate_read.CertFault.TheVariants.{Syntax, TooDeep}
-use Rattle.tt_proof.specs.CertificateFaults.{IsCertFault, IsSharedCertFault}
+use Rattle.tt_proof.specs.CertificateFaults.{IsCertFault}
+use Rattle.tt_parts.specs.SharedCertFaults.{IsSharedCertFault}
 use Rattle.tt_proof.specs.declared.tree.TheConstants.{MOST_DEPTH}
 use Rattle.tt_proof.specs.CertificateText.{IsCertificate, IsTooDeep}
-use Rattle.tt_proof.specs.Outlines.{Outline, IsSharedCertificate, unfolded}
-use Rattle.tt_proof.specs.SharedParts.{IsOutlineAnswer}
+use Rattle.tt_parts.specs.Outlines.{Outline, IsSharedCertificate, unfolded}
+use Rattle.tt_parts.specs.SharedParts.{IsOutlineAnswer}
 use Rattle.tt_proof.specs.Strategy.{Strategy}
 use Rattle.tt_proof.specs.Wins.{Wins, WinsOrLives}
 use Rattle.tt_text.specs.declared.checking.CheckOutcome.{CheckOutcome}

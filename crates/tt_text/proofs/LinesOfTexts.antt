@@ -12,7 +12,7 @@ use Rattle.tt_game.specs.Sides.{verdict_word}
 use Rattle.tt_game.specs.Turns.{legal_turns}
 use Rattle.tt_game.specs.laws.TurnLaws.{EachIsLegal, legal_turns_are_legal}
 use Rattle.tt_proof.specs.CertificateText.{column_byte, entries_text, readable_turn_text, row_byte, side_prefix, tree_text, turn_text}
-use Rattle.tt_proof.specs.Outlines.{Outline, Branches, RefersBack, BranchesReferBack, branch, branches_text, ended, named_trees_after, naming_text, no_branch, outline_text, part, picked, replied}
+use Rattle.tt_parts.specs.Outlines.{Outline, Branches, RefersBack, BranchesReferBack, branch, branches_text, ended, named_trees_after, naming_text, no_branch, outline_text, part, picked, replied}
 use Rattle.tt_proof.specs.Strategy.{Strategy, Entries, done, pick, reply, none, entry}
 use Rattle.tt_search.specs.declared.limits.Limits.{Limits}
 use Rattle.tt_search.specs.declared.limits.Reason.{Reason}

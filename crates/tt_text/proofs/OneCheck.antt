@@ -8,13 +8,13 @@ use Rattle.tt_game.specs.declared.frame.Side.{Side}
 use Rattle.tt_game.specs.Line.{LineWithUndo}
 use Rattle.tt_game.specs.Problems.{problem_of}
 use Rattle.tt_proof.specs.CertificateText.{IsCertificate}
-use Rattle.tt_proof.specs.CertificateFaults.{IsSharedCertFault}
+use Rattle.tt_parts.specs.SharedCertFaults.{IsSharedCertFault}
 use Rattle.tt_proof.specs.declared.certificate_read.CertFault.TheVariants.{Syntax, TooDeep}
 use Rattle.tt_proof.specs.declared.tree.TheConstants.{MOST_DEPTH}
 use Rattle.tt_proof.specs.StrategyLaws.{OneStrategyPerCertificate}
-use Rattle.tt_proof.specs.OutlineLaws.{OneOutlinePerCertificate, OneAnswerPerOutline}
-use Rattle.tt_proof.specs.Outlines.{Outline, IsSharedCertificate}
-use Rattle.tt_proof.specs.SharedParts.{IsOutlineAnswer}
+use Rattle.tt_parts.specs.OutlineLaws.{OneOutlinePerCertificate, OneAnswerPerOutline}
+use Rattle.tt_parts.specs.Outlines.{Outline, IsSharedCertificate}
+use Rattle.tt_parts.specs.SharedParts.{IsOutlineAnswer}
 use Rattle.tt_proof.specs.Strategy.{Strategy}
 use Rattle.tt_proof.specs.Wins.{Wins}
 use Rattle.tt_text.specs.declared.checking.CheckOutcome.{CheckOutcome}

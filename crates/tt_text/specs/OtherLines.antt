@@ -12,8 +12,8 @@ use Rattle.tt_game.specs.Line.{LineWithUndo, problem_after_turn}
 use Rattle.tt_game.specs.Problems.{problem_of}
 use Rattle.tt_game.specs.Records.{record_of}
 use Rattle.tt_proof.specs.CertificateText.{IsCertificate}
-use Rattle.tt_proof.specs.Outlines.{Outline, IsSharedCertificate, unfolded}
-use Rattle.tt_proof.specs.SharedWins.{IsWinningSharedCertificate}
+use Rattle.tt_parts.specs.Outlines.{Outline, IsSharedCertificate, unfolded}
+use Rattle.tt_parts.specs.SharedWins.{IsWinningSharedCertificate}
 use Rattle.tt_proof.specs.Strategy.{Strategy}
 use Rattle.tt_proof.specs.Wins.{Wins, WinsOrLives}
 use Rattle.tt_search.specs.declared.limits.Limits.{Limits}

@@ -5,7 +5,8 @@ ghost use Rattle.tt_text.specs.Checking.{Finds, FindsPlain, FindsPlainOrShared, 
 
 use std::alloc::{AllocError, Global};
 use tt_game::{GameFault, Line, problem};
-use tt_proof::{CertFault, read_cert, read_shared_cert, replay, replay_shared_cert};
+use tt_parts::{read_shared_cert, replay_shared_cert};
+use tt_proof::{CertFault, read_cert, replay};
 use tt_sgf::{MainLine, NoMemory, SgfFault, read_tree, trim};
 
 /// What is found on a certificate.

@@ -20,8 +20,8 @@ pub fn one_check_text()
 {
     tt_sgf::laws::grammar_is_unambiguous();
     tt_proof::laws::one_strategy_per_certificate();
-    tt_proof::laws::one_outline_per_certificate();
-    tt_proof::laws::one_answer_per_outline();
+    tt_parts::laws::one_outline_per_certificate();
+    tt_parts::laws::one_answer_per_outline();
 }
 
 /// A verdict of `solve` that names a side says the problem's value. The turn that it shows keeps that value, and where it

@@ -1,5 +1,5 @@
 -- What the parts of a walk for a footprint find.
-use Rattle.std.specs.Prelude.{◌≡◌, ◌≢◌, ◌↔◌, ◌⊎◌, ℕ, ◌<◌, Option, List, [], ◌∷◌, ◌++◌, Contains}
+use Rattle.std.specs.Prelude.{◌≡◌, ◌↔◌, ◌⊎◌, ℕ, ◌<◌, Option, List, [], ◌∷◌, ◌++◌, Contains}
 use Rattle.tt_board.specs.Position.{Position, Colouring}
 use Rattle.tt_game.specs.Game.{State, colouring_after_play}
 use Rattle.tt_game.specs.Line.{IsBarredBySuperko}
@@ -9,20 +9,11 @@ use Rattle.tt_game.specs.declared.turns.Turn.TheVariants.{Play, Pass}
 use Rattle.tt_proof.specs.declared.board_set_bounds.BoardSetBound.{BoardSetBound}
 use Rattle.tt_proof.specs.declared.footprints.Footprint.{Footprint}
 use Rattle.tt_proof.specs.BoardSetBounds.{MayContainBoard}
+use Rattle.tt_proof.specs.laws.PlayedBoards.{IsPassedUp, IsPlayed}
 
 -- superko bars a play on a point below the number, which would make the colouring
 abbrev pub RepeatsBelow : Frame → State → ℕ → Colouring → Type 0
 RepeatsBelow f s n c = (p : ℕ) × (p < n) × IsBarredBySuperko f s p × (colouring_after_play f s p ≡ c)
-
--- what a child needs in its parent's history too: all that it needs in its own, but the board that a play made
-abbrev pub IsPassedUp : Turn → Position → List Position → Position → Type 0
-IsPassedUp Pass board needs b = Contains needs b
-IsPassedUp (Play p) board needs b = Contains needs b × (b ≢ board)
-
--- the turn is a play, and this is the board that it made
-abbrev pub IsPlayed : Turn → Position → Position → Type 0
-IsPlayed Pass board b = ⊥
-IsPlayed (Play p) board b = b ≡ board
 
 -- what a pick of the turn needs and avoids, by what is needed and avoided behind it
 pub record IsPicked (t : Turn) (board : Position) (behind x : Footprint) : Type 0 where

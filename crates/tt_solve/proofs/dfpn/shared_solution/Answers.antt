@@ -1,6 +1,6 @@
 use Rattle.std.proofs.Common.{Some, rules}
 use Rattle.tt_proof.specs.ProofClaim.{first_turn_of}
-use Rattle.tt_proof.specs.SharedWins.{IsWinningSharedCertificate}
+use Rattle.tt_parts.specs.SharedWins.{IsWinningSharedCertificate}
 use Rattle.tt_solve.specs.declared.options.CertKind.TheVariants.{Shared}
 use Rattle.tt_solve.proofs.ProofCertificates.{shared_asked}
 use Rattle.tt_solve.proofs.ProofSolutions.{decided}

@@ -1,6 +1,6 @@
 use Rattle.std.proofs.Common.{rules, subst}
 use Rattle.tt_game.specs.declared.frame.Frame.{Frame}
-use Rattle.tt_proof.specs.Outlines.{outline_of, IsOutlineInOrder}
+use Rattle.tt_parts.specs.Outlines.{outline_of, IsOutlineInOrder}
 use Rattle.tt_text.proofs.Checks.{goes_deep_at, shared_loses_at, shared_wins_at, unfit_at, unread_at}
 use Rattle.tt_text.proofs.checking.check_shared.Goals as goal
 

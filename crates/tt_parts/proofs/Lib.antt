@@ -1,0 +1,9 @@
+pub mod OutlineLemmas
+pub mod NameLemmas
+pub mod OutlineDeepLemmas
+pub mod OutlineReadLemmas
+pub mod OutlineFaultLemmas
+pub mod OutlineReplayLemmas
+pub mod OutlineWinsLemmas
+pub mod OutlineSameLemmas
+pub mod OutlineLawLemmas

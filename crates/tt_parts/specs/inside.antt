@@ -1,0 +1,3 @@
+-- What private contracts and proofs cite. Nobody has to believe these.
+pub mod OutlineReading
+pub mod OutlineReplaying

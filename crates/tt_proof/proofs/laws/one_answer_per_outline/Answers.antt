@@ -1,5 +1,0 @@
-use Rattle.tt_proof.proofs.OutlineSameLemmas.{one_answer}
-use Rattle.tt_proof.proofs.laws.one_answer_per_outline.Goals as goal
-
-pub returns : goal.returns
-returns c = one_answer

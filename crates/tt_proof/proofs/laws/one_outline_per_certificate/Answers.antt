@@ -1,5 +1,0 @@
-use Rattle.tt_proof.proofs.OutlineLawLemmas.{one_shared}
-use Rattle.tt_proof.proofs.laws.one_outline_per_certificate.Goals as goal
-
-pub returns : goal.returns
-returns c = one_shared

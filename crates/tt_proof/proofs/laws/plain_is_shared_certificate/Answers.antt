@@ -1,5 +1,0 @@
-use Rattle.tt_proof.proofs.OutlineLawLemmas.{certificates_shared}
-use Rattle.tt_proof.proofs.laws.plain_is_shared_certificate.Goals as goal
-
-pub returns : goal.returns
-returns c = certificates_shared

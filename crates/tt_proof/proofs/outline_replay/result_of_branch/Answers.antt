@@ -1,5 +1,0 @@
-use Rattle.std.proofs.Common.{refl}
-use Rattle.tt_proof.proofs.outline_replay.result_of_branch.Goals as goal
-
-pub returns-in-Ok : goal.returns-in-Ok
-returns-in-Ok c = rw c.in-Won.is (c.in-Ok.basis, (refl, c.in-Ok.ensures))
