@@ -27,5 +27,6 @@ pub mod OutlineWinsLemmas
 pub mod OutlineSameLemmas
 pub mod OutlineLawLemmas
 pub mod CertificateLemmas
+pub mod StopLemmas
 pub mod WinsLemmas
 pub mod Sent

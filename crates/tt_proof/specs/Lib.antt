@@ -11,6 +11,7 @@ pub mod ProofClaim
 pub mod Rejections
 pub mod CertificateText
 pub mod CertificateFaults
+pub mod CertificateStops
 pub mod Outlines
 pub mod OutlineLaws
 pub mod SharedParts

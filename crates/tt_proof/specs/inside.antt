@@ -2,6 +2,7 @@
 pub mod Replaying
 pub mod Collecting
 pub mod CertificateReading
+pub mod CertificateWalking
 pub mod OutlineReading
 pub mod OutlineReplaying
 pub mod WonChildren

@@ -8,6 +8,7 @@
 //! | `board_set`, `board_set_bounds`, `shared_board_set` | sets of boards, which share them |
 //! | `proven`, `life_proof` | `Proof`: a tree that wins. `LifeProof`: one that may end at life |
 //! | `certificate_read`, `certificate_write` | a tree as text |
+//! | `certificate_stops` | where the reading of a certificate stops |
 //! | `outlines`, `outline_read`, `outline_write`, `outline_replay` | a tree with shared parts, as text and back; its replay |
 //! | `laws` | facts about trees and certificates |
 #![tactic(auto)]
@@ -15,6 +16,7 @@
 mod board_set;
 mod board_set_bounds;
 mod certificate_read;
+mod certificate_stops;
 mod certificate_write;
 mod footprints;
 pub mod laws;
@@ -35,6 +37,7 @@ mod tree_builders;
 pub use board_set::BoardSet;
 pub use board_set_bounds::{BoardSetBound, is_board_within};
 pub use certificate_read::{CertFault, read_cert};
+pub use certificate_stops::certificate_stop;
 pub use certificate_write::{put_readable_turn, put_turn, write_cert};
 pub use footprints::{Footprint, footprint_of};
 pub use life_proof::LifeProof;
