@@ -18,5 +18,6 @@ pub mod ProvenLemmas
 pub mod MeasureLemmas
 pub mod StrategyLemmas
 pub mod CertificateLemmas
+pub mod StopLemmas
 pub mod WinsLemmas
 pub mod Sent

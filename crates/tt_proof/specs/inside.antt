@@ -2,5 +2,6 @@
 pub mod Replaying
 pub mod Collecting
 pub mod CertificateReading
+pub mod CertificateWalking
 pub mod WonChildren
 pub mod RisingHashes

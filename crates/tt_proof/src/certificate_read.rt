@@ -73,7 +73,7 @@ impl<T: Drop> From<AllocFailed<T>> for CertFault {
 }
 
 /// The number of a letter below `end`, where `a` has 0.
-fn letter_index(byte: u8, end: u16) -> Option<u16>
+pub(crate) fn letter_index(byte: u8, end: u16) -> Option<u16>
     requires { end ≤ 19 }
     ensures { MatchOption result ((n : ℕ) → n < end → byte ≡ lower_a + n → ⊥) (λ n. (n < end) × (byte ≡ lower_a + n)) }
 {

@@ -8,12 +8,14 @@
 //! | `board_set`, `board_set_bounds`, `shared_board_set` | sets of boards, which share them |
 //! | `proven`, `life_proof` | `Proof`: a tree that wins. `LifeProof`: one that may end at life |
 //! | `certificate_read`, `certificate_write` | a tree as text |
+//! | `certificate_stops` | where the reading of a certificate stops |
 //! | `laws` | facts about trees and certificates |
 #![tactic(auto)]
 
 mod board_set;
 mod board_set_bounds;
 mod certificate_read;
+mod certificate_stops;
 mod certificate_write;
 mod footprints;
 pub mod laws;
@@ -29,6 +31,7 @@ mod tree_builders;
 pub use board_set::BoardSet;
 pub use board_set_bounds::{BoardSetBound, is_board_within};
 pub use certificate_read::{CertFault, read_cert, read_turn, split_side, strip_reply_end};
+pub use certificate_stops::certificate_stop;
 pub use certificate_write::{put_readable_turn, put_turn, write_cert};
 pub use footprints::{Footprint, footprint_of};
 pub use life_proof::LifeProof;
