@@ -32,7 +32,7 @@ __all__ = ["ko_of", "leaning_on_repetition", "with_attackers_threat", "with_defe
 MOST_THREATS = 3
 # For each second that an answer may take so many made problems are asked, and of each so many positions; and as many as for some seconds at
 # least. Problems with threats are harder than others, and few.
-ASKED, POSITIONS, HARDER, SECONDS = 8, 300, 40, 10
+ASKED, POSITIONS, HARDER, SECONDS = 12, 300, 40, 10
 # A strategy of more positions isn't looked through: that takes too long. And so many of them are asked about.
 LONGEST, MOST_LEANING = 5_000, 24
 # So many turns of the defender lead to a ko at most, and so many turns of the attacker are followed at each.
