@@ -13,7 +13,6 @@ use crate::advice::{Advice, VisitsLeft};
 use crate::memo::Memo;
 use std::alloc::Global;
 use tt_game::{Line, Side, Turn};
-use tt_life::{has_unconditional_life, has_won_or_lives};
 use tt_proof::LifeProof;
 use tt_sgf::NoMemory;
 
@@ -26,6 +25,13 @@ fn is_same_side(a: Side, b: Side) -> bool
     ensures no { result ≡ false → b ≡ opponent a }
 {
     a == b
+}
+
+/// Whether a proof for the side may end at the line, since its targets live and the attacker is to move.
+fn ends_at_life(line: &Line, side: Side, memo: &mut Memo) -> bool
+    ensures { result ≡ true → HasWonOrLives side line.now.frame line.now.state }
+{
+    side == Side::Defender && line.to_move() == Side::Attacker && memo.may_end_here(line)
 }
 
 /// A proof for the side at the line, of a depth within the room, or none. It ends at life where the memo's proofs may. The line stands
@@ -50,7 +56,7 @@ pub fn certify<A: Advice>(
     match line.winner() {
         Some(winner) => proof_if_won(alloc, line, side, winner),
         None => {
-            if memo.may_end_at_life && has_won_or_lives(side, line) {
+            if ends_at_life(line, side, memo) {
                 return proof_that_ends(alloc, line, side);
             }
             if is_same_side(line.to_move(), side) {
@@ -191,7 +197,7 @@ fn proof_by_advice<A: Advice>(
     ensures fewer { visits.new.left ≤ visits.old.left }
     ensures same { line.new ≡ line.old }
 {
-    if memo.may_end_at_life && side == Side::Defender && has_unconditional_life(line) {
+    if side == Side::Defender && memo.may_end_here(line) {
         return proof_by_turn(alloc, line, side, room, &Turn::Pass, advice, memo, visits);
     }
     for refused in 0..MOST_ADVISED_TURNS {

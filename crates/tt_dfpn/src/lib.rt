@@ -11,6 +11,7 @@
 //! | `advice` | the trait `Advice`, by which the certifier asks the finder |
 //! | `certifier` | makes a proof from the leaves up; it may end at life |
 //! | `memo` | the proofs that the certifier keeps, and which of them it may use at a `Line` |
+//! | `no_life` | boards where the certifier need not look for life again |
 //! | `finder` | df-pn, with a board and tables of its own |
 
 #![tactic(auto)]
@@ -20,6 +21,7 @@ mod attempts;
 mod certifier;
 mod finder;
 mod memo;
+mod no_life;
 
 pub use advice::{Advice, VisitsLeft};
 pub use attempts::{MOST_POSITIONS, find_life_proof, find_proof};

@@ -2,8 +2,8 @@
 //! take nothing are refuted by the same play.
 //!
 //! In unconditional life (Benson) a stone of the attacker counts as an empty point does. So whether a play makes life depends on the
-//! defender's stones alone, which few turns change, and mostly it is known already. Nine problems of real games where the defender wins
-//! were found in 0.4 of the time that it took to play each threat out, two kills in 0.8.
+//! defender's stones alone, which few turns change, and mostly it is known already. 171 problems of real games took 0.71 of the time that
+//! they took where each threat was played out, in one run.
 //!
 //! That a threat leaves few turns worth a look is in A. Kishimoto, M. Müller, "Search versus Knowledge for Solving Life and Death
 //! Problems in Go", 2005; such a set of turns is a relevance zone (C.-C. Shih, T.-R. Wu, T. H. Wei, I-C. Wu, "A Novel Approach to
