@@ -27,13 +27,19 @@ def size_of(root: Node) -> Tuple[int, int]:
 
 def points_of(values: Iterable[str], columns: int, rows: int) -> List[str]:
     """The points of a list of points and rectangles. Raises ValueError where a value is neither."""
+    return list(_points_of(tuple(values), columns, rows))
+
+
+@functools.lru_cache(1024)
+def _points_of(values: Tuple[str, ...], columns: int, rows: int) -> Tuple[str, ...]:
+    # (the problems that are made of one have its setup)
     found: List[str] = []
     for value in values:
         corners = [read_point(corner, columns, rows) for corner in value.strip().split(":")]
         across, down = sorted({corner[0] for corner in corners}), sorted({corner[1] for corner in corners})
         for row in range(ord(down[0]) - 97, ord(down[-1]) - 96):
             found.extend(sgf_name(column, row) for column in range(ord(across[0]) - 97, ord(across[-1]) - 96))
-    return list(dict.fromkeys(found))
+    return tuple(dict.fromkeys(found))
 
 
 @dataclass(frozen=True)
