@@ -12,6 +12,7 @@
 //! | `life_tests` | `tt_life`: unconditional life |
 //! | `marks_tests` | `tt_marks`: groups, regions, and stones that close walls |
 //! | `proof_tests` | `tt_proof`: certificates and proofs |
+//! | `certificate_stop_tests` | `tt_proof`: where the reading of certificates stops |
 //! | `footprint_tests`, `footprint_tables` | `tt_proof`: footprints, and their tables |
 //! | `search_tests`, `trace_tests`, `trace_tables` | `tt_search`: searches, their traces, and tables of these |
 //! | `store_tests` | `tt_search`: searches over stores that are full, refuse or are refused |
@@ -26,6 +27,8 @@
 mod board_tables;
 #[cfg(test)]
 mod board_tests;
+#[cfg(test)]
+mod certificate_stop_tests;
 #[cfg(test)]
 mod chain_tests;
 #[cfg(test)]
