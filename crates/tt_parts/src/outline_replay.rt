@@ -45,10 +45,7 @@ fn combine_results(
         ReplayResult::Won(one) => match second {
             ReplayResult::Unfit => Ok(ReplayResult::Unfit),
             ReplayResult::Lost => Ok(ReplayResult::Lost),
-            ReplayResult::Won(other) => match one.joined(alloc, other) {
-                Ok(basis) => Ok(ReplayResult::Won(basis)),
-                Err(e) => Err(e),
-            },
+            ReplayResult::Won(other) => Ok(ReplayResult::Won(one.joined(alloc, other)?)),
         },
     }
 }
@@ -65,10 +62,10 @@ fn result_of_pick(
     ensures { IfOk result (IsResultBeforeTurn (RestsBeforePick line.now.frame line.now.state turn.now) found) }
 {
     match found {
-        ReplayResult::Won(behind) => match behind.picked(alloc, line, turn, board) {
-            Ok(basis) => Ok(ReplayResult::Won(basis)),
-            Err(e) => Err(e),
-        },
+        ReplayResult::Won(behind) => {
+            let basis = behind.picked(alloc, line, turn, board)?;
+            Ok(ReplayResult::Won(basis))
+        }
         ReplayResult::Lost => Ok(ReplayResult::Lost),
         ReplayResult::Unfit => Ok(ReplayResult::Unfit),
     }
@@ -86,10 +83,10 @@ fn result_of_branch(
     ensures { IfOk result (IsResultBeforeTurn (RestsBeforeOpposingTurn line.now.frame line.now.state turn.now) found) }
 {
     match found {
-        ReplayResult::Won(behind) => match behind.before_opposing_turn(alloc, line, turn, board) {
-            Ok(basis) => Ok(ReplayResult::Won(basis)),
-            Err(e) => Err(e),
-        },
+        ReplayResult::Won(behind) => {
+            let basis = behind.before_opposing_turn(alloc, line, turn, board)?;
+            Ok(ReplayResult::Won(basis))
+        }
         ReplayResult::Lost => Ok(ReplayResult::Lost),
         ReplayResult::Unfit => Ok(ReplayResult::Unfit),
     }
@@ -115,10 +112,7 @@ fn result_of_part(name: &Option<PositionFootprint>, line: &Line) -> Result<Repla
             if !basis.fits_line(line) {
                 return Ok(ReplayResult::Unfit);
             }
-            match basis.try_clone() {
-                Ok(basis) => Ok(ReplayResult::Won(basis)),
-                Err(e) => Err(e),
-            }
+            Ok(ReplayResult::Won(basis.try_clone()?))
         }
         None => Ok(ReplayResult::Unfit),
     }
@@ -129,10 +123,7 @@ fn footprint_to_keep(found: &ReplayResult) -> Result<Option<PositionFootprint>, 
     ensures { IfOk result (λ n. n ≡ kept_footprint found.now) }
 {
     match found {
-        ReplayResult::Won(basis) => match basis.try_clone() {
-            Ok(basis) => Ok(Some(basis)),
-            Err(e) => Err(e),
-        },
+        ReplayResult::Won(basis) => Ok(Some(basis.try_clone()?)),
         ReplayResult::Lost => Ok(None),
         ReplayResult::Unfit => Ok(None),
     }
@@ -258,10 +249,8 @@ fn replay_branch(
             let board = line.present().copy();
             let found = replay_outline(alloc, child, s, line, names);
             line.pop();
-            match found {
-                Ok(behind) => result_of_branch(alloc, line, &turn, &board, behind),
-                Err(e) => Err(e),
-            }
+            let behind = found?;
+            result_of_branch(alloc, line, &turn, &board, behind)
         }
         Err(Refused::Illegal(_)) => {
             skip(child, names)?;
@@ -310,10 +299,8 @@ fn replay_reply(
         skip_branches(list, names)?;
         return Ok(ReplayResult::Lost);
     }
-    match replay_branches(alloc, list, s, line, names) {
-        Ok(found) => Ok(result_of_reply(list, line, found)),
-        Err(e) => Err(e),
-    }
+    let found = replay_branches(alloc, list, s, line, names)?;
+    Ok(result_of_reply(list, line, found))
 }
 
 #[cycle(play)]
@@ -339,10 +326,8 @@ fn replay_pick(
             let board = line.present().copy();
             let found = replay_outline(alloc, child, s, line, names);
             line.pop();
-            match found {
-                Ok(behind) => result_of_pick(alloc, line, &turn, &board, behind),
-                Err(e) => Err(e),
-            }
+            let behind = found?;
+            result_of_pick(alloc, line, &turn, &board, behind)
         }
         Err(Refused::Illegal(_)) => {
             skip(child, names)?;
@@ -410,8 +395,6 @@ pub fn replay_shared_cert(
     ensures same { line.new ≡ line.old }
 {
     let mut names = Vec::new(alloc);
-    match replay_outline(alloc, o, s, line, &mut names) {
-        Ok(found) => Ok(answer_of_result(&found)),
-        Err(e) => Err(e),
-    }
+    let found = replay_outline(alloc, o, s, line, &mut names)?;
+    Ok(answer_of_result(&found))
 }

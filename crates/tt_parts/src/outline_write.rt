@@ -36,10 +36,8 @@ fn is_winning_cert(
             if side != s || outline.first() != first {
                 return Ok(false);
             }
-            match replay_shared_cert(alloc, &outline, side, line) {
-                Ok(wins) => Ok(wins == Some(true)),
-                Err(e) => Err(e),
-            }
+            let wins = replay_shared_cert(alloc, &outline, side, line)?;
+            Ok(wins == Some(true))
         }
         Err(CertFault::NoMemory) => Err(NoMemory),
         Err(CertFault::Syntax) => Ok(false),

@@ -244,10 +244,8 @@ fn join_entry(
             let board = line.present().copy();
             let found = footprint_of(alloc, tree, line);
             line.pop();
-            match found {
-                Ok(behind) => footprint.join_reply_turn(line, turn, &board, behind),
-                Err(e) => Err(e),
-            }
+            let behind = found?;
+            footprint.join_reply_turn(line, turn, &board, behind)
         }
         Err(Refused::Illegal(_)) => Ok(()),
         Err(Refused::NoMemory) => Err(NoMemory),
@@ -272,10 +270,8 @@ fn footprint_of_pick(
             let board = line.present().copy();
             let found = footprint_of(alloc, tree, line);
             line.pop();
-            match found {
-                Ok(behind) => Footprint::picked(alloc, line, turn, &board, behind),
-                Err(e) => Err(e),
-            }
+            let behind = found?;
+            Footprint::picked(alloc, line, turn, &board, behind)
         }
         Err(Refused::Illegal(_)) => Ok(Footprint::empty(alloc)),
         Err(Refused::NoMemory) => Err(NoMemory),

@@ -97,10 +97,7 @@ fn replay_after(
         Ok(()) => {
             let won = replay(child, s, line);
             line.pop();
-            match won {
-                Ok(wins) => Ok(Some(wins)),
-                Err(e) => Err(e),
-            }
+            Ok(Some(won?))
         }
         Err(Refused::Illegal(_)) => Ok(None),
         Err(Refused::NoMemory) => Err(NoMemory),
@@ -134,11 +131,8 @@ fn replay_pick(turn: Turn, child: &Tree, s: Side, line: &mut Line) -> Result<boo
     if line.to_move() != s {
         return Ok(false);
     }
-    match replay_after(turn, child, s, line) {
-        Ok(Some(wins)) => Ok(wins),
-        Ok(None) => Ok(false),
-        Err(e) => Err(e),
-    }
+    let wins = replay_after(turn, child, s, line)?;
+    Ok(wins.unwrap_or(false))
 }
 
 #[cycle(replay)]

@@ -56,18 +56,18 @@ replay_outline-replay_reply-requires t c =
     let ordered = rw (c.in-Reply.is, outline_of_reply) at c.requires.orderly in
     (search (rules, the_lemmas), rw (c.deref-in-Reply-2.ensures.value, c.deref-in-Reply.ensures) ordered)
 
-pub replay_pick-returns-in-Ok-found-clause-found : goal.replay_pick-returns-in-Ok-found-clause-found
-replay_pick-returns-in-Ok-found-clause-found t c =
+pub replay_pick-returns-in_ok-behind-in-Ok-clause-found : goal.replay_pick-returns-in_ok-behind-in-Ok-clause-found
+replay_pick-returns-in_ok-behind-in-Ok-clause-found t c =
     let same : c.pop.new.self ≡ c.args.line.now = search rules in
     let s = c.args.s in
     let turn = c.args.turn in
     let o = outline_of c.args.child.now in
     let mine : c.args.line.now.state.to_move ≡ s = search rules in
-    let behind = subst (λ (l : LineWithUndo). IsReplayOfOutline s l.frame c.args.names.now.items o l.state c.in-Ok-found.behind c.replay_outline-found.new.names.items)
-    c.in-Ok.ensures.ok.1 c.in-Ok-found.ensures.found in
-    let more = subst (λ (l : LineWithUndo). IfOk c.result_of_pick.result (IsResultBeforeTurn (RestsBeforePick l.frame l.state turn) c.in-Ok-found.behind))
+    let behind = subst (λ (l : LineWithUndo). IsReplayOfOutline s l.frame c.args.names.now.items o l.state c.in_ok-behind-in-Ok.behind c.replay_outline-found.new.names.items)
+    c.in-Ok.ensures.ok.1 c.in_ok-behind-in-Ok.ensures.found in
+    let more = subst (λ (l : LineWithUndo). IfOk c.result_of_pick.result (IsResultBeforeTurn (RestsBeforePick l.frame l.state turn) c.in_ok-behind-in-Ok.behind))
     same c.result_of_pick.ensures in
-    if_ok c.result_of_pick.result _ _ (λ r g. inl (mine, c.in-Ok.ensures.ok.0, (c.in-Ok-found.behind, (behind, g)))) more
+    if_ok c.result_of_pick.result _ _ (λ r g. inl (mine, c.in-Ok.ensures.ok.0, (c.in_ok-behind-in-Ok.behind, (behind, g)))) more
 
 pub replay_pick-returns-in_ok-skip-in-Err-Illegal-clause-found : goal.replay_pick-returns-in_ok-skip-in-Err-Illegal-clause-found
 replay_pick-returns-in_ok-skip-in-Err-Illegal-clause-found t c = inr (
@@ -86,24 +86,24 @@ pub replay_reply-returns-then-not-awaits_other_side-clause-found : goal.replay_r
 replay_reply-returns-then-not-awaits_other_side-clause-found t c =
     inr (λ e d. true≢false (sym (c.awaits_other_side.ensures.1 (e, d)) ∙ c.if-not-awaits_other_side.true), refl, c.in_ok-skip_branches.ensures)
 
-pub replay_reply-returns-in-Ok-clause-found : goal.replay_reply-returns-in-Ok-clause-found
-replay_reply-returns-in-Ok-clause-found t c =
+pub replay_reply-returns-clause-found : goal.replay_reply-returns-clause-found
+replay_reply-returns-clause-found t c =
     let asked = c.awaits_other_side.ensures.0 c.if-not-awaits_other_side.false in
-    let more = subst (λ (l : LineWithUndo). IsResultOfReply l.frame l.state (branches_of_reply c.args.list.now) c.in-Ok.found c.result_of_reply.result)
-    c.in-Ok.ensures.same c.result_of_reply.ensures in
-    inl (asked.0, asked.1, (c.in-Ok.found, (c.in-Ok.ensures.found, more)))
+    let more = subst (λ (l : LineWithUndo). IsResultOfReply l.frame l.state (branches_of_reply c.args.list.now) c.in_ok-found.found c.result_of_reply.result)
+    c.in_ok-found.ensures.same c.result_of_reply.ensures in
+    inl (asked.0, asked.1, (c.in_ok-found.found, (c.in_ok-found.ensures.found, more)))
 
-pub replay_branch-returns-in-Ok-found-clause-found : goal.replay_branch-returns-in-Ok-found-clause-found
-replay_branch-returns-in-Ok-found-clause-found t c =
+pub replay_branch-returns-in_ok-behind-in-Ok-clause-found : goal.replay_branch-returns-in_ok-behind-in-Ok-clause-found
+replay_branch-returns-in_ok-behind-in-Ok-clause-found t c =
     let same : c.pop.new.self ≡ c.args.line.now = search rules in
     let s = c.args.s in
     let turn = c.args.turn in
     let o = outline_of c.args.child.now in
-    let behind = subst (λ (l : LineWithUndo). IsReplayOfOutline s l.frame c.args.names.now.items o l.state c.in-Ok-found.behind c.replay_outline-found.new.names.items)
-    c.in-Ok.ensures.ok.1 c.in-Ok-found.ensures.found in
-    let more = subst (λ (l : LineWithUndo). IfOk c.result_of_branch.result (IsResultBeforeTurn (RestsBeforeOpposingTurn l.frame l.state turn) c.in-Ok-found.behind))
+    let behind = subst (λ (l : LineWithUndo). IsReplayOfOutline s l.frame c.args.names.now.items o l.state c.in_ok-behind-in-Ok.behind c.replay_outline-found.new.names.items)
+    c.in-Ok.ensures.ok.1 c.in_ok-behind-in-Ok.ensures.found in
+    let more = subst (λ (l : LineWithUndo). IfOk c.result_of_branch.result (IsResultBeforeTurn (RestsBeforeOpposingTurn l.frame l.state turn) c.in_ok-behind-in-Ok.behind))
     same c.result_of_branch.ensures in
-    if_ok c.result_of_branch.result _ _ (λ r g. inl (c.in-Ok.ensures.ok.0, (c.in-Ok-found.behind, (behind, g)))) more
+    if_ok c.result_of_branch.result _ _ (λ r g. inl (c.in-Ok.ensures.ok.0, (c.in_ok-behind-in-Ok.behind, (behind, g)))) more
 
 pub replay_branch-returns-in_ok-basis-in-Err-Illegal-clause-found : goal.replay_branch-returns-in_ok-basis-in-Err-Illegal-clause-found
 replay_branch-returns-in_ok-basis-in-Err-Illegal-clause-found t c =

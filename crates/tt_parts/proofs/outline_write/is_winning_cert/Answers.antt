@@ -7,16 +7,16 @@ use Rattle.tt_proof.specs.Wins.{WinsOrLives}
 use Rattle.tt_parts.proofs.OutlineSameLemmas.{winning_fits}
 use Rattle.tt_parts.proofs.outline_write.is_winning_cert.Goals as goal
 
-pub returns-in-Ok-replay_shared_cert : goal.returns-in-Ok-replay_shared_cert
-returns-in-Ok-replay_shared_cert c = λ e.
+pub returns-in_ok-wins-in-Ok : goal.returns-in_ok-wins-in-Ok
+returns-in_ok-wins-in-Ok c = λ e.
     let f = c.args.line.now.frame in
     let at = c.args.line.now.state in
     let o = outline_of c.in-Ok.outline in
     let side : c.in-Ok.side ≡ c.args.s = search rules in
-    let won : c.in-Ok-replay_shared_cert.wins ≡ Some true = search rules in
+    let won : c.in_ok-wins-in-Ok.wins ≡ Some true = search rules in
     let says : IsOutlineAnswer c.in-Ok.side f o at (Some true) =
-    subst (λ (a : Option Bool). IsOutlineAnswer c.in-Ok.side f o at a) won c.in-Ok-replay_shared_cert.ensures.parts in
-    let exact = subst (λ (a : Option Bool). IfSome a (λ w. IsTrue w ↔ WinsOrLives c.in-Ok.side f (unfolded [] o) at)) won c.in-Ok-replay_shared_cert.ensures.exact in
+    subst (λ (a : Option Bool). IsOutlineAnswer c.in-Ok.side f o at a) won c.in_ok-wins-in-Ok.ensures.parts in
+    let exact = subst (λ (a : Option Bool). IfSome a (λ w. IsTrue w ↔ WinsOrLives c.in-Ok.side f (unfolded [] o) at)) won c.in_ok-wins-in-Ok.ensures.exact in
     record {
       outline = o;
       is = subst (λ (x : Side). IsSharedCertificate f.size c.args.bytes.now x o) side

@@ -3,7 +3,8 @@ use Rattle.std.proofs.lemmas.Result.{err_from_is_err_and, MatchResult-weaker}
 use Rattle.tt_proof.specs.CertificateText.{pick_symbol, replies_symbol}
 use Rattle.tt_proof.specs.inside.CertificateWalking.{BeginsWith, StopsBefore, IsTextOfTree}
 use Rattle.tt_proof.proofs.TextLemmas.{heads}
-use Rattle.tt_proof.proofs.StopLemmas.{SkippedTo, tree_first, won_read, pick_turn_stops, pick_tree_stops, pick_tree_read, reply_begins, reply_ends, reply_full, entry_turn_stops, entry_tree_stops, entry_skipped}
+use Rattle.tt_proof.proofs.StopLemmas.{SkippedTo, tree_first, won_read, pick_turn_stops, pick_tree_stops, pick_tree_read, reply_begins, reply_ends, reply_full}
+use Rattle.tt_proof.proofs.StopLemmas.{entry_turn_stops, entry_tree_stops, entry_skipped}
 use Rattle.tt_proof.proofs.certificate_stops.+skip.Goals as goal
 use Rattle.tt_proof.proofs.certificate_stops.+skip.Goals.{skip_tree-else-first-eq33-via-then-first-eq33+else-left-gt0, skip_tree-else-first-eq33-via-else-first-eq33}
 

@@ -62,23 +62,23 @@ footprint_of_reply-returns-clause-exact t c =
 rest_in_order : (size : Size) (least : ℕ) (t : Turn) (u : Strategy) (es : Entries) → AreInOrder size least (entry t u es) → (next : ℕ) × AreInOrder size next es
 rest_in_order size least t u es h = (turn_number_on_size size t + 1, h.3)
 
-pub footprint_of_pick-returns-in-Ok-found-clause-exact :
-    goal.footprint_of_pick-returns-in-Ok-found-clause-exact
-footprint_of_pick-returns-in-Ok-found-clause-exact t c =
+pub footprint_of_pick-returns-in_ok-behind-in-Ok-clause-exact :
+    goal.footprint_of_pick-returns-in_ok-behind-in-Ok-clause-exact
+footprint_of_pick-returns-in_ok-behind-in-Ok-clause-exact t c =
     let same : c.pop.new.self ≡ c.args.line.now = search rules in
     let turn = c.args.turn.now in
-    let behind = c.in-Ok-found.behind in
-    let foot = subst (λ (l : LineWithUndo). IsFootprint l.frame l.state (strategy_of c.args.tree.now) behind) c.in-Ok.ensures.ok.1 c.in-Ok-found.ensures.exact in
+    let behind = c.in_ok-behind-in-Ok.behind in
+    let foot = subst (λ (l : LineWithUndo). IsFootprint l.frame l.state (strategy_of c.args.tree.now) behind) c.in-Ok.ensures.ok.1 c.in_ok-behind-in-Ok.ensures.exact in
     let more = subst (λ (l : LineWithUndo). IfOk c.picked.result (λ x. (u : Strategy) → IsFootprint l.frame (after l.frame l.state turn) u behind
     → IsFootprint l.frame l.state (pick turn u) x)) same c.picked.ensures in
     if_ok c.picked.result _ _ (λ x h. h (strategy_of c.args.tree.now) foot) more
 
-pub join_entry-returns-in-Ok-found-clause-exact : goal.join_entry-returns-in-Ok-found-clause-exact
-join_entry-returns-in-Ok-found-clause-exact t c =
+pub join_entry-returns-in_ok-behind-in-Ok-clause-exact : goal.join_entry-returns-in_ok-behind-in-Ok-clause-exact
+join_entry-returns-in_ok-behind-in-Ok-clause-exact t c =
     let same : c.pop.new.self ≡ c.args.line.now = search rules in
     let turn = c.args.turn.now in
-    let behind = c.in-Ok-found.behind in
-    let foot = subst (λ (l : LineWithUndo). IsFootprint l.frame l.state (strategy_of c.args.tree.now) behind) c.in-Ok.ensures.ok.1 c.in-Ok-found.ensures.exact in
+    let behind = c.in_ok-behind-in-Ok.behind in
+    let foot = subst (λ (l : LineWithUndo). IsFootprint l.frame l.state (strategy_of c.args.tree.now) behind) c.in-Ok.ensures.ok.1 c.in_ok-behind-in-Ok.ensures.exact in
     let more = subst (λ (l : LineWithUndo). OnOk c.join_reply_turn.result ((u : Strategy) → IsFootprint l.frame (after l.frame l.state turn) u behind
     → IsEntryJoined l.frame l.state turn u c.args.footprint.now c.join_reply_turn.new.self)) same c.join_reply_turn.ensures in
     on_ok c.join_reply_turn.result _ _ (λ h. h (strategy_of c.args.tree.now) foot) more
