@@ -1,5 +1,5 @@
 //! The answer that stands behind a problem, and its words.
-use crate::certificates::read_strategy;
+use crate::certificates::{put_no_certificate, read_strategy};
 use crate::endings::{has_ended, put_ending};
 use crate::hints::put_editor_point_name;
 use crate::main_lines::{main_line, make_turns};
@@ -240,7 +240,7 @@ pub fn put_answer_lines(
 ) -> Result<(), NoMemory> {
     let found = read_answers(alloc, line, behind)?;
     if found.is_vain() {
-        return Ok(out.extend_from_slice(b"what follows is no certificate\n")?);
+        return put_no_certificate(alloc, out, behind, line.frame().size);
     }
     if !found.is_text {
         return Ok(());

@@ -1,9 +1,11 @@
 //! Reads certificates.
+use crate::writing::written;
 use std::alloc::Global;
+use std::io::Write;
 use tt_game::{Side, Turn};
 use tt_parts::{Outline, read_shared_cert};
-use tt_proof::{CertFault, Tree, read_cert};
-use tt_sgf::{NoMemory, Size};
+use tt_proof::{CertFault, Tree, certificate_stop, read_cert};
+use tt_sgf::{NoMemory, Size, trim};
 
 /// Another handle of the tree with this name.
 fn tree_of_part(names: &Vec<Tree>, name: usize) -> Result<Tree, NoMemory> {
@@ -87,5 +89,43 @@ pub fn read_strategy(
         Ok(found) => Ok(Some(found)),
         Err(CertFault::NoMemory) => Err(NoMemory),
         Err(_) => Ok(None),
+    }
+}
+
+/// The bytes in front of the first newline.
+fn first_line(text: &[u8]) -> &[u8] {
+    match text.iter().position(|byte| *byte == b'\n') {
+        Some(end) => text.get(..end).unwrap_or(text),
+        None => text,
+    }
+}
+
+/// The index of the byte at which the reading of a certificate stops; none where it is one, and where shared parts begin at that byte.
+fn refused_byte(alloc: Global, bytes: &[u8], size: Size) -> Result<Option<usize>, NoMemory> {
+    if read_strategy(alloc, bytes, size)?.is_some() {
+        return Ok(None);
+    }
+    let stop = certificate_stop(bytes, size);
+    match bytes.get(stop) {
+        Some(b'=' | b'*') => Ok(None),
+        _ => Ok(Some(stop)),
+    }
+}
+
+/// Writes that what stands behind a problem is no certificate, and where its first line stops being one, behind the text.
+pub fn put_no_certificate(
+    alloc: Global,
+    out: &mut Vec<u8>,
+    behind: &[u8],
+    size: Size,
+) -> Result<(), NoMemory> {
+    out.extend_from_slice(b"what follows is no certificate\n")?;
+    let line = trim(first_line(trim(behind)));
+    match refused_byte(alloc, line, size)? {
+        Some(stop) => {
+            let byte = stop.saturating_add(1);
+            written(writeln!(out, "look at: byte {byte} of its first line"))
+        }
+        None => Ok(()),
     }
 }
