@@ -73,10 +73,8 @@ impl Node {
         let board = line.present().copy();
         let found = self.footprint(alloc, line, side);
         line.pop();
-        match found {
-            Ok(footprint) => Ok((board, footprint)),
-            Err(e) => Err(e),
-        }
+        let footprint = found?;
+        Ok((board, footprint))
     }
 }
 
