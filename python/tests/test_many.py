@@ -1,9 +1,11 @@
 """Many problems at a time."""
+from pathlib import Path
+
 import data
 import pytest
 
 import tsumego
-from tsumego import many
+from tsumego import many, programs
 
 MARKED = [(row[1], row[3].replace("PL[", f"{row[2]}PL[", 1)) for row in data.SHAPES]
 
@@ -39,3 +41,15 @@ def test_what_ends_early_is_asked_anew(monkeypatch: pytest.MonkeyPatch) -> None:
 
 def test_time_runs_out() -> None:
     assert [each.word for each in tsumego.verdicts([data.OPEN], 0.5)] == ["unsettled"]
+
+
+def test_want_of_memory_is_told(tmp_path: Path, monkeypatch: pytest.MonkeyPatch) -> None:
+    # df-pn takes more than 30 MB here.
+    dense = "(;SZ[7]AB[ba][ca][cb][cd][df][eb][gd]AW[bf][ce][cf][db][ee][ef][ge][gg]PL[B]TR[ef])"
+    starved = tmp_path / "starved"
+    starved.write_text(f'#!/bin/sh\nexec prlimit --as=30000000 "{programs.program("tsumego")}" "$@"\n')
+    starved.chmod(0o755)
+    monkeypatch.setattr(programs, "program", lambda name: str(starved))
+    verdict, text = MARKED[0]
+    found = tsumego.verdicts([text, dense, text], 100, jobs=1)
+    assert [(each.word, each.detail) for each in found] == [(verdict, ""), ("unsettled", "memory"), (verdict, "")]

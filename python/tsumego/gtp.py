@@ -469,6 +469,8 @@ class Engine:
         found = self.known[text]
         if found.word == REFUSED:
             raise GtpError(f"refused {found.detail}")
+        if found.detail == "memory":
+            raise GtpError("unsettled, as memory was too little: try fewer points by tsumego-region")
         if not found.is_settled:
             raise GtpError(f"unsettled after {self.limit:.0f} seconds: try more --seconds, or fewer points by tsumego-region")
         return found

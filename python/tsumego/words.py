@@ -72,6 +72,11 @@ def _unsettled(answer: Answer) -> str:
     problem = answer.problem
     assert problem
     side = NAMES[problem.to_move]
+    if answer.verdict.detail == "memory":
+        return (
+            f"Open: who wins if {side} begins wasn't found in the memory that the program may take. Give it more, "
+            f"or try fewer squares: the region has {len(problem.region) or problem.columns * problem.rows} points."
+        )
     return (
         f"Open: who wins if {side} begins wasn't found in {answer.seconds:.0f} seconds. Try --seconds {max(60, round(answer.seconds * 10))}, "
         f"or fewer squares: the region has {len(problem.region) or problem.columns * problem.rows} points."

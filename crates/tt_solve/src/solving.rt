@@ -51,7 +51,7 @@ fn total_left(total: Option<u32>, granted: u64) -> Option<u32>
 }
 
 /// Solves the problem at a line: by df-pn, where it is asked for and its certificate takes at most so many bytes, or else by
-/// workers; and what is left of the total. Where df-pn has no memory the workers begin.
+/// workers; and what is left of the total. Where df-pn has no memory the gate hears of it, and the workers begin.
 fn solve_line<X: Threads + Wait + Sync, G: Gate>(
     rt: &X,
     alloc: Global,
@@ -65,8 +65,10 @@ fn solve_line<X: Threads + Wait + Sync, G: Gate>(
     requires state { IsWellFormedState line.now.frame line.now.state }
     ensures { IfOk result (λ r. HoldsLeaving (λ t. IsSolution line.now options.limits t options.cert r.0) total r.1) }
 {
-    if let Ok(Some(solution)) = dfpn_solution_by_workers(rt, alloc, line, options, most_bytes) {
-        return Ok((solution, total));
+    match dfpn_solution_by_workers(rt, alloc, line, options, most_bytes) {
+        Ok(Some(solution)) => return Ok((solution, total)),
+        Ok(None) => {}
+        Err(NoMemory) => gate.dfpn_lacked_memory(),
     }
     let (answer, granted) = search_by_workers(rt, alloc, line, options, total, gate)?;
     let solution = solution_of_answer(alloc, line, options, &answer)?;
