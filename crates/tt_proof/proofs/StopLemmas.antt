@@ -17,7 +17,7 @@ use Rattle.tt_proof.specs.declared.tree.TheConstants.{MOST_DEPTH}
 use Rattle.tt_proof.specs.Strategy.{Strategy, Entries, done, pick, reply, none, entry, depth, depth_of_entries, IsInOrder, AreInOrder, IsTurnOnBoardOfSize, turn_number_on_size}
 use Rattle.tt_proof.specs.CertificateText.{won_symbol, pick_symbol, replies_symbol, side_prefix, dash, turn_text, row_byte, tree_text, entries_text, IsCertificate}
 use Rattle.tt_proof.specs.CertificateStops.{BeginsSomeCertificate, CertificateStopsAt}
-use Rattle.tt_proof.specs.inside.CertificateWalking.{BeginsWith, StopsBefore, IsTurnFrom, IsTextOfTurnFrom, IsFirstByteOfTurnFrom, IsTextOfTree, IsTextOfEntries, HaveInCommon}
+use Rattle.tt_proof.specs.inside.CertificateWalking.{BeginsByText, StopsBefore, IsTurnFrom, IsTextOfTurnFrom, IsFirstByteOfTurnFrom, IsTextOfTree, IsTextOfEntries, HaveInCommon}
 use Rattle.tt_proof.proofs.TextLemmas.{heads, tails, same_turn, turn_not_end, same_tree}
 use Rattle.tt_proof.proofs.CertificateLemmas.{side_apart}
 
@@ -146,7 +146,7 @@ module _ (size : Size) where
       none_begins (reply es) b more z never low at = never.1 (heads at)
 
   -- `.` is a tree
-  pub won_read : (d : ℕ) (r y : List ℕ) → r ≡ won_symbol ∷ y → BeginsWith (IsTextOfTree size d) r y
+  pub won_read : (d : ℕ) (r y : List ℕ) → r ≡ won_symbol ∷ y → BeginsByText (IsTextOfTree size d) r y
   won_read d r y e = (won_symbol ∷ [], (done, tt, omega arith, refl), e)
 
   module _ (e : ℕ) where
@@ -179,7 +179,7 @@ module _ (size : Size) where
           tree_of (reply es) w z o low at = absurd (omega (arith, heads at))
 
       -- a turn and a tree behind `!` are a tree
-      pub pick_tree_read : BeginsWith (IsTextOfTree size e) after y → BeginsWith (IsTextOfTree size (suc e)) (pick_symbol ∷ r) y
+      pub pick_tree_read : BeginsByText (IsTextOfTree size e) after y → BeginsByText (IsTextOfTree size (suc e)) (pick_symbol ∷ r) y
       pick_tree_read (x, (u, o, low, is), at) = (
         pick_symbol ∷ (turn_text size t ++ x),
         (pick t u, (on, o), omega (arith, low), ap (λ w. pick_symbol ∷ (turn_text size t ++ w)) is),
@@ -191,7 +191,7 @@ module _ (size : Size) where
 -- The walk came from `?` in front of bytes to `now`, where turns are due whose numbers are at least so great: what is found there is found of the reply.
 pub record SkippedTo (size : Size) (d : ℕ) (bytes : List ℕ) (least : ℕ) (now : List ℕ) : Type 0 where
   pub stops : (y : List ℕ) → StopsBefore (IsTextOfEntries size d least) now y → StopsBefore (IsTextOfTree size d) (replies_symbol ∷ bytes) y
-  pub ends : (y : List ℕ) → BeginsWith (IsTextOfEntries size d least) now y → BeginsWith (IsTextOfTree size d) (replies_symbol ∷ bytes) y
+  pub ends : (y : List ℕ) → BeginsByText (IsTextOfEntries size d least) now y → BeginsByText (IsTextOfTree size d) (replies_symbol ∷ bytes) y
 
 module _ (size : Size) (d : ℕ) where
   -- right behind `?`
@@ -211,7 +211,7 @@ module _ (size : Size) (d : ℕ) where
       entries_of (reply es) w z o low at = (entries_text size es, z, (es, o, low, refl), tails at)
 
   -- `;` ends the reply
-  pub reply_ends : (bytes : List ℕ) (least : ℕ) (now y : List ℕ) → SkippedTo size d bytes least now → now ≡ semicolon ∷ y → BeginsWith (IsTextOfTree size d) (replies_symbol ∷ bytes) y
+  pub reply_ends : (bytes : List ℕ) (least : ℕ) (now y : List ℕ) → SkippedTo size d bytes least now → now ≡ semicolon ∷ y → BeginsByText (IsTextOfTree size d) (replies_symbol ∷ bytes) y
   reply_ends bytes least now y h e = h.ends y (semicolon ∷ [], (none, tt, omega arith, refl), e)
 
   -- where no turn may come, and no `;` does
@@ -258,7 +258,7 @@ module _ (size : Size) (some : 1 ≤ size.columns) (e : ℕ) (bytes : List ℕ) 
             (tree_text size u, entries_text size es ++ z, (u, o.2, omega (arith, low), refl), tails (tails at) ∙ append_assoc (tree_text size u) (entries_text size es) z)
 
     -- behind an entry
-    pub entry_skipped : (after : List ℕ) → BeginsWith (IsTextOfTree size e) mid after → SkippedTo size (suc e) bytes (turn_number_on_size size t + 1) after
+    pub entry_skipped : (after : List ℕ) → BeginsByText (IsTextOfTree size e) mid after → SkippedTo size (suc e) bytes (turn_number_on_size size t + 1) after
     entry_skipped after (x, (u, o, low, is), at) = record {
       stops =
           λ y s. h.stops y (subst (λ w. StopsBefore (IsTextOfEntries size (suc e) least) w y) (sym whole)
@@ -350,7 +350,7 @@ module _ (size : Size) (bytes rest : List ℕ) (s : Side) (at : bytes ≡ side_p
       (λ b bs more e is. w.stops b bs more (w.front ++ (b ∷ more)) [] e is (sym (append-nil (w.front ++ (b ∷ more)))))
 
   -- where a tree stands, no certificate has a byte behind it
-  pub certificate_tree_read : BeginsWith (IsTextOfTree size MOST_DEPTH) rest y → CertificateStopsAt size bytes (length bytes - length y)
+  pub certificate_tree_read : BeginsByText (IsTextOfTree size MOST_DEPTH) rest y → CertificateStopsAt size bytes (length bytes - length y)
   certificate_tree_read (x, (u, o, low, is), g) =
       let text : bytes ≡ (side_prefix s ++ tree_text size u) ++ y = at ∙ ap (λ w. side_prefix s ++ w) (g ∙ ap (λ w. w ++ y) is) ∙ sym (append_assoc (side_prefix s) (tree_text size u) y) in
       stops_at size bytes (side_prefix s ++ tree_text size u) y text

@@ -6,7 +6,7 @@ ghost use Rattle.tt_sgf.specs.declared.size.Size.{Size};
 ghost use Rattle.tt_game.specs.declared.frame.Side.{Side};
 ghost use Rattle.tt_proof.specs.CertificateText.{pick_symbol, replies_symbol, side_prefix};
 ghost use Rattle.tt_proof.specs.CertificateStops.{CertificateStopsAt};
-ghost use Rattle.tt_proof.specs.inside.CertificateWalking.{BeginsWith, StopsBefore, BeginsWithTurnFrom, IsTextOfTurnFrom, IsFirstByteOfTurnFrom, IsTextOfTree, HaveInCommon};
+ghost use Rattle.tt_proof.specs.inside.CertificateWalking.{BeginsByText, StopsBefore, BeginsWithTurnFrom, IsTextOfTurnFrom, IsFirstByteOfTurnFrom, IsTextOfTree, HaveInCommon};
 
 use crate::certificate_read::{letter_index, read_turn, split_side, strip_reply_end};
 use crate::tree::MOST_DEPTH;
@@ -54,7 +54,7 @@ fn skip_turn(bytes: &[u8], size: Size, least: u16) -> Result<(u16, &[u8]), &[u8]
 #[cycle(skip)]
 fn skip_tree(bytes: &[u8], size: Size, left: u16) -> Result<&[u8], &[u8]>
     ensures { MatchResult result
-        (λ y. BeginsWith (IsTextOfTree size left) bytes.now y.now)
+        (λ y. BeginsByText (IsTextOfTree size left) bytes.now y.now)
         (λ y. StopsBefore (IsTextOfTree size left) bytes.now y.now) }
 {
     match bytes.split_first() {
@@ -79,7 +79,7 @@ fn skip_tree(bytes: &[u8], size: Size, left: u16) -> Result<&[u8], &[u8]>
 fn skip_pick(bytes: &[u8], size: Size, left: u16) -> Result<&[u8], &[u8]>
     requires { 0 < left }
     ensures { MatchResult result
-        (λ y. BeginsWith (IsTextOfTree size left) (pick_symbol ∷ bytes.now) y.now)
+        (λ y. BeginsByText (IsTextOfTree size left) (pick_symbol ∷ bytes.now) y.now)
         (λ y. StopsBefore (IsTextOfTree size left) (pick_symbol ∷ bytes.now) y.now) }
 {
     let (_, after) = skip_turn(bytes, size, 0)?;
@@ -90,7 +90,7 @@ fn skip_pick(bytes: &[u8], size: Size, left: u16) -> Result<&[u8], &[u8]>
 #[cycle(skip)]
 fn skip_reply(bytes: &[u8], size: Size, left: u16) -> Result<&[u8], &[u8]>
     ensures { MatchResult result
-        (λ y. BeginsWith (IsTextOfTree size left) (replies_symbol ∷ bytes.now) y.now)
+        (λ y. BeginsByText (IsTextOfTree size left) (replies_symbol ∷ bytes.now) y.now)
         (λ y. StopsBefore (IsTextOfTree size left) (replies_symbol ∷ bytes.now) y.now) }
 {
     let mut now = bytes;

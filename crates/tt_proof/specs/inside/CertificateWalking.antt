@@ -7,8 +7,8 @@ use Rattle.tt_proof.specs.Strategy.{Strategy, Entries, depth, depth_of_entries, 
 use Rattle.tt_proof.specs.CertificateText.{turn_text, column_byte, tree_text, entries_text}
 
 -- r begins with a text of this kind, and y follows
-abbrev pub BeginsWith : (List ℕ → Type 0) → List ℕ → List ℕ → Type 0
-BeginsWith IsText r y = (x : List ℕ) × IsText x × (r ≡ x ++ y)
+abbrev pub BeginsByText : (List ℕ → Type 0) → List ℕ → List ℕ → Type 0
+BeginsByText IsText r y = (x : List ℕ) × IsText x × (r ≡ x ++ y)
 
 -- what stands in front of y in r begins a text of this kind, and with the first byte of y it begins none
 pub record StopsBefore (IsText : List ℕ → Type 0) (r y : List ℕ) : Type 0 where

@@ -1,7 +1,7 @@
 use Rattle.std.proofs.Common.{◌≡◌, ◌∷◌, ◌∙◌, ◌+◌, ◌-◌, ℕ, suc, sym, ap, subst, length, arith}
 use Rattle.std.proofs.lemmas.Result.{err_from_is_err_and, MatchResult-weaker}
 use Rattle.tt_proof.specs.CertificateText.{pick_symbol, replies_symbol}
-use Rattle.tt_proof.specs.inside.CertificateWalking.{BeginsWith, StopsBefore, IsTextOfTree}
+use Rattle.tt_proof.specs.inside.CertificateWalking.{BeginsByText, StopsBefore, IsTextOfTree}
 use Rattle.tt_proof.proofs.TextLemmas.{heads}
 use Rattle.tt_proof.proofs.StopLemmas.{SkippedTo, tree_first, won_read, pick_turn_stops, pick_tree_stops, pick_tree_read, reply_begins, reply_ends, reply_full}
 use Rattle.tt_proof.proofs.StopLemmas.{entry_turn_stops, entry_tree_stops, entry_skipped}
@@ -42,7 +42,7 @@ skip_pick-returns t c =
     let one = one_more c.args.left (λ e. omega (arith, c.requires, e)) in
     let f = c.in_ok-after.ensures in
     MatchResult-weaker c.skip_tree.result c.skip_tree.ensures
-    (λ y h. subst (λ k. BeginsWith (IsTextOfTree c.args.size k) (pick_symbol ∷ c.args.bytes.now) y.now) (sym one)
+    (λ y h. subst (λ k. BeginsByText (IsTextOfTree c.args.size k) (pick_symbol ∷ c.args.bytes.now) y.now) (sym one)
     (pick_tree_read c.args.size (c.args.left - 1) f.turn f.from.on_board c.args.bytes.now c.in_ok-after.after.now y.now f.text h))
     (λ y h. subst (λ k. StopsBefore (IsTextOfTree c.args.size k) (pick_symbol ∷ c.args.bytes.now) y.now) (sym one)
     (pick_tree_stops c.args.size (c.args.left - 1) f.turn f.from.on_board c.args.bytes.now c.in_ok-after.after.now y.now f.text h))
