@@ -67,6 +67,10 @@ def test_json(service: Served) -> None:
     assert service.data("/ask?stone=D18", CORNER) == {"status": 400, "error": "/ask takes no stone"}
     assert service.data("/mark?point=D18&close=0", CORNER) == {"status": 400, "error": "close is 1, or isn't there"}
     assert service.data("/mark?point=I9", STRAIGHT)["status"] == 400
+    refused = service.data("/mark?point=D18", CORNER)
+    assert refused["text"] == CORNER.strip() + "\n" and refused["said"][0] == "1 refused 20"
+    assert "said" not in service.data("/svg", STRAIGHT) and service.data("/svg", "(;)")["said"][0] == "1 refused 20"
+    assert service.post("/svg", "(;SZ[3]AB[bb])")[2].startswith(b"<svg ") and service.post("/svg", "(;SZ[0])")[2].startswith(b"1 refused 11\n")
     assert service.data("/nosuch", STRAIGHT)["status"] == 404
 
 

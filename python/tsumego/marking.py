@@ -70,10 +70,9 @@ def _lines_of(tree: GameTree) -> List[str]:
 
 
 def _show(text: str, words: List[str]) -> Tuple[List[str], str]:
-    """What `tsumego-show` writes in front of a tree, and the tree; without `--mark` it writes none."""
-    written = run("tsumego-show", words, write_bytes(text) + b"\n").text
-    begin = re.search(r"^\(", written, re.M)
-    return written[: begin.start() if begin else None].splitlines(), written[begin.start() :] if begin else ""
+    """What `tsumego-show` says of a tree, and the tree that it writes; without `--mark` it writes none."""
+    ended = run("tsumego-show", words, write_bytes(text) + b"\n")
+    return (ended.errors.splitlines(), ended.text) if words else (ended.text.splitlines(), "")
 
 
 def _refusal(lines: List[str]) -> Optional[Refused]:

@@ -158,8 +158,9 @@ def path_of(name: str, query: Query) -> Tuple[Path, bool]:
     return path, path.is_worker or (name == "/mark" and bool(query.get("close")))
 
 
-def as_json(path: Path, text: str) -> str:
-    return json.dumps(path.data(text)) + "\n"
+def as_json(path: Path, text: str, said: str = "") -> str:
+    """A program's text as JSON, with the lines that it said besides, if there are any."""
+    return json.dumps({**path.data(text), **({"said": said.splitlines()} if said else {})}) + "\n"
 
 
 def events_of(lines: bytes) -> List[Dict[str, Any]]:

@@ -71,8 +71,8 @@ def has_left(client: socket.socket) -> bool:
         return True
 
 
-def run(words: List[str], given: Any, told: Callable[[bytes], object], limits: Limits, client: Optional[socket.socket] = None, more: Optional[Dict[str, str]] = None) -> int:
-    """Runs a program within the limits: `given` is its input, `told` takes what it writes, bit by bit. Returns its status, 0 or 1.
+def run(words: List[str], given: Any, told: Callable[[bytes], object], limits: Limits, client: Optional[socket.socket] = None, more: Optional[Dict[str, str]] = None) -> bytes:
+    """Runs a program within the limits: `given` is its input, `told` takes what it writes, bit by bit. Returns what it said on standard error.
 
     Raises Failed where it fails, has no more time, writes too much, or the client leaves. Then it has been ended, with all that it began. `more` is
     for its environment. It ends with this process too: by SIGTERM, where it is one that ends others.
@@ -92,7 +92,7 @@ def run(words: List[str], given: Any, told: Callable[[bytes], object], limits: L
             pipe.close()
     if process.returncode not in (0, 1):
         raise Failed(500, _first_line(said) or _how_it_ended(process.returncode))
-    return process.returncode
+    return said
 
 
 def _watch(process: "subprocess.Popen[bytes]", told: Callable[[bytes], object], end: float, client: Optional[socket.socket]) -> bytes:

@@ -48,19 +48,24 @@ class Service:
             if is_worker:
                 longer = replace(limits, seconds=limits.seconds + GRACE)
                 run(words, given, told if told and request.is_json else written.write, longer, request.client, worker_environment(self.programs))
+                said = b""
             else:
-                run(words, given, written.write, limits, request.client)
+                said = run(words, given, written.write, limits, request.client)
         except BaseException:
             written.close()
             raise
         finally:
             self.places.give()
-        return written if is_worker == request.is_json else _in_form(path, written, is_worker)
+        return written if is_worker == request.is_json and not said else _in_form(path, written, is_worker, request.is_json, said)
 
 
-def _in_form(path: Path, written: IO[bytes], is_worker: bool) -> IO[bytes]:
-    """A worker's lines as text, or a program's text as JSON."""
+def _in_form(path: Path, written: IO[bytes], is_worker: bool, is_json: bool, said: bytes) -> IO[bytes]:
+    """A worker's lines as text, a program's text as JSON, or with what it said in front. A picture stands alone, where there is one."""
     written.seek(0)
     text = written.read()
     written.close()
-    return io.BytesIO((path.text(events_of(text)) if is_worker else as_json(path, text.decode("ascii", "replace"))).encode())
+    if is_worker:
+        return io.BytesIO(path.text(events_of(text)).encode())
+    if is_json:
+        return io.BytesIO(as_json(path, text.decode("ascii", "replace"), said.decode("ascii", "replace")).encode())
+    return io.BytesIO(text if text and path.type.startswith("image/") else said + text)

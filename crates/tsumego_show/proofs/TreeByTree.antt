@@ -1,12 +1,12 @@
 -- Lemmas on an input that is read tree by tree.
-use Rattle.std.proofs.Common.{◌≡◌, ◌≤◌, ◌<◌, ◌+◌, ◌-◌, ◌⊎◌, ℕ, List, Bool, true, false, ◌||◌, inl, inr, refl, sym, ap, length, take, drop, arith, subst, if◌then◌else◌}
+use Rattle.std.proofs.Common.{◌≡◌, ◌≤◌, ◌<◌, ◌+◌, ◌-◌, ◌⊎◌, ℕ, List, Bool, true, false, ◌||◌, inl, inr, refl, sym, length, take, drop, arith, subst}
 use Rattle.tt_sgf.specs.declared.trees.TheConstants.{MAX_BYTES}
 use Rattle.tsumego_show.specs.declared.mode.Mode.{Mode}
 use Rattle.std.proofs.lemmas.List.{take_all, length-drop}
 use Rattle.tt_sgf.specs.declared.nodes.Node.{Node}
 use Rattle.tt_sgf.specs.Grammar.{GameTree, HasNoTree, FirstTreeEndsAt, main_line, HasOpeningParenthesis}
 use Rattle.tt_game.specs.Problems.{problem_of}
-use Rattle.tsumego_show.specs.Shown.{HasStatus, IsTreeRefused, IsRestRefused, ended, stopped}
+use Rattle.tsumego_show.specs.Shown.{IsInputRefused, IsTreeRefused, IsRestRefused, ended, stopped}
 use Rattle.tsumego_show.specs.Shown.{too_long, tree, trees}
 
 -- the brackets of an `or` of three
@@ -62,28 +62,22 @@ module _ {mode : Mode} {input rest : List ℕ} {k : ℕ} {refused : Bool} (p : P
   }
 
   -- no tree is spelled, at a bracket or before the first tree
-  pub progress_stopped : (k ≡ 1) ⊎ HasOpeningParenthesis rest → length rest ≤ MAX_BYTES → HasNoTree rest → HasStatus mode input 1
-  progress_stopped why small none = (
-    refused || true,
-    trees (refused || true) (small_whole small) (p.far true (stopped k rest why none)),
-    sym (ap (λ x. if x then 1 else 0) (or_true refused)),
-  )
+  pub progress_stopped : (k ≡ 1) ⊎ HasOpeningParenthesis rest → length rest ≤ MAX_BYTES → HasNoTree rest → IsInputRefused mode input true
+  progress_stopped why small none =
+      trees true (small_whole small) (subst (λ (x : Bool). IsRestRefused mode 1 input x) (or_true refused) (p.far true (stopped k rest why none)))
 
   -- the rest is too long, which can be at the start alone
-  pub progress_long : MAX_BYTES < length rest → k + length rest ≤ length input + 1 → HasStatus mode input 1
+  pub progress_long : MAX_BYTES < length rest → k + length rest ≤ length input + 1 → IsInputRefused mode input true
   progress_long long bound = elim p.small [
-    | inl h ↦ (true, too_long (subst (λ (x : List ℕ). MAX_BYTES < length x) h.1 long), refl)
+    | inl h ↦ too_long (subst (λ (x : List ℕ). MAX_BYTES < length x) h.1 long)
     | inr small ↦ absurd (omega (arith, p.some))
   ]
 
   -- all trees are read
-  pub progress_ended : ((k ≡ 1) → ⊥) → (HasOpeningParenthesis rest → ⊥) → (status : ℕ) → status ≡ (if refused then 1 else 0) → HasStatus mode input status
-  progress_ended more none status e = (
-    refused,
-    trees refused (elim p.small [ inl h ↦ absurd (more h.0) | inr le ↦ le ])
-        (subst (λ (x : Bool). IsRestRefused mode 1 input x) (or_false refused) (p.far false (ended k rest many none))),
-    e,
-  )
+  pub progress_ended : ((k ≡ 1) → ⊥) → (HasOpeningParenthesis rest → ⊥) → IsInputRefused mode input refused
+  progress_ended more none =
+      trees refused (elim p.small [ inl h ↦ absurd (more h.0) | inr le ↦ le ])
+      (subst (λ (x : Bool). IsRestRefused mode 1 input x) (or_false refused) (p.far false (ended k rest many none)))
     where
       many : 1 < k
       many = elim (Rattle.std.proofs.lemmas.Bool.cases_lt 1 k) [ inl lt ↦ lt | inr le ↦ absurd (more (omega (arith, p.some))) ]

@@ -1,9 +1,9 @@
 -- What the words behind the program's name ask for.
-use Rattle.std.specs.Prelude.{ℕ, ◌-◌, ◌&&◌, ◌||◌, ◌==◌, nat_le, pos, Bool, true, false, List, [], ◌∷◌, codes, Option, Some, None, is_some, option_map, if◌then◌else◌}
+use Rattle.std.specs.Prelude.{ℕ, ◌-◌, ◌&&◌, ◌||◌, ◌==◌, nat_le, pos, Bool, true, false, List, [], ◌∷◌, codes, drop, unwrap_or, Option, Some, None, is_some, option_map, if◌then◌else◌}
 use lib.Pointwise.{pointwise}
 use Rattle.std.specs.Char.{to_ascii_uppercase}
-use Rattle.clap.specs.Words.{App, Row, Rule, Text, first_of, new_app, new_rule, with_rule}
-use Rattle.clap.specs.declared.builder.action.ArgAction.TheVariants.{SetTrue}
+use Rattle.clap.specs.Words.{App, Row, Rule, Text, all_of, first_of, new_app, new_rule, with_rule}
+use Rattle.clap.specs.declared.builder.action.ArgAction.TheVariants.{Append, SetTrue}
 use Rattle.clap.specs.declared.builder.value_parser.ValueParser.TheVariants.{Signed}
 use Rattle.tt_sgf.specs.Bytes.{lower_a, upper_A}
 use Rattle.tt_sgf.specs.Values.{number_of}
@@ -74,9 +74,9 @@ depth_arg = record (new_rule (codes "depth")) {
   parser = Some (Signed (pos 1) (pos MOST_DEPTH));
 }
 
--- a word that is no option
-abbrev pub point_arg : Rule
-point_arg = record (new_rule (codes "point")) { value_names = 1 }
+-- the words that are no options: POINT, and FILEs
+abbrev pub word_arg : Rule
+word_arg = record (new_rule (codes "words")) { value_names = 1; action = Some Append }
 
 abbrev pub with_version_word : App → App
 with_version_word a = record a { top = record a.top { has_version = true } }
@@ -85,7 +85,7 @@ with_version_word a = record a { top = record a.top { has_version = true } }
 unfoldable pub show_app : App
 show_app = with_rule (with_rule (with_rule (with_rule (with_rule (with_rule (with_version_word (new_app (codes "tsumego-show")))
     (flag_word (codes "mark")))
-    point_arg)
+    word_arg)
     (flag_word (codes "close")))
     (flag_word (codes "svg")))
     (flag_word (codes "sgf")))
@@ -93,13 +93,24 @@ show_app = with_rule (with_rule (with_rule (with_rule (with_rule (with_rule (wit
 
 -- ---- what they ask for
 
+-- the words that are no options
+abbrev pub words_in : List Row → List Text
+words_in rows = unwrap_or (all_of (codes "words") rows) []
+
+-- POINT, where marks are wanted: the first of these words, if it names a point
+abbrev pub named_point : Bool → List Text → Option PointName
+named_point false words = None
+named_point true [] = None
+named_point true (w ∷ words) = point_name_of_word w
+
+-- the others are FILEs
+abbrev pub files_behind_point : Option PointName → List Text → List Text
+files_behind_point None words = words
+files_behind_point (Some name) words = drop 1 words
+
 -- marks for the stone in a place, or for any; stones that close its wall may be added, or not
 abbrev pub marks_for : Bool → Option PointName → Mode
 marks_for closes name = Marks (record { name = name; closes = closes })
-
-abbrev pub mark_mode : Bool → Option Text → Option Mode
-mark_mode closes None = Some (marks_for closes None)
-mark_mode closes (Some w) = option_map (λ name. marks_for closes (Some name)) (point_name_of_word w)
 
 -- variations to 1 to 512 turns
 abbrev pub variations_to : Option ℕ → Option Mode
@@ -111,10 +122,10 @@ sgf_mode None = Some (Variations None)
 sgf_mode (Some w) = variations_to (number_of w)
 
 -- one kind of text, with what goes with it: by `--svg`, `--sgf`, `--mark`, `--close`, the depth and the point
-abbrev pub mode_asked : Bool → Bool → Bool → Bool → Option Text → Option Text → Option Mode
+abbrev pub mode_asked : Bool → Bool → Bool → Bool → Option Text → Option PointName → Option Mode
 mode_asked svg sgf mark close depth point =
-    if mark then (if svg || (sgf || is_some depth) then None else mark_mode close point)
-    else (if close || is_some point then None
+    if mark then (if svg || (sgf || is_some depth) then None else Some (marks_for close point))
+    else (if close then None
     else (if sgf then (if svg then None else sgf_mode depth)
     else (if is_some depth then None else Some (if svg then Diagram else Picture))))
 
@@ -129,4 +140,8 @@ is_given name rows = is_true (first_of name rows)
 -- what the matches of the words ask for
 abbrev pub mode_in : List Row → Option Mode
 mode_in rows = mode_asked (is_given (codes "svg") rows) (is_given (codes "sgf") rows) (is_given (codes "mark") rows) (is_given (codes "close") rows)
-    (first_of (codes "depth") rows) (first_of (codes "point") rows)
+    (first_of (codes "depth") rows) (named_point (is_given (codes "mark") rows) (words_in rows))
+
+-- the files that they name
+abbrev pub files_in : List Row → List Text
+files_in rows = files_behind_point (named_point (is_given (codes "mark") rows) (words_in rows)) (words_in rows)

@@ -2,3 +2,4 @@
 pub mod CommandLine
 pub mod Shown
 pub mod Writing
+pub mod Written

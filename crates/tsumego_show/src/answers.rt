@@ -1,9 +1,9 @@
 //! The answer that stands behind a problem, and its words.
 use crate::certificates::{put_no_certificate, read_strategy};
 use crate::endings::{has_ended, put_ending};
-use crate::hints::put_editor_point_name;
 use crate::main_lines::{main_line, make_turns};
 use crate::picture::{colour_name, side_colour};
+use crate::points::{PointForm, put_point};
 use crate::writing::written;
 use std::alloc::Global;
 use std::io::Write;
@@ -174,8 +174,7 @@ fn put_turn_name(out: &mut Vec<u8>, size: Size, turn: Turn) -> Result<(), NoMemo
     match turn {
         Turn::Play(point) => {
             if size.holds(point) {
-                out.push(b' ')?;
-                put_editor_point_name(out, size, usize::from(point.number()))?;
+                put_point(out, size, usize::from(point.number()), PointForm::Editor)?;
             }
             Ok(())
         }

@@ -1,11 +1,11 @@
 //! Reads the words behind the program's name.
 ghost use Rattle.std.specs.Prelude.{◌≡◌, ◌⊎◌, [], IfErr, IfOk, None, OnOk, Some, codes, false, true, map, option_map, string_bytes};
-ghost use Rattle.clap.specs.Words.{app_of, fault_of, first_of, found_of, kind_of, matches_of, new_app, rows_of, rule_of, takes, IsAmong};
+ghost use Rattle.clap.specs.Words.{all_of, app_of, fault_of, first_of, found_of, kind_of, matches_of, new_app, rows_of, rule_of, takes, IsAmong};
 ghost use Rattle.clap.specs.declared.builder.command.Command.TheViews.{out-Command};
 ghost use Rattle.tt_sgf.specs.Values.{number_of};
-ghost use Rattle.tsumego_show.specs.CommandLine.{column_of_editor_letter, coordinate_of_sgf_letter, depth_arg, editor_point_name, flag_word, is_given, mark_mode, mode_asked, mode_in, point_arg, point_name_of_word, sgf_mode, sgf_row, show_app, variations_to};
+ghost use Rattle.tsumego_show.specs.CommandLine.{column_of_editor_letter, coordinate_of_sgf_letter, depth_arg, editor_point_name, files_behind_point, files_in, flag_word, is_given, mode_asked, mode_in, named_point, point_name_of_word, sgf_mode, sgf_row, show_app, variations_to, word_arg, words_in};
 
-use crate::mode::{Mode, PointName, WantedMarks};
+use crate::mode::{Asked, Mode, PointName, WantedMarks};
 use clap::error::ErrorKind;
 use clap::{Arg, ArgAction, ArgMatches, Command as Parser, Error, value_parser};
 use std::alloc::{AllocError, Global};
@@ -34,21 +34,24 @@ const SGF_HELP: &str = "Write game trees with the strategies as variations";
 
 const DEPTH_HELP: &str = "With --sgf: how many turns deep the variations go, 1 to 512";
 
-const POINT_HELP: &str = "With --mark: a stone of the group, as C18 or cb";
+const WORDS_HELP: &str =
+    "A stone of the group, as C18 or cb, with --mark and in front of the files; files to read";
 
 /// What stands at the end of the help.
-const AFTER_HELP: &str = "Reads problems from standard input, and perhaps certificates behind them:
-  tsumego-show < problem.sgf
-  tsumego-show --mark C18 --close < unmarked.sgf > problem.sgf
-Without an option it writes each board, hints and the answer.
+const AFTER_HELP: &str =
+    "Reads FILEs, or standard input: problems, and perhaps certificates behind them:
+  tsumego-show problem.sgf
+  tsumego-show --mark C18 --close unmarked.sgf > problem.sgf
+Without an option it writes each board, hints and the answer. With one it writes SVG or SGF,
+and standard error says what else is to be said.
 Status: 0 all written, 1 something refused, 2 these words or the run failed";
 
-/// What is said of options that aren't taken together, and of a word that names no stone.
+/// What is said of options that aren't taken together.
 const APART: &str = "tsumego-show: take --svg alone, --sgf [--depth N], or --mark [POINT] [--close]
 ";
 
-const NO_POINT: &str =
-    "tsumego-show: a word that is no option names a point: C18 (columns without I, rows 1 to 19) or cb
+const CLOSE_ALONE: &str =
+    "tsumego-show: --close goes with --mark: it adds the stones that close an open wall
 ";
 
 /// The column that a capital letter names in editors, who leave out I.
@@ -110,15 +113,15 @@ fn point_name_of_word(word: &[u8]) -> Option<PointName>
     }
 }
 
-/// Marks for the stone in the place that a word names, or for any.
-fn mark_mode(closes: bool, word: Option<&str>) -> Option<Mode>
-    ensures { result ≡ mark_mode closes (option_map (λ s. s.now) word.entry) }
+/// The point that the first word names, where marks are wanted.
+fn named_point(mark: bool, words: &[&str]) -> Option<PointName>
+    ensures { result ≡ named_point mark (map (λ w. w.now) words.now) }
 {
-    let name = match word {
-        Some(word) => Some(point_name_of_word(word.as_bytes())?),
-        None => None,
-    };
-    Some(Mode::Marks(WantedMarks { name, closes }))
+    if !mark {
+        return None;
+    }
+    let (first, _) = words.split_first()?;
+    point_name_of_word(first.as_bytes())
 }
 
 /// Variations to the number of turns that a word says.
@@ -147,19 +150,19 @@ fn mode_asked(
     svg: bool,
     sgf: bool,
     mark: bool,
-    close: bool,
+    closes: bool,
     depth: Option<&str>,
-    point: Option<&str>,
+    name: Option<PointName>,
 ) -> Option<Mode>
-    ensures { result ≡ mode_asked svg sgf mark close (option_map (λ s. s.now) depth.entry) (option_map (λ s. s.now) point.entry) }
+    ensures { result ≡ mode_asked svg sgf mark closes (option_map (λ s. s.now) depth.entry) name }
 {
     if mark {
         if svg || sgf || depth.is_some() {
             return None;
         }
-        return mark_mode(close, point);
+        return Some(Mode::Marks(WantedMarks { name, closes }));
     }
-    if close || point.is_some() {
+    if closes {
         return None;
     }
     if sgf {
@@ -194,14 +197,15 @@ fn depth_option<'a>(alloc: Global) -> Arg<'a>
         .value_parser(value_parser!(u32).range(1..=i64::from(MOST_DEPTH)))
 }
 
-/// The word that names a stone.
-fn point_word<'a>(alloc: Global) -> Arg<'a>
-    ensures rule { rule_of result ≡ point_arg }
+/// The words that are no options.
+fn plain_words<'a>(alloc: Global) -> Arg<'a>
+    ensures rule { rule_of result ≡ word_arg }
     ensures local { result.global ≡ false }
 {
-    Arg::new(alloc, "point")
-        .value_name("POINT")
-        .help(POINT_HELP)
+    Arg::new(alloc, "words")
+        .value_name("POINT|FILE")
+        .help(WORDS_HELP)
+        .action(ArgAction::Append)
 }
 
 /// A parser without options.
@@ -209,7 +213,7 @@ fn bare_parser<'a>(alloc: Global) -> Parser<'a>
     ensures { app_of result ≡ new_app (codes "tsumego-show") }
 {
     Parser::new(alloc, "tsumego-show")
-        .about("Shows problems of Go, read from standard input")
+        .about("Shows problems of Go")
         .after_help(AFTER_HELP)
 }
 
@@ -222,10 +226,10 @@ fn parser<'a>(alloc: Global) -> Result<Parser<'a>, AllocError>
     let svg = flag_option(alloc, "svg", SVG_HELP);
     let sgf = flag_option(alloc, "sgf", SGF_HELP);
     let depth = depth_option(alloc);
-    let point = point_word(alloc);
+    let words = plain_words(alloc);
     let plain = bare_parser(alloc).version(VERSION);
     let one = plain.arg(mark)?;
-    let two = one.arg(point)?;
+    let two = one.arg(words)?;
     let three = two.arg(close)?;
     let four = three.arg(svg)?;
     let five = four.arg(sgf)?;
@@ -249,8 +253,28 @@ fn flag_of(matches: &ArgMatches<'_>, name: &str) -> bool
     }
 }
 
-/// What a parse asks for.
-fn mode_of(matches: &ArgMatches<'_>) -> Option<Mode>
+/// The texts of a word that may stand more than once, where there is one.
+fn texts_of<'m, 'a>(matches: &'m ArgMatches<'a>, name: &str) -> Option<&'m [&'a str]>
+    ensures { all_of name.now (rows_of (found_of matches.now)) ≡ option_map (λ s. map (λ w. w.now) s.now) result }
+{
+    matches.get_strs(name)
+}
+
+/// The words that are no options.
+fn words_of<'a>(alloc: Global, matches: &ArgMatches<'a>) -> Result<Vec<&'a str>, AllocError>
+    ensures { IfOk result (λ words. map (λ w. w.now) words.items ≡ words_in (rows_of (found_of matches.now))) }
+{
+    let mut words = Vec::new(alloc);
+    let Some(found) = texts_of(matches, "words") else {
+        return Ok(words);
+    };
+    words.extend_from_slice(found)?;
+    Ok(words)
+}
+
+/// What a parse with these words that are no options asks for.
+fn mode_of(matches: &ArgMatches<'_>, words: &[&str]) -> Option<Mode>
+    requires { map (λ w. w.now) words.now ≡ words_in (rows_of (found_of matches.now)) }
     ensures { result ≡ mode_in (rows_of (found_of matches.now)) }
 {
     let svg = flag_of(matches, "svg");
@@ -258,8 +282,19 @@ fn mode_of(matches: &ArgMatches<'_>) -> Option<Mode>
     let mark = flag_of(matches, "mark");
     let close = flag_of(matches, "close");
     let depth = text_of(matches, "depth");
-    let point = text_of(matches, "point");
-    mode_asked(svg, sgf, mark, close, depth, point)
+    mode_asked(svg, sgf, mark, close, depth, named_point(mark, words))
+}
+
+/// The files among these words.
+fn files_of<'a>(mark: bool, words: Vec<&'a str>) -> Vec<&'a str>
+    ensures { map (λ f. f.now) result.items ≡ files_behind_point (named_point mark (map (λ w. w.now) words.entry.items)) (map (λ w. w.now) words.entry.items) }
+{
+    let mut files = words;
+    if named_point(mark, files.as_slice()).is_none() {
+        return files;
+    }
+    files.remove(0);
+    files
 }
 
 /// What is said of an error of the parser: help and version were asked for, or words are refused.
@@ -268,10 +303,7 @@ fn told_of_error(alloc: Global, error: &Error) -> Told
     ensures memory { kind_of error.now ≡ ErrorKind.OutOfMemory → string_bytes result.text ≡ [] }
 {
     if error.kind() == ErrorKind::OutOfMemory {
-        return Told {
-            text: String::new(alloc),
-            status: 2,
-        };
+        return unsaid(alloc);
     }
     let is_asked = error.kind() == ErrorKind::DisplayHelp
         || error.kind() == ErrorKind::DisplayVersion;
@@ -280,10 +312,7 @@ fn told_of_error(alloc: Global, error: &Error) -> Told
             text,
             status: if is_asked { 0 } else { 2 },
         },
-        Err(AllocError) => Told {
-            text: String::new(alloc),
-            status: 2,
-        },
+        Err(AllocError) => unsaid(alloc),
     }
 }
 
@@ -291,22 +320,48 @@ fn told_of_error(alloc: Global, error: &Error) -> Told
 fn told_apart(alloc: Global, matches: &ArgMatches<'_>) -> Told
     ensures { result.status ≡ 2 }
 {
-    let text = match text_of(matches, "point") {
-        Some(word) if point_name_of_word(word.as_bytes()).is_none() => NO_POINT,
-        _ => APART,
+    let text = if flag_of(matches, "close") && !flag_of(matches, "mark") {
+        CLOSE_ALONE
+    } else {
+        APART
     };
     match String::from_str(alloc, text) {
         Ok(text) => Told { text, status: 2 },
-        Err(AllocError) => Told {
-            text: String::new(alloc),
-            status: 2,
-        },
+        Err(AllocError) => unsaid(alloc),
     }
 }
 
+/// What is said where memory was refused: nothing.
+fn unsaid(alloc: Global) -> Told
+    ensures status { result.status ≡ 2 }
+    ensures text { string_bytes result.text ≡ [] }
+{
+    Told {
+        text: String::new(alloc),
+        status: 2,
+    }
+}
+
+/// What a parse asks for; or what is said in its place.
+fn asked_by_matches<'a>(alloc: Global, matches: &ArgMatches<'a>) -> Result<Asked<'a>, Told>
+    ensures asked { IfOk result (λ a. mode_in (rows_of (found_of matches.now)) ≡ Some a.mode) }
+    ensures files { IfOk result (λ a. map (λ f. f.now) a.files.items ≡ files_in (rows_of (found_of matches.now))) }
+    ensures told { IfErr result (λ told. (told.status ≡ 2) × ((string_bytes told.text ≡ []) ⊎ (mode_in (rows_of (found_of matches.now)) ≡ None))) }
+{
+    let Ok(words) = words_of(alloc, matches) else {
+        return Err(unsaid(alloc));
+    };
+    let Some(mode) = mode_of(matches, words.as_slice()) else {
+        return Err(told_apart(alloc, matches));
+    };
+    let files = files_of(flag_of(matches, "mark"), words);
+    Ok(Asked { mode, files })
+}
+
 /// What the words ask for, of which the first is the program's name; or what is said in its place.
-pub fn mode_of_words(alloc: Global, words: &[String]) -> Result<Mode, Told>
-    ensures asked { IfOk result (λ mode. mode_in (matches_of show_app (map string_bytes words.now)) ≡ Some mode) }
+pub fn asked_by_words<'a>(alloc: Global, words: &'a [String]) -> Result<Asked<'a>, Told>
+    ensures asked { IfOk result (λ a. mode_in (matches_of show_app (map string_bytes words.now)) ≡ Some a.mode) }
+    ensures files { IfOk result (λ a. map (λ f. f.now) a.files.items ≡ files_in (matches_of show_app (map string_bytes words.now))) }
     ensures clean { OnOk result (fault_of show_app (map string_bytes words.now) ≡ []) }
     ensures told { IfErr result (λ told. told.status ≡ 0 → IsAmong ErrorKind.DisplayHelp (fault_of show_app (map string_bytes words.now))
         ⊎ IsAmong ErrorKind.DisplayVersion (fault_of show_app (map string_bytes words.now))) }
@@ -314,16 +369,10 @@ pub fn mode_of_words(alloc: Global, words: &[String]) -> Result<Mode, Told>
         → IfErr result (λ told. (string_bytes told.text ≡ []) ⊎ (mode_in (matches_of show_app (map string_bytes words.now)) ≡ None)) }
 {
     let Ok(parser) = parser(alloc) else {
-        return Err(Told {
-            text: String::new(alloc),
-            status: 2,
-        });
+        return Err(unsaid(alloc));
     };
     match parser.try_get_matches_from(words) {
-        Ok(matches) => match mode_of(&matches) {
-            Some(mode) => Ok(mode),
-            None => Err(told_apart(alloc, &matches)),
-        },
+        Ok(matches) => asked_by_matches(alloc, &matches),
         Err(error) => Err(told_of_error(alloc, &error)),
     }
 }

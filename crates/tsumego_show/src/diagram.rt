@@ -5,7 +5,7 @@ ghost use Rattle.tt_sgf.specs.Sizes.{point_count};
 use crate::answers::read_answers;
 use crate::endings::{has_ended, put_ending};
 use crate::main_lines::{main_line, make_turns};
-use crate::picture::{editor_column_letter, point_of_coordinates, side_colour};
+use crate::picture::{editor_column_letter, point_of_coordinates, side_colour, unmarked_frame};
 use crate::windows::{Window, window_of};
 use crate::writing::written;
 use std::alloc::Global;
@@ -32,7 +32,7 @@ struct Numbers<'a> {
 }
 
 /// Whether the region is drawn: it isn't the whole board.
-pub fn has_squares(frame: &Frame) -> bool {
+fn has_squares(frame: &Frame) -> bool {
     usize::from(frame.region.count()) != frame.size.point_count()
 }
 
@@ -336,6 +336,19 @@ fn put_main_line(
         put_ending(words, &at)?;
     }
     Ok(count)
+}
+
+/// Writes the diagram of a board without marks, with these words below, as SVG behind the text.
+pub fn put_unmarked_svg(
+    alloc: Global,
+    out: &mut Vec<u8>,
+    board: &Board,
+    words: &[u8],
+) -> Result<(), NoMemory> {
+    let frame = unmarked_frame(board.size());
+    let mut drawn = Vec::new(alloc);
+    put_bare_board(&mut drawn, &frame, board)?;
+    put_document(out, &frame, drawn.as_slice(), 1, words)
 }
 
 /// Writes the diagram of the problem at a line, and of the strategy that stands behind it, as SVG behind the text: what matters of the

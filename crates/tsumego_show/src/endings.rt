@@ -1,6 +1,6 @@
 //! How a strategy ends.
-use crate::hints::put_editor_point_name;
 use crate::picture::{colour_name, side_colour};
+use crate::points::{PointForm, put_point};
 use crate::writing::written;
 use std::io::Write;
 use tt_game::{Line, Side};
@@ -25,10 +25,10 @@ fn put_life(out: &mut Vec<u8>, line: &Line) -> Result<(), NoMemory> {
     let Some((one, other)) = two_eyes(line) else {
         return written(write!(out, "{defender} is alive: a liberty is outside the region"));
     };
-    written(write!(out, "{defender} is alive: "))?;
-    put_editor_point_name(out, size, usize::from(one.number()))?;
-    out.extend_from_slice(b" and ")?;
-    put_editor_point_name(out, size, usize::from(other.number()))?;
+    written(write!(out, "{defender} is alive:"))?;
+    put_point(out, size, usize::from(one.number()), PointForm::Editor)?;
+    out.extend_from_slice(b" and")?;
+    put_point(out, size, usize::from(other.number()), PointForm::Editor)?;
     Ok(out.extend_from_slice(b" are eyes")?)
 }
 

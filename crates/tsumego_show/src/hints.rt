@@ -1,77 +1,18 @@
 //! Hints on what is likely wrong in a problem.
-ghost use Rattle.std.specs.Prelude.{◌<◌};
-ghost use Rattle.tt_sgf.specs.Sizes.{point_count};
 
-use crate::picture::editor_column_letter;
-use crate::points::point_numbered;
+use crate::points::{point_numbered, put_points_line_if_any};
 use crate::writing::written;
 use std::io::Write;
 use tt_board::{Board, Colour};
-use tt_game::{Line, Turn, has_move, has_value, sets_up};
+use tt_game::{Line, has_move, has_value, sets_up};
 use tt_marks::{adjacent_points, chains, empties, stones_in_danger, stones_of_colour};
-use tt_proof::put_turn;
-use tt_sgf::{NoMemory, Node, Point, PointSet, Size};
+use tt_sgf::{NoMemory, Node, Point, PointSet};
 
 /// The most points of a board that may well be a region as a whole.
 const MOST_SMALL_BOARD_POINTS: usize = 10;
 
 /// So often chains are looked for that hang together with the targets, by way of other chains.
 const MOST_JOINED: usize = 8;
-
-/// Writes the name of a point as editors have it behind the text.
-#[tactic(auto, using(crate::proofs::Sets::row_on_board))]
-pub fn put_editor_point_name(out: &mut Vec<u8>, size: Size, number: usize) -> Result<(), NoMemory>
-    requires { number < point_count size }
-{
-    let columns = usize::from(size.columns());
-    let letter = char::from(editor_column_letter((number % columns) as u16));
-    let row = usize::from(size.rows()) - number / columns;
-    written(write!(out, "{letter}{row}"))
-}
-
-/// Writes both names of a point, as `C18=cb`, behind the text.
-pub fn put_both_point_names(out: &mut Vec<u8>, size: Size, number: usize) -> Result<(), NoMemory>
-    requires { number < point_count size }
-{
-    put_editor_point_name(out, size, number)?;
-    out.push(b'=')?;
-    put_turn(out, Turn::Play(point_numbered(size, number)), size)
-}
-
-/// Writes the names of the points of a set behind the text, row by row, each with a blank in front.
-pub fn put_point_names(out: &mut Vec<u8>, size: Size, points: &PointSet) -> Result<(), NoMemory> {
-    for number in 0..size.point_count() {
-        if points.has(point_numbered(size, number)) {
-            out.push(b' ')?;
-            put_both_point_names(out, size, number)?;
-        }
-    }
-    Ok(())
-}
-
-/// Writes them, and a newline.
-pub fn put_point_names_line(
-    out: &mut Vec<u8>,
-    size: Size,
-    points: &PointSet,
-) -> Result<(), NoMemory> {
-    put_point_names(out, size, points)?;
-    Ok(out.push(b'\n')?)
-}
-
-/// Writes a line of these words and of the points of a set behind the text, where the set has points.
-pub fn put_points_line_if_any(
-    out: &mut Vec<u8>,
-    size: Size,
-    words: &[u8],
-    points: &PointSet,
-) -> Result<(), NoMemory> {
-    if points.count() == 0 {
-        return Ok(());
-    }
-    out.extend_from_slice(words)?;
-    put_point_names_line(out, size, points)
-}
 
 /// The empty points that nobody can fill, beside an empty point of the region or the chain of a target or of one of the defender's
 /// stones in it.

@@ -1,10 +1,10 @@
-//! The program: shows the problems of standard input as they were read.
+//! The program: shows the problems of its files, or of standard input, as they were read.
 //!
 //! | Module | What it has |
 //! |---|---|
 //! | `running` | `run`, which reads an input and writes its text |
 //! | `arguments`, `mode` | the command line, and what it asks for |
-//! | `showing` | the text for an input |
+//! | `showing`, `shown` | the text for an input, and what is said of it beside |
 //! | `picture`, `hints` | the board as text, the hints |
 //! | `refusals` | why a tree is refused, where to look |
 //! | `certificates`, `answers` | what stands behind a problem, and its words |
@@ -12,6 +12,7 @@
 //! | `variations`, `depths` | the answer and its strategies as an SGF tree, the depth at which they are cut |
 //! | `diagram`, `windows` | the diagram (SVG), and the points it shows |
 //! | `marking`, `unmarked` | `--mark`: the tree with marks, and with stones that close the wall; why a tree has none, and how its wall may be closed |
+//! | `reading_back` | sees that the game trees which are written read as the problems that are meant |
 //! | `tree_bytes`, `points`, `writing` | the bytes of a tree, points by number, writing to memory |
 //! | `laws` | an input has one status, unless marks are wanted |
 #![tactic(auto)]
@@ -29,37 +30,39 @@ mod marking;
 mod mode;
 mod picture;
 mod points;
+mod reading_back;
 mod refusals;
 mod running;
 mod showing;
+mod shown;
 mod tree_bytes;
 mod unmarked;
 mod variations;
 mod windows;
 mod writing;
 
-use arguments::{Told, mode_of_words};
-use devices::Watched;
-use mode::Mode;
-use running::run;
-use std::env;
-use std::io::IsTerminal;
+use arguments::{Told, asked_by_words};
+use devices::{RunFault, Watched, read_input};
+use mode::{Asked, Mode};
+use running::{MOST_READ, run, write_text_for_input};
+use std::alloc::AllocError;
+use std::fs::File;
+use std::io::{IsTerminal, Write};
 use std::process::ExitCode;
+use std::{env, io};
+
+/// What is said where the input comes from a terminal.
+const READS_TERMINAL: &str =
+    "tsumego-show: reading from the terminal until Ctrl-D; to read a file: tsumego-show FILE";
 
 /// The program's name and the words behind it, where they are text and memory for them wasn't refused.
 fn command_line_words(rt: &HostRuntime) -> Option<Vec<String>> {
-    env::args(rt).ok()?.collect(rt.alloc()).ok()
-}
-
-/// What the words ask for, or what is said in its place.
-fn mode_asked(rt: &HostRuntime) -> Result<Mode, Told> {
-    match command_line_words(rt) {
-        Some(words) => mode_of_words(rt.alloc(), words.as_slice()),
-        None => Err(Told {
-            text: String::new(rt.alloc()),
-            status: 2,
-        }),
+    let mut words: Vec<String> = env::args(rt).ok()?.collect(rt.alloc()).ok()?;
+    let name = String::from_str(rt.alloc(), "tsumego-show").ok()?;
+    if !words.is_empty() {
+        words[0] = name;
     }
+    Some(words)
 }
 
 /// Says what is said in place of a text, and answers the status: help and version on standard output.
@@ -79,28 +82,96 @@ fn tell(rt: &HostRuntime, told: &Told) -> u8 {
     told.status
 }
 
-/// Says that trees were left without marks, where nobody reads the reasons: they went to a file or to a program.
-fn tell_unmarked(rt: &HostRuntime, mode: Mode, status: u8) {
-    if status == 1 && matches!(mode, Mode::Marks(_)) && !rt.stdout().is_terminal() {
-        let _ = eprintln!(rt; "tsumego-show: not all trees were marked: the output says why");
+/// Says why a file wasn't read.
+fn tell_unread(rt: &HostRuntime, mode: Mode, file: &str, error: &io::Error) {
+    let _ = eprintln!(rt; "tsumego-show: {file}: {error}");
+    if matches!(mode, Mode::Marks(_)) {
+        let _ = rt.eprintln(
+            "  tip: a point is written as C18 (columns without I, rows 1 to 19) or cb, in front of the files",
+        );
     }
 }
 
-fn main(rt: HostRuntime) -> ExitCode {
-    let mode = match mode_asked(&rt) {
-        Ok(mode) => mode,
-        Err(told) => return ExitCode::from(tell(&rt, &told)),
+/// Reads a file, up to as many bytes as tell that it is too long, and adds its bytes.
+fn read_file(rt: &HostRuntime, file: &str, bytes: &mut Vec<u8>) -> Result<(), io::Error> {
+    let opened: File = File::open(rt, file)?;
+    let mut reader = Watched::new(opened);
+    let more = match read_input(rt.alloc(), &mut reader, MOST_READ) {
+        Ok(more) => more,
+        Err(RunFault::Memory) => return Err(io::Error::from(io::ErrorKind::OutOfMemory)),
+        Err(_) => return Err(io::Error::from(io::ErrorKind::Other)),
     };
-    let mut reader = Watched::new(rt.stdin());
-    let mut writer = Watched::new(rt.stdout());
-    match run(rt.alloc(), mode, &mut reader, &mut writer) {
+    match bytes.extend_from_slice(more.as_slice()) {
+        Ok(()) => Ok(()),
+        Err(AllocError) => Err(io::Error::from(io::ErrorKind::OutOfMemory)),
+    }
+}
+
+/// The bytes of the files, one behind the other; none where one wasn't read, which is said.
+fn bytes_of_files(rt: &HostRuntime, asked: &Asked) -> Option<Vec<u8>> {
+    let mut bytes = Vec::new(rt.alloc());
+    for file in asked.files.as_slice() {
+        if let Err(error) = read_file(rt, file, &mut bytes) {
+            tell_unread(rt, asked.mode, file, &error);
+            return None;
+        }
+    }
+    Some(bytes)
+}
+
+/// Says what is to be said besides a text, or why there is none, and answers the status.
+fn end(rt: &HostRuntime, ran: Result<u8, RunFault>, said: &[u8]) -> u8 {
+    match ran {
         Ok(status) => {
-            tell_unmarked(&rt, mode, status);
-            ExitCode::from(status)
+            let _ = rt.stderr().write_all(said);
+            status
+        }
+        Err(RunFault::Memory) if !said.is_empty() => {
+            let _ = rt.stderr().write_all(said);
+            2
         }
         Err(fault) => {
             let _ = eprintln!(rt; "tsumego-show: {fault}");
-            ExitCode::from(2)
+            2
         }
     }
+}
+
+/// Writes what is asked for on standard output, and what else is to be said on standard error. Answers the status.
+fn show_asked(rt: &HostRuntime, asked: &Asked) -> u8 {
+    let mut writer = Watched::new(rt.stdout());
+    let mut said = Vec::new(rt.alloc());
+    if !asked.files.is_empty() {
+        let Some(bytes) = bytes_of_files(rt, asked) else {
+            return 2;
+        };
+        let ran = write_text_for_input(
+            rt.alloc(),
+            asked.mode,
+            bytes.as_slice(),
+            &mut writer,
+            &mut said,
+        );
+        return end(rt, ran, said.as_slice());
+    }
+    if rt.stdin().is_terminal() {
+        let _ = rt.eprintln(READS_TERMINAL);
+    }
+    let mut reader = Watched::new(rt.stdin());
+    let ran = run(rt.alloc(), asked.mode, &mut reader, &mut writer, &mut said);
+    end(rt, ran, said.as_slice())
+}
+
+fn main(rt: HostRuntime) -> ExitCode {
+    let status = match command_line_words(&rt) {
+        Some(words) => match asked_by_words(rt.alloc(), words.as_slice()) {
+            Ok(asked) => show_asked(&rt, &asked),
+            Err(told) => tell(&rt, &told),
+        },
+        None => {
+            let _ = rt.eprintln("");
+            2
+        }
+    };
+    ExitCode::from(status)
 }

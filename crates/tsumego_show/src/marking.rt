@@ -1,27 +1,28 @@
 //! Writes problems with the marks that are proposed for them.
-ghost use Rattle.std.specs.Prelude.{◌<◌, IfOk, IfSome};
+ghost use Rattle.std.specs.Prelude.{◌≡◌, ◌<◌, IfOk, IfSome};
+ghost use Rattle.std.specs.FinSet as set;
 ghost use Rattle.tt_sgf.specs.Sizes.{point_count};
+ghost use Rattle.tt_game.specs.Problems.{posed_problem};
+ghost use Rattle.tsumego_show.specs.Written.{IsMarkOf};
 
-use crate::hints::{
-    put_editor_point_name, put_hints, put_missing_mover_line, put_points_line_if_any,
-    put_unclosed_comment_lines,
-};
+use crate::hints::{put_hints, put_missing_mover_line, put_unclosed_comment_lines};
 use crate::mode::WantedMarks;
 use crate::picture::colour_name;
-use crate::points::{point_numbered, point_of_name};
+use crate::points::{PointForm, point_numbered, point_of_name, put_points, put_points_line_if_any};
+use crate::reading_back::{check_problem, check_setup};
 use crate::refusals::{put_refusal_and_why, put_refusal_line};
+use crate::shown::{ShowFault, Shown};
 use crate::tree_bytes::{from_first_parenthesis, node_end, put_tree_as_given, semicolon_end};
 use crate::unmarked::{
-    put_wall_in_danger_line, put_way, put_ways, put_why_no_group_enclosed,
-    put_why_unmarked_at_point,
+    put_wall_in_danger_line, put_ways, put_why_no_group_enclosed, put_why_unmarked_at_point,
 };
-use crate::variations::{colour_letter, put_marks, put_points_property};
+use crate::variations::colour_letter;
 use crate::writing::written;
 use std::alloc::Global;
 use std::io::Write;
 use tt_board::{Board, Colour};
 use tt_game::{Game, GameFault, Line, game_before_solution, has_value, node_count_before_solution};
-use tt_marks::{Closing, closings, group, is_inner, proposed_stone, region};
+use tt_marks::{Closing, board_with_stones, closings, group, is_inner, proposed_stone, region};
 use tt_sgf::{MainLine, NoMemory, Node, Point, PointSet, Size};
 
 /// A group that gets marks: one of its stones, its colour and the squares.
@@ -32,21 +33,33 @@ struct MarkedGroup {
     squares: PointSet,
 }
 
-/// The group of the stone on a point, where its region is closed and, where nobody named the stone, an inner one.
-fn enclosed_group(board: &Board, is_named: bool, stone: Point) -> Option<MarkedGroup>
+/// The group of the stone on a point, where its region is closed.
+fn closed_group(board: &Board, stone: Point) -> Option<MarkedGroup>
     requires { stone < point_count board.now.size }
-    ensures { IfSome result (λ m. m.stone < point_count board.now.size) }
+    ensures { IfSome result (λ m. (m.stone < point_count board.now.size) × IsMarkOf board.now.size board.now.points m.stone m.colour m.squares) }
 {
     let colour = board.at(stone)?;
     let found = region(board, colour, stone);
-    if found.is_closed() && (is_named || is_inner(board, &found.points)) {
-        return Some(MarkedGroup {
-            stone,
-            colour,
-            squares: found.points,
-        });
+    if !found.is_closed() {
+        return None;
     }
-    None
+    Some(MarkedGroup {
+        stone,
+        colour,
+        squares: found.points,
+    })
+}
+
+/// The group of the stone on a point, where its region is closed and, where nobody named the stone, an inner one.
+fn enclosed_group(board: &Board, is_named: bool, stone: Point) -> Option<MarkedGroup>
+    requires { stone < point_count board.now.size }
+    ensures { IfSome result (λ m. (m.stone < point_count board.now.size) × IsMarkOf board.now.size board.now.points m.stone m.colour m.squares) }
+{
+    let marked = closed_group(board, stone)?;
+    if !is_named && !is_inner(board, &marked.squares) {
+        return None;
+    }
+    Some(marked)
 }
 
 /// The first stones of the enclosed chains that are neither that of a mark nor in its squares.
@@ -71,6 +84,24 @@ fn other_enclosed_chains(board: &Board, marked: &MarkedGroup) -> PointSet
     made
 }
 
+/// Writes the property of this name with the points of a set behind the text.
+fn put_points_property(
+    out: &mut Vec<u8>,
+    size: Size,
+    name: &str,
+    points: &PointSet,
+) -> Result<(), NoMemory> {
+    out.extend_from_slice(name.as_bytes())?;
+    put_points(out, size, points, PointForm::Value)
+}
+
+/// Writes TR and SQ of a problem behind the text.
+fn put_marks(out: &mut Vec<u8>, line: &Line) -> Result<(), NoMemory> {
+    let frame = line.frame();
+    put_points_property(out, frame.size, "TR", &frame.targets)?;
+    put_points_property(out, frame.size, "SQ", &frame.region)
+}
+
 /// Writes a tree with the marks of a problem at the head of the node of this number behind the text.
 fn put_tree_with_marks(
     out: &mut Vec<u8>,
@@ -85,26 +116,9 @@ fn put_tree_with_marks(
     Ok(out.push(b'\n')?)
 }
 
-/// Writes a comment that names the stones of this colour that were added behind the text.
-fn put_comment_on_added(
-    out: &mut Vec<u8>,
-    size: Size,
-    colour: Colour,
-    added: &PointSet,
-) -> Result<(), NoMemory> {
-    let name = colour_name(colour);
-    written(write!(out, "C[{name} stones added to close the wall:"))?;
-    for number in 0..size.point_count() {
-        if added.has(point_numbered(size, number)) {
-            out.push(b' ')?;
-            put_editor_point_name(out, size, number)?;
-        }
-    }
-    Ok(out.push(b']')?)
-}
-
-/// Writes a tree behind the text, with a node behind that of this number that adds stones of the attacker, and has the side to move and
-/// the marks of a problem. It is a node of its own, so that the given position stays, and no setup stands beside a move.
+/// Writes a tree behind the text, with a node behind that of this number that adds stones of the attacker, and has the side to move,
+/// the marks of a problem, and a comment that names the stones. It is a node of its own, so that the given position stays, and no setup
+/// stands beside a move.
 fn put_tree_with_stones(
     out: &mut Vec<u8>,
     line: &Line,
@@ -125,7 +139,10 @@ fn put_tree_with_stones(
     let letter = colour_letter(mover);
     written(write!(out, "PL[{letter}]"))?;
     put_marks(out, line)?;
-    put_comment_on_added(out, size, colour, added)?;
+    let name = colour_name(colour);
+    written(write!(out, "C[{name} stones added to close the wall:"))?;
+    put_points(out, size, added, PointForm::Editor)?;
+    out.push(b']')?;
     out.extend_from_slice(&tree[at..])?;
     Ok(out.push(b'\n')?)
 }
@@ -157,59 +174,74 @@ fn is_last_problem_node_squared(nodes: &[Node]) -> bool {
 #[tactic(auto, using(crate::proofs::Sets::one_counts, crate::proofs::Sets::one_lies))]
 fn problem_of_group(game: Game, marked: MarkedGroup) -> Result<Line, NoMemory>
     requires { marked.stone < point_count game.size }
+    ensures { IfOk result (λ l. l ≡ posed_problem game marked.squares (set.insert set.empty marked.stone) marked.colour) }
 {
     let targets = PointSet::empty().with(marked.stone);
     game.into_problem(marked.squares, targets, marked.colour)
 }
 
-/// Writes the hints on a game with a mark, and its tree with the mark in the node of this number, behind the text.
+/// Writes the hints on a game with a mark, and its tree with the mark in the node of this number.
 fn put_enclosed_group(
+    alloc: Global,
     out: &mut Vec<u8>,
+    hints: &mut Vec<u8>,
     game: Game,
     marked: MarkedGroup,
     is_named: bool,
     number: usize,
     tree: &[u8],
-) -> Result<(), NoMemory>
+) -> Result<(), ShowFault>
     requires { marked.stone < point_count game.size }
 {
     if !is_named {
         put_points_line_if_any(
-            out,
+            hints,
             game.size(),
             b"hint: other groups are enclosed too: name a stone of the one that is meant:",
             &other_enclosed_chains(game.present(), &marked),
         )?;
     }
     let line = problem_of_group(game, marked)?;
-    put_hints(out, &line)?;
-    put_tree_with_marks(out, &line, number, tree)
+    put_hints(hints, &line)?;
+    put_tree_with_marks(out, &line, number, tree)?;
+    check_problem(alloc, out.as_slice(), &line)
 }
 
-/// Writes which stones close the wall around the group of a stone of this colour, and the other ways, the best first, and a tree with the
-/// stones and the mark behind the node of this number, behind the text.
+/// Writes which stones close the wall around a group, and the other ways, the best first.
+fn put_closing_hint(
+    hints: &mut Vec<u8>,
+    board: &Board,
+    colour: Colour,
+    best: &Closing,
+    others: &[Closing],
+) -> Result<(), NoMemory> {
+    let name = colour_name(colour.other());
+    written(write!(hints, "hint: {name} stones added to close the wall:"))?;
+    put_points(hints, board.size(), &best.stones, PointForm::Both)?;
+    if others.is_empty() {
+        return Ok(hints.push(b'\n')?);
+    }
+    hints.extend_from_slice(b"; other ways, the best first:")?;
+    put_ways(hints, board.size(), others, b",")
+}
+
+/// Writes a tree with the stones that close the wall around the group of a stone of this colour, and the mark, behind the node of this
+/// number.
 fn put_closed_group(
+    alloc: Global,
     out: &mut Vec<u8>,
     game: Game,
     stone: Point,
     colour: Colour,
     best: &Closing,
-    others: &[Closing],
     number: usize,
     tree: &[u8],
-) -> Result<(), NoMemory>
+) -> Result<(), ShowFault>
     requires { stone < point_count game.size }
 {
-    let size = game.size();
-    let name = colour_name(colour.other());
-    written(write!(out, "hint: {name} stones added to close the wall:"))?;
-    put_way(out, size, best)?;
-    if others.is_empty() {
-        out.push(b'\n')?;
-    } else {
-        out.extend_from_slice(b"; other ways, the best first:")?;
-        put_ways(out, size, others, b",")?;
-    }
+    let Some(board) = board_with_stones(game.present(), colour.other(), &best.stones) else {
+        return Err(ShowFault::OtherProblem);
+    };
     let mover = game.to_move();
     let marked = MarkedGroup {
         stone,
@@ -217,7 +249,8 @@ fn put_closed_group(
         squares: best.region.copy(),
     };
     let line = problem_of_group(game, marked)?;
-    put_tree_with_stones(out, &line, &best.stones, mover, number, tree)
+    put_tree_with_stones(out, &line, &best.stones, mover, number, tree)?;
+    check_setup(alloc, out.as_slice(), line.frame(), &board, line.to_move())
 }
 
 /// The stone in a place where the board has it, or a stone of the group that seems to be meant.
@@ -230,10 +263,10 @@ fn stone_meant(alloc: Global, board: &Board, wanted: WantedMarks) -> Result<Opti
     }
 }
 
-/// Writes that a tree has no marks, why for a stone, and the tree as it was, behind the text.
+/// Writes that a tree has no marks, why for a stone, and the tree as it was.
 fn put_reason(
     alloc: Global,
-    out: &mut Vec<u8>,
+    shown: &mut Shown,
     board: &Board,
     stone: &Option<Point>,
     is_named: bool,
@@ -242,29 +275,30 @@ fn put_reason(
 ) -> Result<(), NoMemory>
     requires { IfSome stone.now (λ p. p < point_count board.now.size) }
 {
-    put_wall_in_danger_line(out, board, stone)?;
-    put_refusal_line(out, number, GameFault::NoTarget.code())?;
-    out.extend_from_slice(b"why: ")?;
+    put_refusal_line(&mut shown.said, number, GameFault::NoTarget.code())?;
+    shown.said.extend_from_slice(b"why: ")?;
     if is_named {
-        put_why_unmarked_at_point(alloc, out, board, stone)?;
+        put_why_unmarked_at_point(alloc, &mut shown.said, board, stone)?;
     } else {
-        put_why_no_group_enclosed(alloc, out, board, stone)?;
+        put_why_no_group_enclosed(alloc, &mut shown.said, board, stone)?;
     }
-    put_tree_as_given(out, tree)
+    put_wall_in_danger_line(&mut shown.said, board, stone)?;
+    put_tree_as_given(&mut shown.text, tree)
 }
 
-/// Writes a tree whose group isn't enclosed with the stones that close its wall behind the text, where they are wanted and were found; or
-/// why it has no marks. Says whether it has none.
+/// Writes a tree whose group isn't enclosed with the stones that close its wall, where they are wanted and were found; or why it has no
+/// marks. Says whether it has none.
 fn put_open_group(
     alloc: Global,
-    out: &mut Vec<u8>,
+    shown: &mut Shown,
+    hints: &mut Vec<u8>,
     wanted: WantedMarks,
     number: usize,
     game: Game,
     stone: Option<Point>,
     place: usize,
     tree: &[u8],
-) -> Result<bool, NoMemory>
+) -> Result<bool, ShowFault>
     requires { IfSome stone (λ p. p < point_count game.size) }
 {
     if wanted.closes {
@@ -272,33 +306,44 @@ fn put_open_group(
             if let Some(colour) = game.present().at(point) {
                 let ways = closings(alloc, game.present(), colour, point)?;
                 if let Some((best, others)) = ways.as_slice().split_first() {
-                    put_closed_group(out, game, point, colour, best, others, place, tree)?;
+                    put_closing_hint(hints, game.present(), colour, best, others)?;
+                    put_closed_group(
+                        alloc,
+                        &mut shown.text,
+                        game,
+                        point,
+                        colour,
+                        best,
+                        place,
+                        tree,
+                    )?;
                     return Ok(false);
                 }
             }
         }
     }
     let is_named = wanted.name.is_some();
-    put_reason(alloc, out, game.present(), &stone, is_named, number, tree)?;
+    put_reason(alloc, shown, game.present(), &stone, is_named, number, tree)?;
     Ok(true)
 }
 
-/// Writes a tree with the mark for a stone of its game behind the text, or why there is none, and says whether there is none.
+/// Writes a tree with the mark for a stone of its game, or why there is none, and says whether there is none.
 fn put_proposal_or_reason(
     alloc: Global,
-    out: &mut Vec<u8>,
+    shown: &mut Shown,
+    hints: &mut Vec<u8>,
     wanted: WantedMarks,
     number: usize,
     nodes: &[Node],
     tree: &[u8],
     game: Game,
-) -> Result<bool, NoMemory> {
+) -> Result<bool, ShowFault> {
     if is_last_problem_node_squared(nodes) {
-        put_refusal_line(out, number, GameFault::NoTarget.code())?;
-        out.extend_from_slice(
+        put_refusal_line(&mut shown.said, number, GameFault::NoTarget.code())?;
+        shown.said.extend_from_slice(
             b"why: squares stand there already: put a triangle on a stone of the group, or take SQ out\n",
         )?;
-        put_tree_as_given(out, tree)?;
+        put_tree_as_given(&mut shown.text, tree)?;
         return Ok(true);
     }
     let place = node_count_before_solution(nodes);
@@ -310,49 +355,69 @@ fn put_proposal_or_reason(
         None => None,
     };
     if let Some(marked) = marked {
-        put_enclosed_group(out, game, marked, is_named, place, tree)?;
+        put_enclosed_group(
+            alloc,
+            &mut shown.text,
+            hints,
+            game,
+            marked,
+            is_named,
+            place,
+            tree,
+        )?;
         return Ok(false);
     }
-    put_open_group(alloc, out, wanted, number, game, stone, place, tree)
+    put_open_group(
+        alloc, shown, hints, wanted, number, game, stone, place, tree,
+    )
 }
 
-/// Writes why a main line is refused, and its tree as it was, behind the text.
-fn put_refusal_and_tree(
-    out: &mut Vec<u8>,
+/// Writes a tree with the mark for a stone of its game, or why there is none, and the hints; says whether there is none.
+fn put_game_marked_or_kept(
+    alloc: Global,
+    shown: &mut Shown,
+    wanted: WantedMarks,
     number: usize,
     nodes: &[Node],
     tree: &[u8],
-    fault: &GameFault,
-) -> Result<(), NoMemory> {
-    put_refusal_and_why(out, number, nodes, fault)?;
-    put_tree_as_given(out, tree)
+    game: Game,
+) -> Result<bool, ShowFault> {
+    let mut hints = Vec::new(alloc);
+    put_missing_mover_line(&mut hints, nodes_before_solution(nodes))?;
+    put_unclosed_comment_lines(&mut hints, nodes)?;
+    let refused = put_proposal_or_reason(
+        alloc, shown, &mut hints, wanted, number, nodes, tree, game,
+    )?;
+    if !refused && !hints.is_empty() {
+        written(writeln!(shown.said, "{number} marked"))?;
+    }
+    shown.said.extend_from_slice(hints.as_slice())?;
+    Ok(refused)
 }
 
-/// Writes a tree whose main line is no problem, by this fault, with the mark for a stone behind the text, or why there is none, and
-/// says whether it is left without a proposal.
+/// Writes a tree whose main line is no problem, by this fault, with the mark for a stone, or why there is none, and says whether it is
+/// left without a proposal.
 pub fn put_tree_marked_or_kept(
     alloc: Global,
-    out: &mut Vec<u8>,
+    shown: &mut Shown,
     wanted: WantedMarks,
     number: usize,
     main: &MainLine,
     tree: &[u8],
     fault: &GameFault,
-) -> Result<bool, NoMemory> {
+) -> Result<bool, ShowFault> {
     let nodes = main.nodes.as_slice();
     if has_triangles(nodes) {
-        put_refusal_and_tree(out, number, nodes, tree, fault)?;
+        put_refusal_and_why(&mut shown.said, number, nodes, fault)?;
+        put_tree_as_given(&mut shown.text, tree)?;
         return Ok(true);
     }
     match game_before_solution(alloc, main) {
-        Ok(game) => {
-            put_missing_mover_line(out, nodes_before_solution(nodes))?;
-            put_unclosed_comment_lines(out, nodes)?;
-            put_proposal_or_reason(alloc, out, wanted, number, nodes, tree, game)
-        }
-        Err(GameFault::NoMemory) => Err(NoMemory),
+        Ok(game) => put_game_marked_or_kept(alloc, shown, wanted, number, nodes, tree, game),
+        Err(GameFault::NoMemory) => Err(ShowFault::NoMemory),
         Err(fault) => {
-            put_refusal_and_tree(out, number, nodes, tree, &fault)?;
+            put_refusal_and_why(&mut shown.said, number, nodes, &fault)?;
+            put_tree_as_given(&mut shown.text, tree)?;
             Ok(true)
         }
     }
@@ -371,22 +436,25 @@ pub fn unsquared_triangle_node(nodes: &[Node]) -> Option<usize> {
     None
 }
 
-/// Writes the line on the marks of a tree that is a problem, and the tree as it was, behind the text.
+/// Writes the line on the marks of a tree that is a problem, and the tree as it was.
 pub fn put_kept_problem(
-    out: &mut Vec<u8>,
+    alloc: Global,
+    shown: &mut Shown,
     number: usize,
     nodes: &[Node],
+    line: &Line,
     tree: &[u8],
-) -> Result<(), NoMemory> {
+) -> Result<(), ShowFault> {
     match unsquared_triangle_node(nodes) {
         Some(node) => written(writeln!(
-            out,
+            shown.said,
             "{number} not marked: a triangle stands in node {node}, without squares: put SQ there, or take TR out"
         ))?,
         None => written(writeln!(
-            out,
+            shown.said,
             "{number} keeps its marks: take TR and SQ out to have others proposed"
         ))?,
     }
-    put_tree_as_given(out, tree)
+    put_tree_as_given(&mut shown.text, tree)?;
+    check_problem(alloc, shown.text.as_slice(), line)
 }

@@ -10,6 +10,13 @@ pub enum Mode {
     Marks(WantedMarks),
 }
 
+/// What the command line asks for: what is written, and the files that are read; without one standard input is.
+#[derive(Drop)]
+pub struct Asked<'a> {
+    pub mode: Mode,
+    pub files: Vec<&'a str>,
+}
+
 /// Which marks are wanted: for the stone in a place or for any, and whether stones may be added that close its wall.
 #[derive(Clone, Copy)]
 pub struct WantedMarks {

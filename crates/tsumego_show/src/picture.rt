@@ -93,15 +93,14 @@ pub fn put_board(out: &mut Vec<u8>, frame: &Frame, board: &Board) -> Result<(), 
     put_column_letters(out, board.size(), true)
 }
 
-/// Writes a board without marks behind the text.
-pub fn put_unmarked_board(out: &mut Vec<u8>, board: &Board) -> Result<(), NoMemory> {
-    let frame = Frame {
-        size: board.size(),
+/// The frame of a board without marks.
+pub fn unmarked_frame(size: Size) -> Frame {
+    Frame {
+        size,
         region: PointSet::empty(),
         targets: PointSet::empty(),
         defender: Colour::Black,
-    };
-    put_board(out, &frame, board)
+    }
 }
 
 /// The name of a colour.
@@ -121,7 +120,7 @@ pub fn side_colour(line: &Line, side: Side) -> Colour {
 }
 
 /// Writes how many positions came before the present one, where any did, behind the text.
-pub fn put_earlier_position_count(out: &mut Vec<u8>, line: &Line) -> Result<(), NoMemory> {
+fn put_earlier_position_count(out: &mut Vec<u8>, line: &Line) -> Result<(), NoMemory> {
     match line.history().len().saturating_sub(1) {
         0 => Ok(()),
         1 => Ok(out.extend_from_slice(b", after 1 earlier position")?),

@@ -1,10 +1,22 @@
-//! Points by their numbers.
+//! Points by their numbers, and their names.
 ghost use Rattle.std.specs.Prelude.{◌≡◌, ◌<◌, IfSome};
 ghost use Rattle.tt_sgf.specs.Sizes.{point_count};
 
 use crate::mode::PointName;
-use crate::picture::point_of_coordinates;
-use tt_sgf::{Point, Size};
+use crate::picture::{editor_column_letter, point_of_coordinates};
+use crate::writing::written;
+use std::io::Write;
+use tt_game::Turn;
+use tt_proof::put_turn;
+use tt_sgf::{NoMemory, Point, PointSet, Size};
+
+/// How points are written: as editors name them, by both names, as `C18=cb`, each with a blank in front; or as values of SGF.
+#[derive(Clone, Copy, PartialEq, Eq)]
+pub enum PointForm {
+    Editor,
+    Both,
+    Value,
+}
 
 /// The point of this number.
 pub fn point_numbered(size: Size, number: usize) -> Point
@@ -32,4 +44,61 @@ pub fn point_of_name(size: Size, name: PointName) -> Option<Point>
         return Some(point_of_coordinates(size, column as u16, row as u16));
     }
     None
+}
+
+/// Writes a point behind the text.
+#[tactic(auto, using(crate::proofs::Sets::row_on_board))]
+pub fn put_point(
+    out: &mut Vec<u8>,
+    size: Size,
+    number: usize,
+    form: PointForm,
+) -> Result<(), NoMemory>
+    requires { number < point_count size }
+{
+    let turn = Turn::Play(point_numbered(size, number));
+    if form == PointForm::Value {
+        out.push(b'[')?;
+        put_turn(out, turn, size)?;
+        return Ok(out.push(b']')?);
+    }
+    let columns = usize::from(size.columns());
+    let letter = char::from(editor_column_letter((number % columns) as u16));
+    let row = usize::from(size.rows()) - number / columns;
+    written(write!(out, " {letter}{row}"))?;
+    if form == PointForm::Both {
+        out.push(b'=')?;
+        put_turn(out, turn, size)?;
+    }
+    Ok(())
+}
+
+/// Writes the points of a set behind the text, row by row.
+pub fn put_points(
+    out: &mut Vec<u8>,
+    size: Size,
+    points: &PointSet,
+    form: PointForm,
+) -> Result<(), NoMemory> {
+    for number in 0..size.point_count() {
+        if points.has(point_numbered(size, number)) {
+            put_point(out, size, number, form)?;
+        }
+    }
+    Ok(())
+}
+
+/// Writes a line of these words and of the points of a set, by both names, behind the text, where the set has points.
+pub fn put_points_line_if_any(
+    out: &mut Vec<u8>,
+    size: Size,
+    words: &[u8],
+    points: &PointSet,
+) -> Result<(), NoMemory> {
+    if points.count() == 0 {
+        return Ok(());
+    }
+    out.extend_from_slice(words)?;
+    put_points(out, size, points, PointForm::Both)?;
+    Ok(out.push(b'\n')?)
 }

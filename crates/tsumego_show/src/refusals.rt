@@ -1,7 +1,8 @@
 //! What is written where something is refused.
 ghost use Rattle.std.specs.Prelude.{◌≤◌, length};
 
-use crate::hints::{put_points_line_if_any, put_unclosed_comment_lines};
+use crate::hints::put_unclosed_comment_lines;
+use crate::points::put_points_line_if_any;
 use crate::tree_bytes::from_first_parenthesis;
 use crate::writing::written;
 use std::io::Write;
@@ -66,17 +67,12 @@ fn put_why_refused(out: &mut Vec<u8>, nodes: &[Node], fault: &GameFault) -> Resu
         written(write!(out, "node {number}: "))?;
     }
     out.extend_from_slice(fault.reason())?;
-    if is_no_target_fault(fault) {
+    if matches!(fault, GameFault::NoTarget) {
         out.extend_from_slice(b", or let --mark do so\n")?;
         return put_unclosed_comment_lines(out, nodes);
     }
     out.push(b'\n')?;
     put_look_at_line(out, nodes, fault)
-}
-
-/// Whether no node has TR.
-pub fn is_no_target_fault(fault: &GameFault) -> bool {
-    matches!(fault, GameFault::NoTarget)
 }
 
 /// Writes that the main line of these nodes is refused, at which node and why, how to go on and what to look at, behind the text.

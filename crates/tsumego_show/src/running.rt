@@ -1,33 +1,65 @@
 //! Reads an input and writes its text.
-ghost use Rattle.std.specs.Prelude.{◌≡◌, false};
+ghost use Rattle.std.specs.Prelude.{◌≡◌, IfOk, false};
 ghost use Rattle.devices.specs.Faults.{is_input_fault, is_output_fault};
 ghost use Rattle.devices.specs.Watching.{TakesAtMost};
 ghost use Rattle.devices.specs.Writing.{HoldsForInput};
+ghost use Rattle.tsumego_show.specs.Shown.{HasStatus};
 ghost use Rattle.tsumego_show.specs.Writing.{WritesShown};
 
 use crate::mode::Mode;
 use crate::showing::show;
+use crate::shown::ShowFault;
 use devices::{RunFault, Watched, read_input, write_bytes};
 use std::alloc::Global;
 use std::io::{Read, Write};
 use tt_sgf::MAX_BYTES;
 
 /// One byte more than the longest input whose trees are read.
-const MOST_READ: usize = MAX_BYTES + 1;
+pub const MOST_READ: usize = MAX_BYTES + 1;
 
-/// Writes the text for an input, and answers its exit status.
-fn write_text_for_input<W: Write>(
+/// What is said where a game tree would read as another problem.
+const OTHER_PROBLEM: &[u8] =
+    b"tsumego-show: a game tree would read as another problem once it is written, so nothing was: please tell those who made this program\n";
+
+/// The text for an input, and its exit status; `said` gets what is said beside. Where a game tree would read as another problem there is
+/// no text, as for want of memory.
+fn text_and_status(
+    alloc: Global,
+    mode: Mode,
+    input: &[u8],
+    said: &mut Vec<u8>,
+) -> Result<(Vec<u8>, u8), RunFault>
+    ensures { IfOk result (λ r. HasStatus mode input.now r.1) }
+{
+    match show(alloc, mode, input) {
+        Ok(shown) => {
+            let status = shown.status();
+            *said = shown.said;
+            Ok((shown.text, status))
+        }
+        Err(ShowFault::NoMemory) => Err(RunFault::Memory),
+        Err(ShowFault::OtherProblem) => {
+            let _ = said.extend_from_slice(OTHER_PROBLEM);
+            Err(RunFault::Memory)
+        }
+    }
+}
+
+/// Writes the text for an input, and answers its exit status; `said` gets what is said beside. Nothing is written, as for want of memory,
+/// where a game tree would read as another problem.
+pub fn write_text_for_input<W: Write>(
     alloc: Global,
     mode: Mode,
     input: &[u8],
     writer: &mut Watched<W>,
+    said: &mut Vec<u8>,
 ) -> Result<u8, RunFault>
     requires { writer.old.failed ≡ false }
     ensures written { WritesShown mode input.now result (W.contents writer.old.device) (W.contents writer.new.device) }
     ensures reading { is_input_fault result ≡ false }
     ensures failed { writer.new.failed ≡ is_output_fault result }
 {
-    let Ok((text, status)) = show(alloc, mode, input) else {
+    let Ok((text, status)) = text_and_status(alloc, mode, input, said) else {
         return Err(RunFault::Memory);
     };
     match write_bytes(writer, text.as_slice()) {
@@ -47,6 +79,7 @@ pub fn run<R: Read, W: Write>(
     mode: Mode,
     reader: &mut Watched<R>,
     writer: &mut Watched<W>,
+    said: &mut Vec<u8>,
 ) -> Result<u8, RunFault>
     requires reader { reader.old.failed ≡ false }
     requires writer { writer.old.failed ≡ false }
@@ -57,7 +90,7 @@ pub fn run<R: Read, W: Write>(
     ensures output { writer.new.failed ≡ is_output_fault result }
 {
     match read_input(alloc, reader, MOST_READ) {
-        Ok(input) => write_text_for_input(alloc, mode, input.as_slice(), writer),
+        Ok(input) => write_text_for_input(alloc, mode, input.as_slice(), writer, said),
         Err(fault) => Err(fault),
     }
 }

@@ -1,22 +1,24 @@
 //! The text for an input.
-ghost use Rattle.std.specs.Prelude.{◌≡◌, ◌↔◌, ℕ, IsTrue, List, Err, IfOk, Ok, if◌then◌else◌};
+ghost use Rattle.std.specs.Prelude.{◌≡◌, ◌↔◌, Bool, IsTrue, Err, IfOk, Ok};
 ghost use Rattle.tt_game.specs.Line.{LineWithUndo};
 ghost use Rattle.tt_game.specs.Problems.{problem_of};
-ghost use Rattle.tsumego_show.specs.Shown.{HasStatus, IsOnlyTree, IsTreeRefused};
+ghost use Rattle.tsumego_show.specs.Shown.{IsInputRefused, IsOnlyTree, IsTreeRefused};
 
 use crate::answers::put_answer_lines;
-use crate::diagram::put_svg;
+use crate::diagram::{put_svg, put_unmarked_svg};
 use crate::hints::{put_hints, put_missing_mover_line, put_unclosed_comment_lines};
 use crate::marking::{put_kept_problem, put_tree_marked_or_kept, unsquared_triangle_node};
 use crate::mode::Mode;
-use crate::picture::{put_picture, put_unmarked_board};
-use crate::refusals::{is_no_target_fault, put_no_tree, put_refusal_and_why, put_too_long};
+use crate::picture::{put_board, put_picture, unmarked_frame};
+use crate::refusals::{put_no_tree, put_refusal_and_why, put_too_long};
+use crate::shown::{ShowFault, Shown};
+use crate::tree_bytes::put_tree_as_given;
 use crate::variations::put_sgf;
 use crate::writing::written;
 use std::alloc::Global;
 use std::io::Write;
 use tt_game::{GameFault, Line, game_before_solution, problem};
-use tt_sgf::{MainLine, NoMemory, Node, SgfFault, has_tree, read_tree};
+use tt_sgf::{ItemList, MainLine, NoMemory, Node, SgfFault, has_tree, read_tree};
 
 /// Writes the picture of the problem of these nodes, and the strategy behind it, behind the text.
 fn put_problem_and_strategy(
@@ -42,82 +44,129 @@ fn is_only_tree(number: usize, behind: &[u8]) -> bool
     number == 1 && !has_tree(behind)
 }
 
-/// Writes the diagram of a problem, with the strategy behind it, behind the text; or that it isn't drawn.
+/// Writes the diagram of a problem, with the strategy behind it; or that it isn't drawn.
 fn put_diagram(
     alloc: Global,
-    out: &mut Vec<u8>,
+    shown: &mut Shown,
     number: usize,
     line: &Line,
     behind: &[u8],
 ) -> Result<(), NoMemory> {
     if !is_only_tree(number, behind) {
         return written(writeln!(
-            out,
+            shown.said,
             "{number} not drawn: give each problem a file of its own"
         ));
     }
-    put_svg(alloc, out, line, behind)
+    put_svg(alloc, &mut shown.text, line, behind)
 }
 
-/// Writes the text on the problem of these nodes, which these bytes follow, behind the text.
-fn put_problem_in_mode(
+/// Writes the text on the problem of these nodes, which these bytes follow.
+fn put_problem(
     alloc: Global,
-    out: &mut Vec<u8>,
+    shown: &mut Shown,
     mode: Mode,
     number: usize,
     tree: &[u8],
     nodes: &[Node],
     line: &Line,
     behind: &[u8],
-) -> Result<(), NoMemory> {
+) -> Result<(), ShowFault> {
     match mode {
-        Mode::Picture => put_problem_and_strategy(alloc, out, number, nodes, line, behind),
-        Mode::Diagram => put_diagram(alloc, out, number, line, behind),
-        Mode::Variations(depth) => put_sgf(alloc, out, nodes, line, behind, depth),
-        Mode::Marks(_) => put_kept_problem(out, number, nodes, tree),
+        Mode::Picture => {
+            put_problem_and_strategy(alloc, &mut shown.text, number, nodes, line, behind)?;
+            Ok(())
+        }
+        Mode::Diagram => {
+            put_diagram(alloc, shown, number, line, behind)?;
+            Ok(())
+        }
+        Mode::Variations(depth) => put_sgf(alloc, &mut shown.text, nodes, line, behind, depth),
+        Mode::Marks(_) => put_kept_problem(alloc, shown, number, nodes, line, tree),
     }
 }
 
-/// Writes that a main line is refused behind the text, and the board of its game before the solution where no node has a triangle.
-fn put_refusal_and_board(
+/// The main line in front of the node at fault; with it, where only its targets are, and all of it where no node has TR.
+fn line_before_fault(main: MainLine, fault: &GameFault) -> MainLine {
+    let mut nodes = main.nodes.into_vec();
+    if let Some(number) = fault.node() {
+        let is_played = matches!(
+            fault,
+            GameFault::EmptyTarget { .. } | GameFault::MixedTargets { .. }
+        );
+        nodes.truncate(if is_played {
+            number
+        } else {
+            number.saturating_sub(1)
+        });
+    }
+    MainLine {
+        nodes: ItemList::from_vec(nodes),
+    }
+}
+
+/// Writes the board of a main line that is refused by this fault, as far as it can be drawn.
+fn put_refused_board(
     alloc: Global,
-    out: &mut Vec<u8>,
-    number: usize,
-    main: &MainLine,
+    shown: &mut Shown,
+    mode: Mode,
+    main: MainLine,
     fault: &GameFault,
 ) -> Result<(), NoMemory> {
-    put_refusal_and_why(out, number, main.nodes.as_slice(), fault)?;
-    if !is_no_target_fault(fault) {
+    let front = line_before_fault(main, fault);
+    if front.nodes.as_slice().is_empty() {
         return Ok(());
     }
-    match game_before_solution(alloc, main) {
-        Ok(game) => put_unmarked_board(out, game.present()),
+    match game_before_solution(alloc, &front) {
+        Ok(game) => {
+            let board = game.present();
+            match mode {
+                Mode::Diagram => put_unmarked_svg(alloc, &mut shown.text, board, fault.reason()),
+                _ => put_board(&mut shown.text, &unmarked_frame(board.size()), board),
+            }
+        }
         Err(GameFault::NoMemory) => Err(NoMemory),
         Err(_) => Ok(()),
     }
 }
 
-/// Writes the text on a main line that is no problem, by this fault, behind the text, and says whether it is refused.
-fn put_non_problem(
+/// Writes why a main line is no problem, and the board or the tree as far as it goes.
+fn put_refused(
     alloc: Global,
-    out: &mut Vec<u8>,
+    shown: &mut Shown,
     mode: Mode,
     number: usize,
     tree: &[u8],
-    main: &MainLine,
+    main: MainLine,
     fault: &GameFault,
-) -> Result<bool, NoMemory>
-    ensures { (behind : List ℕ) → IfOk result (IsTreeRefused mode number (Err fault.now) behind) }
-{
+    is_only: bool,
+) -> Result<(), NoMemory> {
+    put_refusal_and_why(shown.words(mode), number, main.nodes.as_slice(), fault)?;
     match mode {
-        Mode::Marks(wanted) => {
-            return put_tree_marked_or_kept(alloc, out, wanted, number, main, tree, fault);
-        }
-        Mode::Picture => put_refusal_and_board(alloc, out, number, main, fault)?,
-        Mode::Diagram | Mode::Variations(_) => {
-            put_refusal_and_why(out, number, main.nodes.as_slice(), fault)?;
-        }
+        Mode::Diagram if !is_only => Ok(()),
+        Mode::Picture | Mode::Diagram => put_refused_board(alloc, shown, mode, main, fault),
+        Mode::Variations(_) | Mode::Marks(_) => put_tree_as_given(&mut shown.text, tree),
     }
+}
+
+/// Writes the text on a main line that is no problem, by this fault, and says whether it is refused.
+fn put_non_problem(
+    alloc: Global,
+    shown: &mut Shown,
+    mode: Mode,
+    number: usize,
+    tree: &[u8],
+    main: MainLine,
+    fault: &GameFault,
+    behind: &[u8],
+) -> Result<bool, ShowFault>
+    ensures { IfOk result (IsTreeRefused mode number (Err fault.now) behind.now) }
+{
+    if let Mode::Marks(wanted) = mode {
+        return put_tree_marked_or_kept(alloc, shown, wanted, number, &main, tree, fault);
+    }
+    let is_only = is_only_tree(number, behind);
+    put_refused(alloc, shown, mode, number, tree, main, fault, is_only)?;
     Ok(true)
 }
 
@@ -132,44 +181,39 @@ fn is_problem_refused(mode: Mode, number: usize, nodes: &[Node], behind: &[u8]) 
     }
 }
 
-/// The text on a tree, which these bytes follow, and whether it was refused.
-fn game_tree_text(
+/// What is shown of a tree, which these bytes follow.
+pub fn show_tree(
     alloc: Global,
     mode: Mode,
     number: usize,
     tree: &[u8],
     main: MainLine,
     behind: &[u8],
-) -> Result<(Vec<u8>, bool), NoMemory>
-    ensures { IfOk result (λ r. IsTreeRefused mode number (problem_of main.nodes) behind.now r.1) }
+) -> Result<Shown, ShowFault>
+    ensures { IfOk result (λ r. IsTreeRefused mode number (problem_of main.nodes) behind.now r.refused) }
 {
-    let mut out = Vec::new(alloc);
+    let mut shown = Shown::nothing(alloc);
     match problem(alloc, &main) {
         Ok(line) => {
             let nodes = main.nodes.as_slice();
-            put_problem_in_mode(alloc, &mut out, mode, number, tree, nodes, &line, behind)?;
-            Ok((out, is_problem_refused(mode, number, nodes, behind)))
+            put_problem(alloc, &mut shown, mode, number, tree, nodes, &line, behind)?;
+            shown.refused = is_problem_refused(mode, number, nodes, behind);
         }
-        Err(GameFault::NoMemory) => Err(NoMemory),
+        Err(GameFault::NoMemory) => return Err(ShowFault::NoMemory),
         Err(fault) => {
-            let refused = put_non_problem(alloc, &mut out, mode, number, tree, &main, &fault)?;
-            Ok((out, refused))
+            shown.refused = put_non_problem(
+                alloc, &mut shown, mode, number, tree, main, &fault, behind,
+            )?;
         }
     }
+    Ok(shown)
 }
 
-/// The exit status: 1 where something is refused, else 0.
-fn exit_status(refused: bool) -> u8
-    ensures { result ≡ (if refused then 1 else 0) }
+/// What is shown of an input, tree by tree.
+pub fn show(alloc: Global, mode: Mode, input: &[u8]) -> Result<Shown, ShowFault>
+    ensures { IfOk result (λ r. IsInputRefused mode input.now r.refused) }
 {
-    if refused { 1 } else { 0 }
-}
-
-/// The text for an input, and the exit status: 1 where something is refused, else 0.
-pub fn show(alloc: Global, mode: Mode, input: &[u8]) -> Result<(Vec<u8>, u8), NoMemory>
-    ensures { IfOk result (λ r. HasStatus mode input.now r.1) }
-{
-    let mut out = Vec::new(alloc);
+    let mut all = Shown::nothing(alloc);
     let mut number = 1;
     let mut rest = input;
     let mut refused = false;
@@ -178,21 +222,25 @@ pub fn show(alloc: Global, mode: Mode, input: &[u8]) -> Result<(Vec<u8>, u8), No
             Ok((main, used)) => {
                 let tree = &rest[..used];
                 rest = &rest[used..];
-                let (text, is_refused) = game_tree_text(alloc, mode, number, tree, main, rest)?;
-                out.extend_from_slice(text.as_slice())?;
-                refused |= is_refused;
+                let one = show_tree(alloc, mode, number, tree, main, rest)?;
+                all.text.extend_from_slice(one.text.as_slice())?;
+                all.said.extend_from_slice(one.said.as_slice())?;
+                refused |= one.refused;
                 number += 1;
             }
             Err(SgfFault::Syntax) => {
-                put_no_tree(&mut out, number, input, rest)?;
-                return Ok((out, 1));
+                put_no_tree(all.words(mode), number, input, rest)?;
+                all.refused = true;
+                return Ok(all);
             }
             Err(SgfFault::TooLong) => {
-                put_too_long(&mut out, number)?;
-                return Ok((out, 1));
+                put_too_long(all.words(mode), number)?;
+                all.refused = true;
+                return Ok(all);
             }
-            Err(SgfFault::NoMemory) => return Err(NoMemory),
+            Err(SgfFault::NoMemory) => return Err(ShowFault::NoMemory),
         }
     }
-    Ok((out, exit_status(refused)))
+    all.refused = refused;
+    Ok(all)
 }

@@ -2,10 +2,8 @@
 ghost use Rattle.std.specs.Prelude.{◌<◌, IfSome};
 ghost use Rattle.tt_sgf.specs.Sizes.{point_count};
 
-use crate::hints::{
-    put_both_point_names, put_point_names, put_point_names_line, put_points_line_if_any,
-};
 use crate::picture::colour_name;
+use crate::points::{PointForm, put_point, put_points, put_points_line_if_any};
 use crate::writing::written;
 use std::alloc::Global;
 use std::io::Write;
@@ -26,13 +24,8 @@ fn put_chain_name(
     requires { stone < point_count size }
 {
     let name = colour_name(colour);
-    written(write!(out, "the {name} chain of "))?;
-    put_both_point_names(out, size, usize::from(stone.number()))
-}
-
-/// Writes the stones of a way to close a wall behind the text, row by row, each with a blank in front.
-pub fn put_way(out: &mut Vec<u8>, size: Size, way: &Closing) -> Result<(), NoMemory> {
-    put_point_names(out, size, &way.stones)
+    written(write!(out, "the {name} chain of"))?;
+    put_point(out, size, usize::from(stone.number()), PointForm::Both)
 }
 
 /// Writes the stones of ways to close a wall behind the text, way by way, and a newline.
@@ -50,7 +43,7 @@ pub fn put_ways(
         if 0 < i {
             out.extend_from_slice(between)?;
         }
-        put_way(out, size, &ways[i])?;
+        put_points(out, size, &ways[i].stones, PointForm::Both)?;
     }
     Ok(out.push(b'\n')?)
 }
@@ -64,20 +57,17 @@ fn put_how_to_close(
     stones: u16,
 ) -> Result<(), NoMemory> {
     let name = colour_name(colour);
-    match stones {
-        1 => {
-            written(write!(out, "a {name} stone on one of these encloses it:"))?;
-            put_ways(out, size, ways, b"")
-        }
-        2 => {
-            written(write!(out, "two {name} stones enclose it in one of these ways:"))?;
-            put_ways(out, size, ways, b",")
-        }
-        _ => {
-            written(write!(out, "three {name} stones enclose it in one of these ways:"))?;
-            put_ways(out, size, ways, b",")
-        }
-    }
+    let (words, between) = match stones {
+        1 => ("stone on one of these encloses it:", b"".as_slice()),
+        _ => ("stones enclose it in one of these ways:", b",".as_slice()),
+    };
+    let count = match stones {
+        1 => "a",
+        2 => "two",
+        _ => "three",
+    };
+    written(write!(out, "{count} {name} {words}"))?;
+    put_ways(out, size, ways, between)
 }
 
 /// Writes how the wall around the group of a stone of this colour may be closed behind the text: by which stones of the other colour or,
@@ -100,8 +90,8 @@ fn put_how_to_go_on(
     if leading.count() == 0 {
         return Ok(out.extend_from_slice(b"mark it by hand\n")?);
     }
-    out.extend_from_slice(b"follow these to gaps, if there are any, or mark by hand:")?;
-    put_point_names_line(out, board.size(), &leading)
+    let words = b"follow these to gaps, if there are any, or mark by hand:";
+    put_points_line_if_any(out, board.size(), words, &leading)
 }
 
 /// Writes the stones around a group that plays within can take, so that they are no wall, behind the text.
@@ -170,8 +160,8 @@ pub fn put_why_unmarked_at_point(
     if let Some(colour) = board.at(point) {
         return put_why_unmarked_chain(alloc, out, board, colour, point);
     }
-    out.extend_from_slice(b"no stone stands on ")?;
-    put_both_point_names(out, size, usize::from(point.number()))?;
+    out.extend_from_slice(b"no stone stands on")?;
+    put_point(out, size, usize::from(point.number()), PointForm::Both)?;
     Ok(out.push(b'\n')?)
 }
 

@@ -1,21 +1,20 @@
 //! A problem as a game tree of SGF, with the answer and the strategies behind it as variations.
-ghost use Rattle.std.specs.Prelude.{◌≡◌};
+ghost use Rattle.std.specs.Prelude.{◌≡◌, IfOk};
 
 use crate::answers::{Answers, read_answers};
 use crate::depths::shown_depth;
-use crate::diagram::has_squares;
 use crate::endings::put_ending;
 use crate::main_lines::{is_legal, main_line};
-use crate::picture::{colour_name, put_earlier_position_count, side_colour};
-use crate::points::point_numbered;
+use crate::picture::{colour_name, side_colour};
+use crate::reading_back::check_problem;
+use crate::shown::ShowFault;
 use crate::writing::written;
 use std::alloc::Global;
 use std::io::Write;
 use tt_board::Colour;
-use tt_game::{Line, Turn, first_value};
-use tt_marks::stones_of_colour;
+use tt_game::{Line, Turn, first_value, has_value};
 use tt_proof::{MOST_DEPTH, Tree, put_turn};
-use tt_sgf::{NoMemory, Node, PointSet, Size};
+use tt_sgf::{NoMemory, Node, Property, Size};
 
 /// How many turns are written where no depth is asked, and where one is: no certificate of 1 MiB without shared parts has as many.
 const MOST_TURNS: usize = 2_000;
@@ -38,88 +37,57 @@ pub fn colour_letter(colour: Colour) -> char {
     }
 }
 
-/// Writes the property of this name with the points of a set behind the text, where it has some.
-pub fn put_points_property(
-    out: &mut Vec<u8>,
-    size: Size,
-    name: &str,
-    points: &PointSet,
-) -> Result<(), NoMemory> {
-    let mut is_named = false;
-    for number in 0..size.point_count() {
-        let point = point_numbered(size, number);
-        if points.has(point) {
-            if !is_named {
-                out.extend_from_slice(name.as_bytes())?;
-                is_named = true;
-            }
-            out.push(b'[')?;
-            put_turn(out, Turn::Play(point), size)?;
-            out.push(b']')?;
-        }
-    }
-    Ok(())
+/// The first of these nodes that has TR: the problem stands there.
+fn problem_node(nodes: &[Node]) -> Option<&Node> {
+    nodes
+        .iter()
+        .find(|node| has_value(node.props.as_slice(), b"TR"))
 }
 
-/// Writes TR and SQ of a problem behind the text. A region that is the whole board needs no SQ.
-pub fn put_marks(out: &mut Vec<u8>, line: &Line) -> Result<(), NoMemory> {
-    let frame = line.frame();
-    put_points_property(out, frame.size, "TR", &frame.targets)?;
-    if has_squares(frame) {
-        put_points_property(out, frame.size, "SQ", &frame.region)?;
-    }
-    Ok(())
-}
-
-/// Writes the problem as the properties of a root behind the text.
-fn put_root(out: &mut Vec<u8>, line: &Line) -> Result<(), NoMemory> {
-    let size = line.frame().size;
-    let columns = size.columns();
-    let rows = size.rows();
-    written(write!(out, "(;GM[1]FF[4]SZ[{columns}"))?;
-    if columns != rows {
-        written(write!(out, ":{rows}"))?;
-    }
-    out.push(b']')?;
-    for (name, colour) in [("AB", Colour::Black), ("AW", Colour::White)] {
-        put_points_property(out, size, name, &stones_of_colour(line.present(), colour))?;
-    }
-    let mover = colour_letter(side_colour(line, line.to_move()));
-    written(write!(out, "PL[{mover}]"))?;
-    put_marks(out, line)
-}
-
-/// Writes the first value of this property of the first node behind the text, where it has it.
-fn put_kept_property(out: &mut Vec<u8>, name: &[u8], nodes: &[Node]) -> Result<(), NoMemory> {
-    let Some(node) = nodes.first() else {
-        return Ok(());
-    };
-    if let Some(value) = first_value(node.props.as_slice(), name) {
-        out.extend_from_slice(name)?;
+/// Writes a property as it was given behind the text.
+fn put_property(out: &mut Vec<u8>, property: &Property) -> Result<(), NoMemory> {
+    out.extend_from_slice(property.ident.as_slice())?;
+    for value in property.values.as_slice() {
         out.push(b'[')?;
-        out.extend_from_slice(value)?;
+        out.extend_from_slice(value.as_slice())?;
         out.push(b']')?;
     }
     Ok(())
 }
 
-/// Writes whose strategies follow, or why there are none, and how many positions came before the problem, as the root's name behind the
-/// text.
-fn put_name(out: &mut Vec<u8>, line: &Line, found: &Answers) -> Result<(), NoMemory> {
-    out.extend_from_slice(b"N[")?;
-    match found.strategies.first() {
-        Some((side, _)) => {
-            let owner = colour_name(side_colour(line, *side));
-            written(write!(out, "{owner}'s strategy"))?;
+/// Whether the answer takes the place of a property of this name.
+fn is_of_answer(name: &[u8]) -> bool {
+    name == b"N".as_slice() || name == b"C".as_slice() || name == b"LB".as_slice()
+}
+
+/// Writes the nodes up to that of the problem as they were given behind the text, but for what the answer takes the place of there.
+fn put_given_nodes(out: &mut Vec<u8>, nodes: &[Node]) -> Result<(), NoMemory> {
+    for node in nodes {
+        let is_problem = has_value(node.props.as_slice(), b"TR");
+        out.push(b';')?;
+        for property in node.props.as_slice() {
+            if !is_problem || !is_of_answer(property.ident.as_slice()) {
+                put_property(out, property)?;
+            }
         }
-        None => out.extend_from_slice(if found.is_vain() {
-            b"what follows is no certificate"
-        } else {
-            b"no certificate follows"
-        })?,
+        if is_problem {
+            return Ok(());
+        }
     }
-    put_earlier_position_count(out, line)?;
-    Ok(out.push(b']')?)
+    Ok(())
+}
+
+/// Writes whose strategies follow, or why there are none, as the name of the problem's node behind the text.
+fn put_name(out: &mut Vec<u8>, line: &Line, found: &Answers) -> Result<(), NoMemory> {
+    if let Some((side, _)) = found.strategies.first() {
+        let owner = colour_name(side_colour(line, *side));
+        return written(write!(out, "N[{owner}'s strategy]"));
+    }
+    Ok(out.extend_from_slice(if found.is_vain() {
+        b"N[what follows is no certificate]"
+    } else {
+        b"N[no certificate follows]"
+    })?)
 }
 
 /// Writes + on the first turns that win and - on those that fail behind the text.
@@ -135,25 +103,28 @@ fn put_labels(out: &mut Vec<u8>, size: Size, found: &Answers) -> Result<(), NoMe
     Ok(())
 }
 
-/// Writes the root's comment behind the text: that of the first node, and the answer, also that it has ended there.
+/// Writes a comment behind the text: the one that was given, and the answer, also that it has ended there.
 fn put_comment(
     out: &mut Vec<u8>,
-    nodes: &[Node],
+    given: Option<&[u8]>,
     line: &Line,
     found: &Answers,
     is_end: bool,
 ) -> Result<(), NoMemory> {
-    if found.strategies.is_empty() && found.first_turns.is_empty() {
-        return put_kept_property(out, b"C", nodes);
+    let has_answer = !found.strategies.is_empty() || !found.first_turns.is_empty();
+    if given.is_none() && !has_answer {
+        return Ok(());
     }
     out.extend_from_slice(b"C[")?;
-    if let Some(node) = nodes.first() {
-        if let Some(value) = first_value(node.props.as_slice(), b"C") {
-            out.extend_from_slice(value)?;
+    if let Some(value) = given {
+        out.extend_from_slice(value)?;
+        if has_answer {
             out.extend_from_slice(b"\n\n")?;
         }
     }
-    found.put_words(out, line)?;
+    if has_answer {
+        found.put_words(out, line)?;
+    }
     if is_end {
         out.push(b'\n')?;
         put_ending(out, line)?;
@@ -325,10 +296,9 @@ fn put_bare_first_turns(out: &mut Vec<u8>, line: &Line, found: &Answers) -> Resu
     Ok(())
 }
 
-/// Writes the problem of these nodes, which the line is at, as a game tree of SGF behind the text, with the answer that stands behind it
-/// as words and variations, with at most 2,000 turns, or so many turns deep where that is asked. `NoMemory` where memory was refused; a
-/// part may stand there then.
-pub fn put_sgf(
+/// Writes the problem of these nodes, which the line is at, as a game tree of SGF behind the text: its nodes, and the answer that stands
+/// behind it as words and variations, with at most 2,000 turns, or so many turns deep where that is asked.
+fn put_game_tree(
     alloc: Global,
     out: &mut Vec<u8>,
     nodes: &[Node],
@@ -337,16 +307,32 @@ pub fn put_sgf(
     depth: Option<usize>,
 ) -> Result<(), NoMemory> {
     let found = read_answers(alloc, line, behind)?;
-    put_root(out, line)?;
-    put_kept_property(out, b"CA", nodes)?;
-    put_kept_property(out, b"GN", nodes)?;
+    out.push(b'(')?;
+    put_given_nodes(out, nodes)?;
     put_name(out, line, &found)?;
     put_labels(out, line.frame().size, &found)?;
     let mut variations = Vec::new(alloc);
     put_strategies(alloc, &mut variations, line, &found, depth)?;
     let is_end = variations.is_empty() && !found.strategies.is_empty();
-    put_comment(out, nodes, line, &found, is_end)?;
+    let given = match problem_node(nodes) {
+        Some(node) => first_value(node.props.as_slice(), b"C"),
+        None => None,
+    };
+    put_comment(out, given, line, &found, is_end)?;
     out.extend_from_slice(variations.as_slice())?;
     put_bare_first_turns(out, line, &found)?;
     Ok(out.extend_from_slice(b")\n")?)
+}
+
+/// Writes the game tree of a problem behind the text, and sees that it is read as the same problem.
+pub fn put_sgf(
+    alloc: Global,
+    out: &mut Vec<u8>,
+    nodes: &[Node],
+    line: &Line,
+    behind: &[u8],
+    depth: Option<usize>,
+) -> Result<(), ShowFault> {
+    put_game_tree(alloc, out, nodes, line, behind, depth)?;
+    check_problem(alloc, out.as_slice(), line)
 }

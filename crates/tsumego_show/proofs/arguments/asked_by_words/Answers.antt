@@ -1,10 +1,11 @@
-use Rattle.std.proofs.Common.{true, ◌≡◌, ◌∙◌, List, None, map, string_bytes, ap, refl, sym, subst, rules, inl, inr, ◌⊎◌}
-use Rattle.clap.specs.Words.{App, IsAmong, Text, fault_of, found_of, is_simple, is_simple_and_free, matches_of, rows_of}
+use Rattle.std.proofs.Common.{true, ◌≡◌, ◌∙◌, List, None, Some, IfErr, IfOk, map, string_bytes, ap, sym, subst, refl, inl, inr, ◌⊎◌, arith}
+use Rattle.std.proofs.lemmas.Result.{IfErr-weaker, IfOk-weaker}
+use Rattle.clap.specs.Words.{App, IsAmong, Row, Text, fault_of, found_of, is_simple, is_simple_and_free, matches_of, rows_of}
 use Rattle.clap.specs.Kinds.{HasKind}
 use Rattle.clap.specs.declared.error.kind.ErrorKind.{ErrorKind}
 use Rattle.clap.specs.declared.error.kind.ErrorKind.TheVariants.{DisplayHelp, DisplayVersion, OutOfMemory}
-use Rattle.tsumego_show.specs.CommandLine.{mode_in, show_app}
-use Rattle.tsumego_show.proofs.arguments.mode_of_words.Goals as goal
+use Rattle.tsumego_show.specs.CommandLine.{files_in, mode_in, show_app}
+use Rattle.tsumego_show.proofs.arguments.asked_by_words.Goals as goal
 
 is_tool_simple : is_simple show_app ≡ true
 unfolding show_app
@@ -14,18 +15,32 @@ is_tool_free : is_simple_and_free show_app ≡ true
 unfolding show_app
 is_tool_free = refl
 
-pub returns-in-Some-clause-asked : goal.returns-in-Some-clause-asked
-returns-in-Some-clause-asked c =
+pub returns-in-Ok-try_get_matches_from-clause-asked : goal.returns-in-Ok-try_get_matches_from-clause-asked
+returns-in-Ok-try_get_matches_from-clause-asked c =
     let words : List Text = map (λ s. string_bytes s) c.args.words.now in
     let met : rows_of (found_of c.in-Ok-try_get_matches_from.matches) ≡ matches_of show_app words =
     (c.in-Ok-try_get_matches_from.ensures.matches (ap is_simple c.in-Ok.ensures ∙ is_tool_simple)).0
     ∙ ap (λ (a : App). matches_of a words) c.in-Ok.ensures in
-    ap mode_in (sym met) ∙ sym c.in-Some.ensures
+    IfOk-weaker c.asked_by_matches.result _ _ (λ a h. ap mode_in (sym met) ∙ h) c.asked_by_matches.ensures.asked
 
-pub returns-in-Some-clause-clean : goal.returns-in-Some-clause-clean
-returns-in-Some-clause-clean c =
+pub returns-in-Ok-try_get_matches_from-clause-files : goal.returns-in-Ok-try_get_matches_from-clause-files
+returns-in-Ok-try_get_matches_from-clause-files c =
     let words : List Text = map (λ s. string_bytes s) c.args.words.now in
-    sym (ap (λ (a : App). fault_of a words) c.in-Ok.ensures) ∙ c.in-Ok-try_get_matches_from.ensures.kinds (ap is_simple_and_free c.in-Ok.ensures ∙ is_tool_free)
+    let met : rows_of (found_of c.in-Ok-try_get_matches_from.matches) ≡ matches_of show_app words =
+    (c.in-Ok-try_get_matches_from.ensures.matches (ap is_simple c.in-Ok.ensures ∙ is_tool_simple)).0
+    ∙ ap (λ (a : App). matches_of a words) c.in-Ok.ensures in
+    IfOk-weaker c.asked_by_matches.result _ _ (λ a h. h ∙ ap files_in met) c.asked_by_matches.ensures.files
+
+pub returns-in-Ok-try_get_matches_from-clause-clean : goal.returns-in-Ok-try_get_matches_from-clause-clean
+returns-in-Ok-try_get_matches_from-clause-clean c =
+    let words : List Text = map (λ s. string_bytes s) c.args.words.now in
+    IfOk-weaker c.asked_by_matches.result _ _
+    (λ a h. sym (ap (λ (a : App). fault_of a words) c.in-Ok.ensures) ∙ c.in-Ok-try_get_matches_from.ensures.kinds (ap is_simple_and_free c.in-Ok.ensures ∙ is_tool_free))
+    c.asked_by_matches.ensures.asked
+
+pub returns-in-Ok-try_get_matches_from-clause-told : goal.returns-in-Ok-try_get_matches_from-clause-told
+returns-in-Ok-try_get_matches_from-clause-told c =
+    IfErr-weaker c.asked_by_matches.result _ _ (λ t h zero. let two = h.0 in absurd (omega (arith, two, zero))) c.asked_by_matches.ensures.told
 
 pub returns-in-Ok-try_get_matches_from-clause-taken : goal.returns-in-Ok-try_get_matches_from-clause-taken
 returns-in-Ok-try_get_matches_from-clause-taken c =
@@ -33,15 +48,15 @@ returns-in-Ok-try_get_matches_from-clause-taken c =
     let met : rows_of (found_of c.in-Ok-try_get_matches_from.matches) ≡ matches_of show_app words =
     (c.in-Ok-try_get_matches_from.ensures.matches (ap is_simple c.in-Ok.ensures ∙ is_tool_simple)).0
     ∙ ap (λ (a : App). matches_of a words) c.in-Ok.ensures in
-    let nothing : mode_in (rows_of (found_of c.in-Ok-try_get_matches_from.matches)) ≡ None = search rules in
-    λ _. inr (ap mode_in (sym met) ∙ nothing)
+    λ _. IfErr-weaker c.asked_by_matches.result _ _ (λ t h. elim h.1 [ inl empty ↦ inl empty | inr none ↦ inr (ap mode_in (sym met) ∙ none) ])
+    c.asked_by_matches.ensures.told
 
 -- an error that isn't want of memory has a kind that the words have
 kind_is_fault : (e k : ErrorKind) (kinds : List ErrorKind) → e ≡ k → (k ≡ OutOfMemory → ⊥) → (e ≡ OutOfMemory) ⊎ IsAmong e kinds → IsAmong k kinds
 kind_is_fault e k kinds same other h = elim h [ inl memory ↦ absurd (other (sym same ∙ memory)) | inr a ↦ subst (λ (x : ErrorKind). IsAmong x kinds) same a ]
 
-pub returns-clause-told : goal.returns-clause-told
-returns-clause-told c =
+pub returns-in-Err-clause-told : goal.returns-in-Err-clause-told
+returns-in-Err-clause-told c =
     let words : List Text = map (λ s. string_bytes s) c.args.words.now in
     let kinds : HasKind (fault_of show_app words) c.in-Err.error =
     subst (λ (a : App). HasKind (fault_of a words) c.in-Err.error) c.in-Ok.ensures

@@ -39,4 +39,4 @@ returns-in-Err-TooLong c =
 
 pub returns : goal.returns
 returns c =
-    progress_ended c.loop-number.invariant.progress c.if-number-eq1.false (search (rules, c.if-has_tree.false)) _ c.exit_status.ensures
+    progress_ended c.loop-number.invariant.progress c.if-number-eq1.false (search (rules, c.if-has_tree.false))
