@@ -97,7 +97,7 @@ impl Advisor {
     }
 
     /// The suicide that led from one board to the next, where the finder's board is the first. Without it the board would be made anew
-    /// at the lines behind each suicide: four kills took 1.1 of the time.
+    /// at the lines behind each suicide: 97 problems took 1.05 of the time, in one run.
     fn suicide_between(&self, before: &Board, after: &Board) -> Option<(Colour, u16)> {
         let colour = lesser_colour(before, after)?;
         let board = &self.finder.board;
