@@ -1,5 +1,5 @@
 -- A look at the eye of each empty point that is near; one eye is looked at once.
-use Rattle.std.proofs.Common.{◌≡◌, ℕ, ◌+◌, ◌<◌, ◌≤◌, ◌↔◌, ◌&&◌, ◌||◌, List, true, false, IsTrue, inl, inr, sym, ap, ◌∙◌, arith}
+use Rattle.std.proofs.Common.{◌≡◌, ℕ, ◌+◌, ◌<◌, ◌≤◌, ◌↔◌, ◌&&◌, ◌||◌, not, List, true, false, IsTrue, inl, inr, sym, ap, ◌∙◌, arith}
 use Rattle.std.proofs.lemmas.Bool.{cases_eq, cases_lt, cases_Bool, true≢false, and_parts, and_from, or_cases, or_left, or_right}
 use Rattle.tt_sgf.specs.declared.size.Size.{Size}
 use Rattle.tt_sgf.specs.declared.bits.TheConstants.{BITS}
@@ -10,7 +10,7 @@ use Rattle.tt_life.specs.inside.Linked.{points_in, IsLinkedSet, IsWalled, IsSubs
 use Rattle.tt_life.proofs.LinkedLemmas.{in_points, points_on_board, bit_of_point, linked_itself}
 use Rattle.tt_life.proofs.LinkedSetLemmas.{small}
 use Rattle.tt_life.proofs.EyeLemmas.{start_empty, start_needed, eye_at_of, walled_at, within_at}
-use Rattle.tt_life.proofs.SiftLemmas.{same_chain}
+use Rattle.tt_life.proofs.SiftLemmas.{same_chain, none_left}
 
 -- the empty points before p that are near are done, and of those done the ones at an eye are found
 pub record AreEyesFound (s : Size) (space near empty stones eyes done : List ℕ) (p : ℕ) : Type 0 where
@@ -29,14 +29,17 @@ module _ (s : Size) (space near empty stones : List ℕ) where
     full = λ q lt h e at. absurd (true≢false (sym h ∙ none' q lt));
   }
 
-  -- no such point, or one that is done
-  pub eyes_past : (eyes done : List ℕ) (p : ℕ) → (bit_in near p ≡ true → bit_in empty p ≡ true → bit_in done p ≡ true) → AreEyesFound s space near empty stones eyes done p
-      → AreEyesFound s space near empty stones eyes done (p + 1)
-  eyes_past eyes done p so was = record {
+  -- none of those before p is left
+  pub eyes_to : (eyes done starts left : List ℕ) (n p : ℕ) → ((q : ℕ) → q < BITS → bit_in starts q ≡ (bit_in near q && bit_in empty q))
+      → ((q : ℕ) → q < BITS → bit_in left q ≡ (bit_in starts q && not (bit_in done q))) → ((q : ℕ) → n ≤ q → q < p → q < BITS → bit_in left q ≡ false)
+      → AreEyesFound s space near empty stones eyes done n → AreEyesFound s space near empty stones eyes done p
+  eyes_to eyes done starts left n p starts_are left_is none was = record {
     done_on = was.done_on;
-    covers = λ q before in_q h e. elim (cases_eq q p) [
-      | inl same ↦ ap (bit_in done) same ∙ so (ap (bit_in near) (sym same) ∙ h) (ap (bit_in empty) (sym same) ∙ e)
-      | inr apart ↦ was.covers q (omega arith) in_q h e
+    covers = λ q before in_q h e. elim (cases_lt q n) [
+      | inl early ↦ was.covers q early in_q h e
+      | inr late ↦
+          let lt = small s q in_q in
+          none_left (bit_in starts q) (bit_in done q) (starts_are q lt ∙ and_from _ _ h e) (sym (left_is q lt) ∙ none q late before lt)
     ];
     sound = was.sound;
     full = was.full;

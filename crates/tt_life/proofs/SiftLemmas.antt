@@ -1,5 +1,5 @@
 -- One pass over the stones, and the passes till none goes.
-use Rattle.std.proofs.Common.{◌≡◌, ℕ, ◌+◌, ◌<◌, ◌≤◌, ◌↔◌, ◌&&◌, ◌||◌, not, count_by, List, true, false, IsTrue, inl, inr, sym, ap, ◌∙◌, arith}
+use Rattle.std.proofs.Common.{◌≡◌, ℕ, ◌+◌, ◌<◌, ◌≤◌, ◌↔◌, ◌&&◌, ◌||◌, not, count_by, List, true, false, IsTrue, Bool, inl, inr, sym, ap, ◌∙◌, arith}
 use Rattle.std.specs.List.{range_with_len}
 use Rattle.std.proofs.lemmas.Bool.{cases_eq, cases_lt, cases_Bool, true≢false, and_parts, and_from, and_left, and_right, not_from_false, or_cases, or_left, or_right, or_from}
 use Rattle.std.proofs.lemmas.List.Elements.{All-weaker}
@@ -36,14 +36,22 @@ pub record IsSifted (f : Frame) (g : Ground) (stones kept done : List ℕ) (p : 
   pub full : (c : Colouring) → IsGroundOf f c g → AreDefenders f c (points_in f.size stones) → (q : ℕ) → q < point_count f.size → bit_in done q ≡ true
       → IsAliveAmong f c (points_in f.size stones) q → bit_in kept q ≡ true
 
+-- what is there, and not left, is done
+pub none_left : (a b : Bool) → a ≡ true → (a && not b) ≡ false → b ≡ true
+none_left a b on none = elim (cases_Bool b) [
+  | inl done ↦ done
+  | inr off ↦ absurd (true≢false (sym (and_from a (not b) on (ap not off)) ∙ none))
+]
+
 module _ (f : Frame) (g : Ground) (stones : List ℕ) where
-  -- no stone, or one that is done
-  pub sift_past : (kept done : List ℕ) (p : ℕ) → (bit_in stones p ≡ true → bit_in done p ≡ true) → IsSifted f g stones kept done p → IsSifted f g stones kept done (p + 1)
-  sift_past kept done p so was = record {
+  -- no stone before p is left
+  pub sift_to : (kept done left : List ℕ) (n p : ℕ) → ((q : ℕ) → q < BITS → bit_in left q ≡ (bit_in stones q && not (bit_in done q)))
+      → ((q : ℕ) → n ≤ q → q < p → q < BITS → bit_in left q ≡ false) → IsSifted f g stones kept done n → IsSifted f g stones kept done p
+  sift_to kept done left n p left_is none was = record {
     kept_on = was.kept_on;
-    covers = λ q before in_q h. elim (cases_eq q p) [
-      | inl same ↦ ap (bit_in done) same ∙ so (ap (bit_in stones) (sym same) ∙ h)
-      | inr apart ↦ was.covers q (omega arith) in_q h
+    covers = λ q before in_q h. elim (cases_lt q n) [
+      | inl early ↦ was.covers q early in_q h
+      | inr late ↦ none_left (bit_in stones q) (bit_in done q) h (sym (left_is q (small f.size q in_q)) ∙ none q late before (small f.size q in_q))
     ];
     within = was.within;
     sound = was.sound;

@@ -70,13 +70,13 @@ pub(crate) fn touched_eyes(
     let starts = near.and(&ground.empty);
     let mut eyes = Bits::none();
     let mut done = Bits::none();
-    for p in 0..size.point_count() {
-        if !starts.has(p) {
-            continue;
+    let mut next = 0;
+    loop {
+        let p = starts.minus(&done).first_from(next);
+        if p >= size.point_count() {
+            return eyes;
         }
-        if done.has(p) {
-            continue;
-        }
+        next = p + 1;
         let eye = linked_to(size, &ground.space, p);
         done = done.or(&eye);
         if !is_touched_eye(size, first, &eye, stones, near) {
@@ -84,7 +84,6 @@ pub(crate) fn touched_eyes(
         }
         eyes = eyes.or(&eye.and(&starts));
     }
-    eyes
 }
 
 /// Whether a chain has a liberty outside the region, or two eyes.
@@ -125,13 +124,13 @@ fn survivors(frame: &Frame, ground: &Ground, first: &Bits, stones: &Bits) -> Bit
     let safe = reaching(frame.size, &inner, &ground.outside);
     let mut kept = safe;
     let mut done = safe;
-    for p in 0..frame.size.point_count() {
-        if !stones.has(p) {
-            continue;
+    let mut next = 0;
+    loop {
+        let p = stones.minus(&done).first_from(next);
+        if p >= frame.size.point_count() {
+            return kept;
         }
-        if done.has(p) {
-            continue;
-        }
+        next = p + 1;
         let chain = linked_to(frame.size, stones, p);
         done = done.or(&chain);
         if !is_alive(frame, ground, first, stones, &chain) {
@@ -139,7 +138,6 @@ fn survivors(frame: &Frame, ground: &Ground, first: &Bits, stones: &Bits) -> Bit
         }
         kept = kept.or(&chain);
     }
-    kept
 }
 
 /// The stones that are left when all go that aren't alive among what is left.
