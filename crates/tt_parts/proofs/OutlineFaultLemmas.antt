@@ -13,7 +13,8 @@ use Rattle.tt_proof.specs.Strategy.{Strategy, done, depth, IsTurnOnBoardOfSize, 
 use Rattle.tt_proof.specs.CertificateText.{won_symbol, pick_symbol, replies_symbol, turn_text, side_prefix}
 use Rattle.tt_parts.specs.SharedCertFaults.{IsSharedCertFault}
 use Rattle.tt_parts.specs.Outlines.{Outline, Branches, ended, picked, replied, part, no_branch, branch, unfolded}
-use Rattle.tt_parts.specs.Outlines.{naming_symbol, naming_text, part_symbol, named_trees_after, outline_text, branches_text, RefersBack, IsOutlineInOrder, AreBranchesInOrder, OutlineGoesDeep, BranchesGoDeep, IsSharedCertTooDeep}
+use Rattle.tt_parts.specs.Outlines.{naming_symbol, naming_text, part_symbol, named_trees_after, outline_text, branches_text, RefersBack, IsOutlineInOrder}
+use Rattle.tt_parts.specs.Outlines.{AreBranchesInOrder, OutlineGoesDeep, BranchesGoDeep, IsSharedCertTooDeep}
 use Rattle.tt_parts.specs.inside.OutlineReading.{HasNoDigitInFront, OutlineAt, BranchesAt, ReadsOutline, OutlineDeepAt, BranchesDeepAt, OutlineFaultAt, BranchesFaultAt}
 use Rattle.tt_proof.proofs.TextLemmas.{heads, tails}
 use Rattle.tt_proof.proofs.CertificateLemmas.{side_apart}

@@ -17,7 +17,8 @@ use Rattle.tt_game.specs.declared.turns.Turn.{Turn}
 use Rattle.tt_parts.specs.declared.position_footprint.PositionFootprint.{PositionFootprint}
 use Rattle.tt_parts.specs.declared.outline_replay.ReplayResult.{ReplayResult}
 use Rattle.tt_parts.specs.declared.outline_replay.ReplayResult.TheVariants.{Won, Lost, Unfit}
-use Rattle.tt_parts.specs.SharedParts.{NamedFootprints, RestsBeforePick, RestsBeforeOpposingTurn, CombinesTo, IsResultBeforeTurn, IsResultOfDone, IsResultOfReply, IsReplayOfOutline, IsReplayOfBranches, IsOutlineAnswer, wins_if_fit}
+use Rattle.tt_parts.specs.SharedParts.{NamedFootprints, RestsBeforePick, RestsBeforeOpposingTurn, CombinesTo, IsResultBeforeTurn, IsResultOfDone, IsResultOfReply}
+use Rattle.tt_parts.specs.SharedParts.{IsReplayOfOutline, IsReplayOfBranches, IsOutlineAnswer, wins_if_fit}
 use Rattle.tt_parts.specs.inside.OutlineReplaying.{FindsPick, FindsReply, FindsBranch}
 use Rattle.tt_proof.proofs.TextLemmas.{heads, tails, same_turn, turn_not_end}
 use Rattle.tt_proof.proofs.CertificateLemmas.{side_apart}

@@ -1,5 +1,6 @@
 -- What the reader of certificates with shared parts knows at each byte.
-use Rattle.std.proofs.Common.{◌≡◌, ◌≤◌, ◌<◌, ◌+◌, ℕ, zero, suc, ◌⊎◌, inl, inr, Bool, true, false, max, arith, List, [], ◌∷◌, ◌++◌, ◌∙◌, refl, sym, ap, subst, append_assoc, length, get_or, map, decimal}
+use Rattle.std.proofs.Common.{◌≡◌, ◌≤◌, ◌<◌, ◌+◌, ℕ, zero, suc, ◌⊎◌, inl, inr, Bool, true, false, max, arith, List, [], ◌∷◌, ◌++◌, ◌∙◌, refl, sym, ap, subst}
+use Rattle.std.proofs.Common.{append_assoc, length, get_or, map, decimal}
 use Rattle.std.proofs.lemmas.List.{map-append, append-nil}
 use Rattle.tt_sgf.specs.Bytes.{semicolon}
 use Rattle.tt_sgf.specs.declared.size.Size.{Size}
@@ -10,7 +11,8 @@ use Rattle.tt_proof.specs.declared.tree.TheConstants.{MOST_DEPTH}
 use Rattle.tt_proof.specs.Strategy.{Strategy, done, depth, depth_of_entries, IsTurnOnBoardOfSize, turn_number_on_size}
 use Rattle.tt_proof.specs.CertificateText.{won_symbol, pick_symbol, replies_symbol, turn_text, side_prefix}
 use Rattle.tt_parts.specs.Outlines.{Outline, Branches, ended, picked, replied, part, no_branch, branch, with_named_tree, unfolded_entries, unfolded}
-use Rattle.tt_parts.specs.Outlines.{named_trees_after, named_trees_after_branches, outline_of, branches_of_reply, naming_text, part_symbol, outline_text, branches_text, BranchesGoDeep, IsSharedCertificate, AreBranchesInOrder, BranchesReferBack}
+use Rattle.tt_parts.specs.Outlines.{named_trees_after, named_trees_after_branches, outline_of, branches_of_reply, naming_text, part_symbol, outline_text}
+use Rattle.tt_parts.specs.Outlines.{branches_text, BranchesGoDeep, IsSharedCertificate, AreBranchesInOrder, BranchesReferBack}
 use Rattle.tt_parts.specs.inside.OutlineReading.{HasNoDigitInFront, with_depth, OutlineAt, BranchesAt, OutlineDeepAt, BranchesDeepAt, ReadsOutline, ReadsBranches}
 use Rattle.tt_parts.proofs.OutlineLawLemmas.{same_outline}
 use Rattle.tt_parts.proofs.OutlineDeepLemmas.{BranchBehind, branch_behind, deep_behind, apart}

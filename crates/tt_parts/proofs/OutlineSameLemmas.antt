@@ -10,8 +10,8 @@ use Rattle.tt_parts.specs.declared.outline_replay.ReplayResult.{ReplayResult}
 use Rattle.tt_parts.specs.declared.outline_replay.ReplayResult.TheVariants.{Won, Lost, Unfit}
 use Rattle.tt_parts.specs.Outlines.{Outline, Branches, ended, picked, replied, part, no_branch, branch}
 use Rattle.tt_parts.specs.SharedParts.{HasPosition, FootprintFits, RestsOnPositionAlone, RestsOnRepeats, RestsBeforePick, RestsBeforeOpposingTurn, RestsOnBoth, CombinesTo, IsResultBeforeTurn}
-use Rattle.tt_parts.specs.SharedParts.{NamedFootprints, kept_footprint, wins_if_fit, with_named_footprint, with_unreached_names, with_unreached_branch_names, IsResultOfDone, IsResultOfPart, IsResultOfReply, IsOutlineAnswer}
-use Rattle.tt_parts.specs.SharedParts.{IsReplayOfOutline, IsReplayOfBranches}
+use Rattle.tt_parts.specs.SharedParts.{NamedFootprints, kept_footprint, wins_if_fit, with_named_footprint, with_unreached_names, with_unreached_branch_names}
+use Rattle.tt_parts.specs.SharedParts.{IsResultOfDone, IsResultOfPart, IsResultOfReply, IsOutlineAnswer, IsReplayOfOutline, IsReplayOfBranches}
 use Rattle.tt_parts.specs.inside.OutlineReplaying.{FindsPick, FindsReply, FindsTogether, FindsBranch}
 use Rattle.tt_parts.proofs.OutlineReplayLemmas.{iff_chain, some_none}
 
@@ -252,10 +252,11 @@ module _ (side : Side) (f : Frame) where
   reply_found_same bs s ns ms h g r q ls ks (inr a) (inr b) =
       (found_as Lost Lost r q a.1 b.1 both_lost, names_as (with_unreached_branch_names ns bs) (with_unreached_branch_names ms bs) ls ks a.2 b.2 (unreached_all_same bs ns ms h))
 
-  named : (n : Bool) (r q : ReplayResult) (ls ks ls' ks' : NamedFootprints) → SameFound r q × SameNames ls ks → ls' ≡ with_named_footprint n (kept_footprint r) ls → ks' ≡ with_named_footprint n (kept_footprint q) ks
-      → SameFound r q × SameNames ls' ks'
+  named : (n : Bool) (r q : ReplayResult) (ls ks ls' ks' : NamedFootprints) → SameFound r q × SameNames ls ks → ls' ≡ with_named_footprint n (kept_footprint r) ls
+      → ks' ≡ with_named_footprint n (kept_footprint q) ks → SameFound r q × SameNames ls' ks'
   named n r q ls ks ls' ks' h e d =
-      (h.0, names_as (with_named_footprint n (kept_footprint r) ls) (with_named_footprint n (kept_footprint q) ks) ls' ks' e d (with_same n ls ks (kept_footprint r) (kept_footprint q) h.1 (kept_same r q h.0)))
+      let same = with_same n ls ks (kept_footprint r) (kept_footprint q) h.1 (kept_same r q h.0) in
+      (h.0, names_as (with_named_footprint n (kept_footprint r) ls) (with_named_footprint n (kept_footprint q) ks) ls' ks' e d same)
 
   mutual
     outline_same : (o : Outline) (s : State) (ns ms : NamedFootprints) → SameNames ns ms → Same (IsReplayOfOutline side f ns o s) (IsReplayOfOutline side f ms o s)

@@ -1,5 +1,6 @@
 -- What is found on an outline says whether its tree wins.
-use Rattle.std.proofs.Common.{◌≡◌, ◌≤◌, zero, suc, ◌+◌, ◌⊎◌, ℕ, Bool, true, false, inl, inr, arith, Some, None, List, [], ◌∷◌, ◌++◌, ◌∙◌, ◌↔◌, refl, sym, ap, subst, Contains, Option, get_or, IsTrue, IfSome, true≢false}
+use Rattle.std.proofs.Common.{◌≡◌, ◌≤◌, zero, suc, ◌+◌, ◌⊎◌, ℕ, Bool, true, false, inl, inr, arith, Some, None, List, [], ◌∷◌, ◌++◌, ◌∙◌, ◌↔◌, refl, sym, ap, subst}
+use Rattle.std.proofs.Common.{Contains, Option, get_or, IsTrue, IfSome, true≢false}
 use Rattle.std.proofs.lemmas.List.Elements.{Contains-append_left, Contains-append_right, Contains-append_cases}
 use Rattle.tt_board.specs.Position.{Position, Colouring}
 use Rattle.tt_game.specs.Game.{State, IsLegal, after, history, colouring_after_play, winner_of, opponent}
@@ -12,14 +13,15 @@ use Rattle.tt_parts.specs.declared.position_footprint.PositionFootprint.{Positio
 use Rattle.tt_parts.specs.declared.outline_replay.ReplayResult.{ReplayResult}
 use Rattle.tt_parts.specs.declared.outline_replay.ReplayResult.TheVariants.{Won, Lost, Unfit}
 use Rattle.tt_proof.specs.Strategy.{Strategy, Entries, done, pick, reply, none, entry, turn_number_on_size}
-use Rattle.tt_parts.specs.Outlines.{Outline, Branches, ended, picked, replied, part, no_branch, branch, unfolded, unfolded_entries, with_named_tree, named_trees_after, named_trees_after_branches, IsOutlineInOrder, AreBranchesInOrder}
+use Rattle.tt_parts.specs.Outlines.{Outline, Branches, ended, picked, replied, part, no_branch, branch, unfolded, unfolded_entries, with_named_tree}
+use Rattle.tt_parts.specs.Outlines.{named_trees_after, named_trees_after_branches, IsOutlineInOrder, AreBranchesInOrder}
 use Rattle.tt_proof.specs.Footprints.{IsRepeatedByPlay}
 use Rattle.tt_proof.specs.KeptFootprints.{board_of_colouring}
 use Rattle.tt_proof.specs.EndRules.{at_win_or_life}
 use Rattle.tt_proof.specs.Wins.{WinsOrLives, WinsBehindUnder}
-use Rattle.tt_parts.specs.SharedParts.{FootprintFits, RestsOnPositionAlone, RestsOnRepeats, MakesBoard, RestsBeforePick, RestsBeforeOpposingTurn, RestsOnBoth, CombinesTo, IsResultBeforeTurn, HasBranch}
-use Rattle.tt_parts.specs.SharedParts.{NamedFootprints, kept_footprint, wins_if_fit, with_named_footprint, with_unreached_names, with_unreached_branch_names, IsResultOfDone, IsResultOfPart, IsResultOfReply}
-use Rattle.tt_parts.specs.SharedParts.{IsReplayOfOutline, IsReplayOfBranches}
+use Rattle.tt_parts.specs.SharedParts.{FootprintFits, RestsOnPositionAlone, RestsOnRepeats, MakesBoard, RestsBeforePick, RestsBeforeOpposingTurn, RestsOnBoth, CombinesTo, IsResultBeforeTurn}
+use Rattle.tt_parts.specs.SharedParts.{NamedFootprints, kept_footprint, wins_if_fit, with_named_footprint, with_unreached_names, with_unreached_branch_names}
+use Rattle.tt_parts.specs.SharedParts.{HasBranch, IsResultOfDone, IsResultOfPart, IsResultOfReply, IsReplayOfOutline, IsReplayOfBranches}
 use Rattle.tt_parts.specs.inside.OutlineReplaying.{FindsPick, FindsReply, FindsBranch}
 use Rattle.tt_proof.proofs.FitsLemmas.{Carried, same_made, same_winner, same_end, legal_now, legal_before}
 use Rattle.tt_proof.proofs.FootprintLemmas.{none_held}

@@ -5,8 +5,8 @@ use Rattle.tt_sgf.specs.declared.size.Size.{Size}
 use Rattle.tt_proof.specs.declared.certificate_read.CertFault.{CertFault}
 use Rattle.tt_proof.specs.declared.certificate_read.CertFault.TheVariants.{Syntax, TooDeep, NoMemory}
 use Rattle.tt_proof.specs.Strategy.{Strategy, depth, depth_of_entries}
-use Rattle.tt_parts.specs.Outlines.{Outline, Branches, ended, picked, replied, part, unfolded, unfolded_entries, named_trees_after, named_trees_after_branches, RefersBack, BranchesReferBack, IsOutlineInOrder, AreBranchesInOrder}
-use Rattle.tt_parts.specs.Outlines.{outline_text, branches_text, OutlineGoesDeep, BranchesGoDeep}
+use Rattle.tt_parts.specs.Outlines.{Outline, Branches, ended, picked, replied, part, unfolded, unfolded_entries, named_trees_after, named_trees_after_branches}
+use Rattle.tt_parts.specs.Outlines.{RefersBack, BranchesReferBack, IsOutlineInOrder, AreBranchesInOrder, outline_text, branches_text, OutlineGoesDeep, BranchesGoDeep}
 pub use Rattle.tt_parts.specs.Outlines.{HasNoDigitInFront}
 
 -- the depths of all named trees, with one more where the tree has a name

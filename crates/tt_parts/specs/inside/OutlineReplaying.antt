@@ -5,7 +5,8 @@ use Rattle.tt_game.specs.declared.frame.Side.{Side}
 use Rattle.tt_game.specs.declared.turns.Turn.{Turn}
 use Rattle.tt_parts.specs.declared.outline_replay.ReplayResult.{ReplayResult}
 use Rattle.tt_parts.specs.Outlines.{Outline, Branches}
-use Rattle.tt_parts.specs.SharedParts.{NamedFootprints, IsReplayOfPick, IsReplayOfBranch, IsReplayOfReply, IsReplayOfBranchesAndRepeats, IsReplayOfOutline, IsReplayOfBranches, with_unreached_names, with_unreached_branch_names}
+use Rattle.tt_parts.specs.SharedParts.{NamedFootprints, IsReplayOfPick, IsReplayOfBranch, IsReplayOfReply, IsReplayOfBranchesAndRepeats, IsReplayOfOutline}
+use Rattle.tt_parts.specs.SharedParts.{IsReplayOfBranches, with_unreached_names, with_unreached_branch_names}
 
 module _ (side : Side) (f : Frame) where
   abbrev pub FindsPick : NamedFootprints → Turn → Outline → State → ReplayResult → NamedFootprints → Type 0

@@ -35,7 +35,8 @@ pub replay_outline-returns-in-None-clause-found : goal.replay_outline-returns-in
 replay_outline-returns-in-None-clause-found t c =
     let ns = c.args.names.now.items in
     let past : length ns ≤ c.in-Part.k = search rules in
-    rw (c.in-Part.is, outline_of_part) (subst (λ (n : Option PositionFootprint). IsResultOfPart c.args.line.now.frame n c.args.line.now.state Unfit) (sym (none_past ns c.in-Part.k past)) (λ x e m. some_none x e), refl)
+    rw (c.in-Part.is, outline_of_part)
+    (subst (λ (n : Option PositionFootprint). IsResultOfPart c.args.line.now.frame n c.args.line.now.state Unfit) (sym (none_past ns c.in-Part.k past)) (λ x e m. some_none x e), refl)
 
 pub replay_outline-returns-in_ok-put_footprint_if_named-in-Pick-clause-found : goal.replay_outline-returns-in_ok-put_footprint_if_named-in-Pick-clause-found
 replay_outline-returns-in_ok-put_footprint_if_named-in-Pick-clause-found t c =

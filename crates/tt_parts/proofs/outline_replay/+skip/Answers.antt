@@ -36,8 +36,9 @@ skip_branches-loop-child-preserved t c =
     let is : item ≡ get_or list n item = search rules in
     let rest : drop n list ≡ item ∷ drop (n + 1) list =
     drop-cons list n item lt ∙ ap (λ m. get_or list n item ∷ drop m list) (sym (add-one n)) ∙ ap (λ e. e ∷ drop (n + 1) list) (sym is) in
+    let whole = with_unreached_branch_names c.args.names.now.items (branches_of_reply list) in
     ap (λ (ns : NamedFootprints). with_unreached_branch_names ns (branches_of_reply (drop (n + 1) list))) c.in_ok-skip.ensures
-    ∙ subst (λ xs. with_unreached_branch_names c.loop-child.names.items (branches_of_reply xs) ≡ with_unreached_branch_names c.args.names.now.items (branches_of_reply list)) rest c.loop-child.invariant
+    ∙ subst (λ xs. with_unreached_branch_names c.loop-child.names.items (branches_of_reply xs) ≡ whole) rest c.loop-child.invariant
 
 pub skip_branches-returns : goal.skip_branches-returns
 skip_branches-returns t c =
