@@ -1,14 +1,17 @@
 """Answers of the programs, held against those of books and suites."""
 import re
+from dataclasses import replace
 from typing import Dict, List
 
 import data
 import pytest
 
 import tsumego
-from tsumego import words
+from tsumego import asking, words
+from tsumego.ko import is_looked_through
 from tsumego.sgf import Node, main_line, to_text, trees_of
 from tsumego.solution import solution
+from tsumego.strategy import positions
 
 
 # So that a busy machine settles them too.
@@ -118,6 +121,25 @@ def test_time_runs_out() -> None:
     answer = tsumego.solve(data.OPEN, seconds=0.5)
     assert (answer.verdict.word, answer.verdict.detail) == ("unsettled", "time")
     assert "Try --seconds" in " ".join(words.said(answer))
+
+
+def test_what_is_asked_ahead_changes_no_answer() -> None:
+    # White loses the first, and wins the others by one play or by several.
+    for name in ("centre_straight_three_B", "centre_straight_three_W", "centre_bent_four_W"):
+        tree, told = trees_of(next(row[3] for row in data.SHAPES if row[0] == name))[0], []
+        alone = asking.answer(tree, None, SECONDS, told.append)
+        among = asking.answer(tree, None, SECONDS, is_alone=False)
+        assert replace(alone, seconds=0, turns=()) == replace(among, seconds=0, turns=())
+        assert [replace(each, strategy=None) for each in alone.turns] == [replace(each, strategy=None) for each in among.turns]
+        # The problem and the verdict come first, and each first turn that was asked about once.
+        assert [type(part).__name__ for part in told[:2]] == ["Marked", "Verdict"] and len(told[2:]) == len({part.turn for part in told[2:]})
+        assert {part for part in told[2:]} <= set(alone.turns)
+
+
+def test_a_long_certificate_isnt_looked_through() -> None:
+    # (five turns of its own side, and two of the other side to answer)
+    assert positions("killed !ca?ba!da.da!ba.--=!ba?ca!ba.--*0;;") == 7
+    assert is_looked_through("lives ?" + "ca!da." * 4_999) and not is_looked_through("lives ?" + "ca!da." * 5_000)
 
 
 def all_moves(tree: tsumego.GameTree) -> List[Node]:

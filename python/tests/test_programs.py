@@ -95,3 +95,19 @@ def test_nothing_begins_behind_ctrl_c(stand_in: Callable[[str, str], Path]) -> N
     late.join(20)
     assert list(map(str, faults)) == ["stopped"]
     assert programs.in_parallel(lambda text: programs.run("tsumego", ["solve"], text).text, [b""]) == ["1\n"]
+
+
+def test_a_question_that_is_dropped(stand_in: Callable[[str, str], Path], tmp_path: Path) -> None:
+    stand_in("tsumego", f'echo >> {tmp_path}/log; read -r line; [ "$line" = short ] || exec sleep 60; echo 1')
+    begun = time.monotonic()
+    with programs.Questions(2) as questions:
+        asked = [questions.ask(programs.run, "tsumego", ["solve"], line) for line in (b"long\n", b"short\n", b"long\n", b"long\n", b"short\n")]
+        assert asked[1].result().text == "1\n"
+        while (tmp_path / "log").read_text() != "\n\n\n":
+            time.sleep(0.01)
+        # One runs since the beginning, one since the short one ended, and one hasn't begun.
+        for each in (asked[0], asked[2], asked[3]):
+            questions.drop(each)
+        assert asked[4].result().text == "1\n"
+    assert time.monotonic() - begun < 50 and (tmp_path / "log").read_text() == "\n" * 4
+    assert isinstance(asked[0].exception(), programs.ProgramError) and asked[3].cancelled()

@@ -9,6 +9,7 @@ FILE is a file in SGF, also of many problems, or - for standard input. STONE is 
 The status is 0 if each problem was settled, 1 if one is open or was refused, and 2 if nothing could be done.
 """
 import argparse
+import gc
 import json
 import os
 import sys
@@ -18,6 +19,7 @@ from .answers import REFUSED, Answer, Verdict
 from .asking import SECONDS, answer, with_strategies
 from .command import Parser, seconds, status_of
 from .inputs import Input, UsageError, files_and_stone, read_file
+from .programs import in_parallel, program
 from .report import answer_card, page
 from .sgf import to_text, write_bytes
 from .solution import solution
@@ -40,8 +42,8 @@ def parser() -> Parser:
 class Asking:
     """A run: what was asked, and where the answers go."""
 
-    def __init__(self, stone: Optional[str], limit: float, is_json: bool, out: Optional[IO[bytes]]) -> None:
-        self.stone, self.limit, self.is_json, self.out = stone, limit, is_json, out
+    def __init__(self, stone: Optional[str], args: argparse.Namespace, out: Optional[IO[bytes]]) -> None:
+        self.stone, self.limit, self.is_json, self.out, self.has_cards = stone, args.seconds, args.json, out, bool(args.html)
         self.is_settled = True
         self.cards: List[str] = []
 
@@ -55,7 +57,8 @@ class Asking:
             self.progress("")
         self.is_settled = self.is_settled and found.verdict.is_settled
         name = heading(given.file, given.number if given.count > 1 else 0, found.name)
-        self.cards.append(answer_card(name, found))
+        if self.has_cards:
+            self.cards.append(answer_card(name, found))
         if self.is_json:
             print(json.dumps(as_data(given.file, given.number, found)), flush=True)
         else:
@@ -81,8 +84,10 @@ def run(args: argparse.Namespace) -> int:
     if args.out and args.html and os.path.abspath(args.out) == os.path.abspath(args.html):
         raise UsageError(f"{shown(args.out)} can't be the SGF and the HTML at once")
     given = [each for file in files for each in read_file(file)]
+    # (both are looked for at once, which takes a while in a repository)
+    in_parallel(program, ["tsumego", "tsumego-show"])
     with open(args.out or os.devnull, "wb") as out:
-        asking = Asking(stone, args.seconds, args.json, out if args.out else None)
+        asking = Asking(stone, args, out if args.out else None)
         try:
             for each in given:
                 asking.ask(each)
@@ -95,6 +100,8 @@ def run(args: argparse.Namespace) -> int:
 
 def main(words: Optional[List[str]] = None) -> int:
     """Runs the command; returns its status."""
+    # Strategies are many objects, of which none is garbage.
+    gc.set_threshold(100_000)
     args = parser().parse_args(words)
     if not args.words and not sys.stdin.isatty():
         args.words = ["-"]

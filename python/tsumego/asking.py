@@ -1,14 +1,14 @@
 """One problem asked in full: who wins, which first turns win, why the others fail, and who wins if the other side begins."""
+from concurrent.futures import Future
 from dataclasses import replace
-from functools import partial
-from typing import Any, Callable, Dict, List, Optional, Tuple, Union
+from typing import Callable, Dict, List, Optional, Tuple, Union
 
 from .answers import LIVES, REFUSED, Answer, Closing, Turn, Verdict
-from .ko import ko_of, leaning_on_repetition
+from .ko import KoTest, is_looked_through
 from .marking import Marked, Refused, marked
-from .points import PASS
+from .points import PASS, place
 from .problems import Problem, name_of
-from .programs import in_parallel
+from .programs import JOBS, Questions, in_parallel
 from .sgf import GameTree, SgfError, main_line, read_bytes, trees_of
 from .solving import Clock, certificate, settled, strategy, verdict
 from .strategy import Strategy, read_certificate
@@ -38,8 +38,9 @@ def solve(sgf: Union[str, bytes, GameTree], stone: Optional[str] = None, seconds
         return Answer("", Verdict(REFUSED, None, "1"), why=str(fault))
 
 
-def answer(tree: GameTree, stone: Optional[str] = None, seconds: float = SECONDS, tell: Tell = lambda part: None) -> Answer:
-    """The answer to one tree; see `solve`. `tell` takes parts of it as they are known, of first turns only those that are asked about."""
+def answer(tree: GameTree, stone: Optional[str] = None, seconds: float = SECONDS, tell: Tell = lambda part: None, is_alone: bool = True) -> Answer:
+    """The answer to one tree; see `solve`. `tell` takes parts of it as they are known, of first turns only those that are asked about.
+    Where the problem `is_alone`, free processors are put to questions whose answers may turn out to be of no use."""
     name, _ = name_of(main_line(tree))
     try:
         found = marked(tree, stone)
@@ -47,52 +48,86 @@ def answer(tree: GameTree, stone: Optional[str] = None, seconds: float = SECONDS
         return Answer(name, Verdict(REFUSED, None, str(fault.number or 20)), why=str(fault))
     tell(found)
     clock = Clock(seconds)
-    return replace(_asked(found, clock, tell), name=name, notes=found.hints, seconds=clock.spent())
+    with Questions() as questions:
+        result = _Asked(found, clock, questions).answer(tell, is_alone and JOBS > 1)
+    return replace(result, name=name, notes=found.hints, seconds=clock.spent())
 
 
-def _asked(found: Marked, clock: Clock, tell: Tell) -> Answer:
-    """The verdicts of each closing with either side to begin, and the first turns of the first."""
-    problems = [problem for _, problem in found.ways]
-    first = in_parallel(lambda problem: settled(problem, clock) if problem is problems[0] else (verdict(problem, clock), None), problems)
-    verdicts, line = [word for word, _ in first], first[0][1]
-    result, problem = Answer("", verdicts[0], problems[0]), problems[0]
-    tell(result.verdict)
-    is_lost = result.verdict.is_settled and not result.is_mover_winner
-    if is_lost and not line:
-        line = certificate(problem, clock.part(5))
-    # (if the side to move loses, the winner's strategy has an answer to each turn)
-    asked = _turns_to_ask(result) if result.verdict.is_settled and not (is_lost and line) else []
+class _Asked:
+    """The questions about a problem: the verdicts of each closing with either side to begin, and the first turns of the first."""
 
-    def ask_turn(turn: str) -> Verdict:
-        after = verdict(problem.after(turn), clock)
-        if (after.word, after.detail) != (REFUSED, REPEATS):
-            tell(_turn(problem, turn, after))
-        return after
+    def __init__(self, found: Marked, clock: Clock, questions: Questions) -> None:
+        self.found, self.clock, self.questions = found, clock, questions
+        self.problems = [problem for _, problem in found.ways]
+        self.problem = self.problems[0]
+        self.first = questions.ask(settled, self.problem, clock)
+        self.closings = [questions.ask(verdict, each, clock) for each in self.problems[1:]]
+        # Of each closing the verdict where the other side begins, and of each first turn the one behind it.
+        self.others: Dict[int, "Future[Verdict]"] = {}
+        self.turns: Dict[str, "Future[Verdict]"] = {}
 
-    def ask_rest() -> Tuple[List[Verdict], List[Verdict]]:
-        others = [each.with_other_side() for each, word in zip(problems, verdicts) if _is_other_open(each, word)]
-        asks: List[Callable[[], Verdict]] = [partial(verdict, each, clock) for each in others]
+    def ask(self, closings: List[int], turns: List[str]) -> None:
+        """Asks what wasn't asked yet, and drops what else was asked. Turns that wait take the order in which they are given."""
+        dropped = [self.others.pop(at) for at in self.others.keys() - closings]
+        for turn in [each for each, future in self.turns.items() if each not in turns or future.cancel()]:
+            dropped.append(self.turns.pop(turn))
+        for future in dropped:
+            self.questions.drop(future)
         # (what takes longest begins first)
-        asks[1:1] = [partial(ask_turn, turn) for turn in asked]
-        words = in_parallel(lambda ask: ask(), asks)
-        after = [words.pop(1 if others else 0) for _ in asked]
-        return words, after
+        for at in (each for each in closings if each not in self.others):
+            self.others[at] = self.questions.ask(verdict, self.problems[at].with_other_side(), self.clock)
+        for turn in (each for each in turns if each not in self.turns):
+            self.turns[turn] = self.questions.ask(verdict, self.problem.after(turn), self.clock)
 
-    def look_through() -> Tuple[Optional[Strategy], Optional[List[Problem]]]:
-        # (a long certificate takes a while to read: so that is done while the programs run, as is what the ko test wants of it)
-        ours = read_certificate(line) if line else None
-        return ours, leaning_on_repetition(problem, ours) if ours else None
+    def answer(self, tell: Tell, is_ahead: bool) -> Answer:
+        """The whole answer. If all is asked ahead, what then isn't wanted is dropped."""
+        problem = self.problem
+        if is_ahead:
+            self.ask(list(range(len(self.problems))), problem.open_points())
+        (word, line), verdicts = self.first.result(), [self.first.result()[0]] + [each.result() for each in self.closings]
+        result = Answer("", word, problem)
+        tell(word)
+        is_lost = word.is_settled and not result.is_mover_winner
+        closings = [at for at, each in enumerate(self.problems) if _is_other_open(each, verdicts[at])]
+        if is_lost and not line:
+            line = certificate(problem, self.clock.part(5))
+        # (if the side to move loses, the winner's strategy has an answer to each turn)
+        self.ask(closings, _turns_to_ask(result) if word.is_settled and not (is_lost and line) else [])
+        for turn, future in self.turns.items():
+            future.add_done_callback(lambda done, turn=turn: _tell_turn(tell, problem, turn, done))
+        ours, ko = self._looked_through(result, line, is_lost)
+        others = {at: future.result() for at, future in self.others.items()}
+        each_other = [others.get(at, Verdict(each.word)) for at, each in enumerate(verdicts)]
+        asked = zip(self.found.ways, self.problems, verdicts, each_other)
+        result = replace(result, if_other_begins=each_other[0], closings=tuple(Closing(stones, *each) for (stones, _), *each in asked))
+        if not word.is_settled:
+            return result
+        after = {turn: future.result() for turn, future in self.turns.items()}
+        result = replace(result, turns=_answered(problem, ours) if is_lost and ours else _turns(result, after))
+        return replace(result, ko=ko.end(result) if ko else None)
 
-    asks: List[Callable[[], Any]] = [ask_rest, look_through]
-    rest: List[Any] = in_parallel(lambda ask: ask(), asks)
-    (others, after), (ours, leaning) = rest
-    each_other = [others.pop(0) if _is_other_open(each, word) else Verdict(word.word) for each, word in zip(problems, verdicts)]
-    closings = tuple(Closing(stones, *each) for (stones, _), each in zip(found.ways, zip(problems, verdicts, each_other)))
-    result = replace(result, if_other_begins=each_other[0], closings=closings)
-    if not result.verdict.is_settled:
-        return result
-    result = replace(result, turns=_answered(problem, ours) if is_lost and ours else _turns(result, dict(zip(asked, after))))
-    return replace(result, ko=ko_of(result, leaning, clock))
+    def _looked_through(self, result: Answer, line: Optional[str], is_lost: bool) -> Tuple[Optional[Strategy], Optional[KoTest]]:
+        """The winner's strategy, where something is made of it, and the ko test as far as it goes without the first turns. A long certificate
+        takes a while to read: so that is done while the programs run."""
+        if not result.verdict.is_settled:
+            return None, None
+        ko = KoTest(result, self.clock)
+        if line and is_looked_through(line):
+            ours = read_certificate(line)
+            ko.begin(ours)
+            return ours, ko
+        asks: List[Callable[[], Optional[Strategy]]] = [lambda: ko.begin(None), lambda: read_certificate(line) if line and is_lost else None]
+        return in_parallel(lambda ask: ask(), asks)[1], ko
+
+
+def _tell_turn(tell: Tell, problem: Problem, turn: str, done: "Future[Verdict]") -> None:
+    """Tells of a first turn when it is known. A play that repeats a position is none."""
+    if not done.cancelled() and not done.exception() and not _is_repetition(done.result()):
+        tell(_turn(problem, turn, done.result()))
+
+
+def _is_repetition(after: Verdict) -> bool:
+    return (after.word, after.detail) == (REFUSED, REPEATS)
 
 
 def _is_other_open(problem: Problem, found: Verdict) -> bool:
@@ -101,16 +136,22 @@ def _is_other_open(problem: Problem, found: Verdict) -> bool:
 
 
 def _turns_to_ask(result: Answer) -> List[str]:
-    """The plays of the side to move of which the verdict doesn't say that they win."""
+    """The plays of the side to move of which the verdict doesn't say that they win. Those near the one that wins take longest, and come first:
+    so no long one is left for the end."""
     assert result.problem
-    return [turn for turn in result.problem.open_points() if turn != result.verdict.turn]
+    first = result.verdict.turn
+    turns = [turn for turn in result.problem.open_points() if turn != first]
+    if not first or first == PASS:
+        return turns
+    column, row = place(first)
+    return sorted(turns, key=lambda turn: abs(place(turn)[0] - column) + abs(place(turn)[1] - row))
 
 
 def _turns(result: Answer, found: Dict[str, Verdict]) -> Tuple[Turn, ...]:
     """The first turns of the side to move, row by row, each with what is known of it. A pass counts where it wins for the defender."""
     problem, first = result.problem, result.verdict.turn
     assert problem
-    turns = {turn: _turn(problem, turn, each) for turn, each in found.items() if (each.word, each.detail) != (REFUSED, REPEATS)}
+    turns = {turn: _turn(problem, turn, each) for turn, each in found.items() if not _is_repetition(each)}
     if first and first != PASS:
         turns[first] = Turn(first, True)
     if first == PASS or (problem.to_move == problem.defender and result.if_other_begins and result.if_other_begins.word == LIVES):

@@ -25,9 +25,9 @@ from .board import OTHER, Board
 from .points import PASS, sgf_name
 from .problems import Problem, set_up
 from .solving import OUT_OF_TIME, Clock, first_turns, verdicts
-from .strategy import Strategy
+from .strategy import Strategy, positions
 
-__all__ = ["ko_of", "leaning_on_repetition", "with_attackers_threat", "with_defenders_threat"]
+__all__ = ["KoTest", "is_looked_through", "leaning_on_repetition", "with_attackers_threat", "with_defenders_threat"]
 
 MOST_THREATS = 3
 # For each second that an answer may take so many made problems are asked, and of each so many positions; and as many as for some seconds at
@@ -39,28 +39,39 @@ LONGEST, MOST_LEANING = 5_000, 24
 DEEPEST, MOST_TURNS = 2, 3
 
 
-def ko_of(answer: Answer, leaning: Optional[List[Problem]], clock: Clock) -> Ko:
-    """What made problems say of a settled answer: with how many threats of the loser it becomes another one, up to three. `leaning` are
-    the positions at which the winner's strategy leans on repetition, if that is known. How much is asked goes by the clock's seconds, and not
-    by how fast the machine is: so the answer is the same again, if the clock doesn't run out."""
-    problem = answer.problem
-    assert problem
-    asking = _Asking(clock)
-    if leaning is not None and all(each.word == answer.verdict.word for each in asking.verdicts(leaning, HARDER)):
-        return Ko(False, 1 if leaning else 0, tuple(leaning))
-    threats = _with_threats(problem, answer.verdict, asking)
-    if threats.decides or answer.verdict.word == LIVES:
-        return threats
-    if problem.to_move == problem.attacker and not answer.unknown:
-        asking.known[problem.text()], asking.kills[problem.text()] = answer.verdict, list(answer.winning)
-    # (a defender that can do nothing passes, and the attacker begins)
-    begins = [problem] if problem.to_move == problem.attacker else [problem, problem.after(PASS)]
-    for depth in range(1, DEEPEST + 1):
-        for each in begins:
-            after = _living(each, depth, asking)
-            if after:
-                return Ko(True, 1, tuple(after))
-    return threats
+class KoTest:
+    """What made problems say of a settled answer: with how many threats of the loser it becomes another one, up to three. How much is asked
+    goes by the clock's seconds, and not by how fast the machine is: so the answer is the same again, if the clock doesn't run out."""
+
+    def __init__(self, answer: Answer, clock: Clock) -> None:
+        assert answer.problem
+        self.problem, self.verdict, self.asking = answer.problem, answer.verdict, _Asking(clock)
+        self.ko, self.is_whole = Ko(None, 0, ()), False
+
+    def begin(self, ours: Optional[Strategy]) -> None:
+        """Asks what doesn't go by the other first turns. `ours` is the winner's strategy, if it can be looked through."""
+        leaning = leaning_on_repetition(self.problem, ours) if ours else None
+        if leaning is not None and all(each.word == self.verdict.word for each in self.asking.verdicts(leaning, HARDER)):
+            self.ko, self.is_whole = Ko(False, 1 if leaning else 0, tuple(leaning)), True
+            return
+        self.ko = _with_threats(self.problem, self.verdict, self.asking)
+        self.is_whole = bool(self.ko.decides) or self.verdict.word == LIVES
+
+    def end(self, answer: Answer) -> Ko:
+        """Asks the rest, with the first turns of the answer."""
+        problem, asking = self.problem, self.asking
+        if self.is_whole:
+            return self.ko
+        if problem.to_move == problem.attacker and not answer.unknown:
+            asking.known[problem.text()], asking.kills[problem.text()] = answer.verdict, list(answer.winning)
+        # (a defender that can do nothing passes, and the attacker begins)
+        begins = [problem] if problem.to_move == problem.attacker else [problem, problem.after(PASS)]
+        for depth in range(1, DEEPEST + 1):
+            for each in begins:
+                after = _living(each, depth, asking)
+                if after:
+                    return Ko(True, 1, tuple(after))
+        return self.ko
 
 
 class _Asking:
@@ -106,6 +117,11 @@ def _with_threats(problem: Problem, verdict_without: Verdict, asking: _Asking) -
         if found.word != verdict_without.word:
             return Ko(True if found.is_settled else None, count, tuple(tried[:count]))
     return Ko(False if tried else None, len(tried), tuple(tried))
+
+
+def is_looked_through(line: str) -> bool:
+    """Whether a certificate is short enough to be looked through."""
+    return positions(line) <= LONGEST
 
 
 def leaning_on_repetition(problem: Problem, ours: Strategy) -> Optional[List[Problem]]:

@@ -13,12 +13,12 @@ import subprocess
 import threading
 from concurrent.futures import Future, ThreadPoolExecutor
 from dataclasses import dataclass
-from pathlib import Path
-from typing import Callable, Iterable, List, Optional, Sequence, Set, TypeVar
+from types import TracebackType
+from typing import Any, Callable, Dict, Iterable, List, Optional, Sequence, Set, Type, TypeVar
 
-__all__ = ["Ended", "HOME", "JOBS", "MAX_BYTES", "ProgramError", "in_parallel", "program", "run", "stop", "use_machines"]
+__all__ = ["Ended", "HOME", "JOBS", "MAX_BYTES", "ProgramError", "Questions", "in_parallel", "program", "run", "stop", "use_machines"]
 
-HOME = Path(__file__).resolve().parents[2]
+HOME = os.path.dirname(os.path.dirname(os.path.dirname(os.path.realpath(__file__))))
 # An input may have so many bytes.
 MAX_BYTES = 1_048_576
 # The status of coreutils' timeout, which other machines run the program under.
@@ -32,6 +32,8 @@ _running: Set["subprocess.Popen[bytes]"] = set()
 # One queue of free places where machines are named: the name of a machine for each program that it may begin.
 _places: List["queue.Queue[str]"] = []
 _stopping = threading.Event()
+# The question that a thread is at, if it may be dropped.
+_thread = threading.local()
 
 
 class ProgramError(RuntimeError):
@@ -57,20 +59,20 @@ def program(name: str) -> str:
         if not found:
             raise ProgramError(f"there is no program {named}, which the environment's {variable} names")
         return found
-    built = HOME / "crates" / name.replace("-", "_") / "out" / name.replace("-", "_")
-    if built.parent.parent.exists():
-        _see_to_it(HOME / name)
-        return str(built)
-    found = shutil.which(str(HOME / "bin" / name)) or shutil.which(name)
+    crate = os.path.join(HOME, "crates", name.replace("-", "_"))
+    if os.path.exists(crate):
+        _see_to_it(os.path.join(HOME, name))
+        return os.path.join(crate, "out", name.replace("-", "_"))
+    found = shutil.which(os.path.join(HOME, "bin", name)) or shutil.which(name)
     if not found:
         raise ProgramError(f"there is no program {name} on the PATH; the environment's {variable} may name it")
     return found
 
 
-def _see_to_it(wrapper: Path) -> None:
+def _see_to_it(wrapper: str) -> None:
     """The wrapper builds the program where it isn't as new as its sources, and says so."""
-    words = ["score"] if wrapper.name == "tsumego" else []
-    ended = subprocess.run([str(wrapper), *words], stdin=subprocess.DEVNULL, stdout=subprocess.DEVNULL, check=False)
+    words = ["score"] if os.path.basename(wrapper) == "tsumego" else []
+    ended = subprocess.run([wrapper, *words], stdin=subprocess.DEVNULL, stdout=subprocess.DEVNULL, check=False)
     if ended.returncode == 2:
         raise ProgramError(f"{wrapper} can't be built or run, for the reason above")
 
@@ -116,14 +118,17 @@ def _begin_again() -> None:
 
 def _run(command: List[str], name: str, text: bytes, seconds: Optional[float]) -> Ended:
     _begin_again()
-    if _stopping.is_set():
+    question: Optional[_Question] = getattr(_thread, "question", None)
+    if _stopping.is_set() or (question and question.is_dropped):
         raise ProgramError("stopped")
     try:
         process = subprocess.Popen(command, stdin=subprocess.PIPE, stdout=subprocess.PIPE, stderr=subprocess.PIPE)
     except OSError as fault:
         raise ProgramError(f"{command[0]}: {fault.strerror}") from fault
     _running.add(process)
-    if _stopping.is_set():
+    if question:
+        question.process = process
+    if _stopping.is_set() or (question and question.is_dropped):
         process.kill()
     try:
         out, errors = process.communicate(text, timeout=seconds)
@@ -146,20 +151,61 @@ def _run(command: List[str], name: str, text: bytes, seconds: Optional[float]) -
     return Ended(out.decode("ascii", "surrogateescape"), errors.decode("utf-8", "replace"), status)
 
 
-def in_parallel(ask: Callable[[Given], Found], given: Iterable[Given], jobs: int = JOBS) -> List[Found]:
-    """What is asked of each, in their order; so many are asked at a time. Ctrl-C ends the programs that run, and begins no other."""
-    futures: List["Future[Found]"] = []
-    _begin_again()
-    with ThreadPoolExecutor(max(1, jobs)) as pool:
-        try:
-            futures.extend(pool.submit(ask, each) for each in given)
-            return [future.result() for future in futures]
-        except BaseException as fault:
-            for future in futures:
+class _Question:
+    """What a thread is asked: the program that runs for it, and whether its answer is wanted no more."""
+
+    def __init__(self) -> None:
+        self.process: Optional["subprocess.Popen[bytes]"] = None
+        self.is_dropped = False
+
+    def drop(self) -> None:
+        self.is_dropped = True
+        if self.process:
+            self.process.kill()
+
+
+class Questions:
+    """Questions to the programs, in the order in which they are asked, so many at a time. Behind the `with` all are answered or dropped.
+    Ctrl-C ends the programs that run, and begins no other."""
+
+    def __init__(self, jobs: int = JOBS) -> None:
+        _begin_again()
+        self._pool = ThreadPoolExecutor(max(1, jobs))
+        self._asked: Dict["Future[Any]", _Question] = {}
+
+    def ask(self, ask: Callable[..., Found], *given: Any) -> "Future[Found]":
+        question = _Question()
+
+        def asked() -> Found:
+            _thread.question = question
+            try:
+                return ask(*given)
+            finally:
+                _thread.question = None
+
+        future = self._pool.submit(asked)
+        self._asked[future] = question
+        return future
+
+    def drop(self, future: "Future[Any]") -> None:
+        """The answer isn't wanted: the program doesn't begin, or is ended."""
+        future.cancel()
+        self._asked[future].drop()
+
+    def __enter__(self) -> "Questions":
+        return self
+
+    def __exit__(self, kind: Optional[Type[BaseException]], fault: Optional[BaseException], trace: Optional[TracebackType]) -> None:
+        if kind:
+            for future in self._asked:
                 future.cancel()
-            if not isinstance(fault, Exception):
+            if not issubclass(kind, Exception):
                 # (a thread that the pool doesn't know yet may begin later: so what stops it stays till the next question)
                 stop()
-            raise
-        finally:
-            pool.shutdown()
+        self._pool.shutdown()
+
+
+def in_parallel(ask: Callable[[Given], Found], given: Iterable[Given], jobs: int = JOBS) -> List[Found]:
+    """What is asked of each, in their order; so many are asked at a time."""
+    with Questions(jobs) as questions:
+        return [future.result() for future in [questions.ask(ask, each) for each in given]]

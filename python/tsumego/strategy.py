@@ -9,7 +9,7 @@ from .points import PASS
 # The words of a certificate: a pick with its turn, a reply, an end, a shared part, the end of a reply, or a turn in it.
 _TOKEN = re.compile(r"=?!(?:[a-s]{2}|--)|=?\?|\.|\*[0-9]+|;|[a-s]{2}|--")
 
-__all__ = ["Strategy", "read_certificate", "size"]
+__all__ = ["Strategy", "positions", "read_certificate", "size"]
 
 
 @dataclass(eq=False)
@@ -40,6 +40,11 @@ def read_certificate(line: str) -> Strategy:
     if sum(map(len, reader.tokens)) < len(text) or reader.next():
         raise ValueError("text stands behind the certificate")
     return found
+
+
+def positions(line: str) -> int:
+    """How many positions with a turn to make stand in a certificate; a shared one counts once."""
+    return line.count("!") + line.count("?")
 
 
 class _Reader:
