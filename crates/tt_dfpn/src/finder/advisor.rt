@@ -43,16 +43,6 @@ fn play_between(before: &Board, after: &Board) -> Option<(Colour, u16)> {
     None
 }
 
-/// The colour that has a stone on the first board that isn't on the second.
-fn lesser_colour(before: &Board, after: &Board) -> Option<Colour> {
-    for colour in [Colour::Black, Colour::White] {
-        if first_added_point(after.bits(colour), before.bits(colour)).is_some() {
-            return Some(colour);
-        }
-    }
-    None
-}
-
 impl Advisor {
     /// Advice for the problem of a line. Its memory grows with the number of positions.
     pub fn new(alloc: Global, line: &Line, positions: u32) -> Result<Advisor, NoMemory> {
@@ -96,34 +86,13 @@ impl Advisor {
         false
     }
 
-    /// The suicide that led from one board to the next, where the finder's board is the first. Without it the board would be made anew
-    /// at the lines behind each suicide: 97 problems took 1.05 of the time, in one run.
-    fn suicide_between(&self, before: &Board, after: &Board) -> Option<(Colour, u16)> {
-        let colour = lesser_colour(before, after)?;
-        let board = &self.finder.board;
-        let hash = board.hash_of_other_board(after);
-        for p in &self.finder.region.points {
-            if board.is_empty_point(*p) {
-                let effect = board.preview_play(colour, *p);
-                if effect.is_suicide && effect.hash == hash {
-                    return Some((colour, *p));
-                }
-            }
-        }
-        None
-    }
-
-    /// Plays what led to the last board; whether it could.
+    /// Plays what led to the last board; whether it could. A suicide leaves no new stone: there it gives up.
     fn play_to_line(&mut self, boards: &[Board]) -> Result<bool, NoMemory> {
         for k in self.finder.board.history().len()..boards.len() {
             let (Some(before), Some(after)) = (boards.get(k.wrapping_sub(1)), boards.get(k)) else {
                 return Ok(false);
             };
-            let play = match play_between(before, after) {
-                Some(play) => Some(play),
-                None => self.suicide_between(before, after),
-            };
-            match play {
+            match play_between(before, after) {
                 Some((colour, p)) if self.finder.board.is_empty_point(p) => {
                     self.finder.board.play(colour, p)?;
                 }

@@ -223,7 +223,6 @@ impl Finder {
     }
 
     /// What is known of a position: what is known of its line, where that has an entry of its own.
-    #[inline(always)]
     pub(crate) fn find_entry(&self, hashes: Hashes) -> Option<Entry> {
         if self.has_path_table {
             if let Some(entry) = self.path_table.find(hashes.line) {
