@@ -123,7 +123,8 @@ def test_time_runs_out() -> None:
     assert "Try --seconds" in " ".join(words.said(answer))
 
 
-def test_what_is_asked_ahead_changes_no_answer() -> None:
+def test_what_is_asked_ahead_changes_no_answer(monkeypatch: pytest.MonkeyPatch) -> None:
+    monkeypatch.setattr(asking, "SOON", 0)
     # White loses the first, and wins the others by one play or by several.
     for name in ("centre_straight_three_B", "centre_straight_three_W", "centre_bent_four_W"):
         tree, told = trees_of(next(row[3] for row in data.SHAPES if row[0] == name))[0], []

@@ -1,5 +1,5 @@
 """One problem asked in full: who wins, which first turns win, why the others fail, and who wins if the other side begins."""
-from concurrent.futures import Future
+from concurrent.futures import Future, wait
 from dataclasses import replace
 from typing import Callable, Dict, List, Optional, Tuple, Union
 
@@ -16,6 +16,8 @@ from .strategy import Strategy, read_certificate
 __all__ = ["SECONDS", "answer", "solve", "with_strategies"]
 
 SECONDS = 10.0
+# Within so many seconds most verdicts come: then nothing is asked ahead.
+SOON = 0.1
 # Takes parts of an answer as they are known: the problem in each way to mark it, the verdict, and first turns.
 Tell = Callable[[Union[Marked, Verdict, Turn]], None]
 # A turn that takes a target wins for the attacker at once: then the triangle stands on no stone.
@@ -80,9 +82,9 @@ class _Asked:
             self.turns[turn] = self.questions.ask(verdict, self.problem.after(turn), self.clock)
 
     def answer(self, tell: Tell, is_ahead: bool) -> Answer:
-        """The whole answer. If all is asked ahead, what then isn't wanted is dropped."""
+        """The whole answer. Where the verdict isn't there soon, all is asked ahead, and what then isn't wanted is dropped."""
         problem = self.problem
-        if is_ahead:
+        if is_ahead and not wait([self.first], SOON).done:
             self.ask(list(range(len(self.problems))), problem.open_points())
         (word, line), verdicts = self.first.result(), [self.first.result()[0]] + [each.result() for each in self.closings]
         result = Answer("", word, problem)
