@@ -1,4 +1,5 @@
 pub mod Limit
+pub mod Marked
 pub mod OneStatus
 pub mod Sets
 pub mod TreeByTree

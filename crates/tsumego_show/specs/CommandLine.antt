@@ -1,5 +1,5 @@
 -- What the words behind the program's name ask for.
-use Rattle.std.specs.Prelude.{ℕ, ◌-◌, ◌&&◌, ◌||◌, ◌==◌, nat_le, pos, Bool, true, false, List, [], ◌∷◌, codes, drop, unwrap_or, Option, Some, None, is_some, option_map, if◌then◌else◌}
+use Rattle.std.specs.Prelude.{ℕ, ◌-◌, ◌&&◌, ◌||◌, ◌==◌, nat_le, pos, Bool, true, false, List, [], ◌∷◌, codes, drop, unwrap_or, Option, Some, None, is_some, if◌then◌else◌}
 use lib.Pointwise.{pointwise}
 use Rattle.std.specs.Char.{to_ascii_uppercase}
 use Rattle.clap.specs.Words.{App, Row, Rule, Text, all_of, first_of, new_app, new_rule, with_rule}

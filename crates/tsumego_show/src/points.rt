@@ -1,6 +1,7 @@
 //! Points by their numbers, and their names.
 ghost use Rattle.std.specs.Prelude.{◌≡◌, ◌<◌, IfSome};
 ghost use Rattle.tt_sgf.specs.Sizes.{point_count};
+ghost use Rattle.tsumego_show.specs.Written.{HasName};
 
 use crate::mode::PointName;
 use crate::picture::{editor_column_letter, point_of_coordinates};
@@ -32,7 +33,8 @@ pub fn point_numbered(size: Size, number: usize) -> Point
 
 /// The point of a place, where the board has it.
 pub fn point_of_name(size: Size, name: PointName) -> Option<Point>
-    ensures { IfSome result (λ q. q < point_count size) }
+    ensures on_board { IfSome result (λ q. q < point_count size) }
+    ensures name { IfSome result (HasName size name) }
 {
     let (column, row) = match name {
         PointName::FromAbove(column, row) => (column, row),

@@ -3,6 +3,7 @@ ghost use Rattle.std.specs.Prelude.{◌≡◌, ◌↔◌, Bool, IsTrue, Err, IfO
 ghost use Rattle.tt_game.specs.Line.{LineWithUndo};
 ghost use Rattle.tt_game.specs.Problems.{problem_of};
 ghost use Rattle.tsumego_show.specs.Shown.{IsInputRefused, IsOnlyTree, IsTreeRefused};
+ghost use Rattle.tsumego_show.specs.Written.{IsWrittenOn};
 
 use crate::answers::put_answer_lines;
 use crate::diagram::{put_svg, put_unmarked_svg};
@@ -12,77 +13,75 @@ use crate::mode::Mode;
 use crate::picture::{put_board, put_picture, unmarked_frame};
 use crate::refusals::{put_no_tree, put_refusal_and_why, put_too_long};
 use crate::shown::{ShowFault, Shown};
-use crate::tree_bytes::put_tree_as_given;
+use crate::tree_bytes::{GivenTree, from_first_parenthesis, put_tree_as_given};
 use crate::variations::put_sgf;
 use crate::writing::written;
 use std::alloc::Global;
 use std::io::Write;
 use tt_game::{GameFault, Line, game_before_solution, problem};
-use tt_sgf::{ItemList, MainLine, NoMemory, Node, SgfFault, has_tree, read_tree};
+use tt_sgf::{ItemList, MainLine, NoMemory, SgfFault, has_tree, read_tree};
 
-/// Writes the picture of the problem of these nodes, and the strategy behind it, behind the text.
+/// Writes the picture of the problem of a tree, and the strategy behind it, behind the text.
 fn put_problem_and_strategy(
     alloc: Global,
     out: &mut Vec<u8>,
-    number: usize,
-    nodes: &[Node],
+    tree: &GivenTree,
     line: &Line,
-    behind: &[u8],
 ) -> Result<(), NoMemory> {
+    let number = tree.number;
     written(write!(out, "{number} "))?;
     put_picture(out, line)?;
-    put_missing_mover_line(out, nodes)?;
-    put_unclosed_comment_lines(out, nodes)?;
+    put_missing_mover_line(out, tree.nodes())?;
+    put_unclosed_comment_lines(out, tree.nodes())?;
     put_hints(out, line)?;
-    put_answer_lines(alloc, out, line, behind)
+    put_answer_lines(alloc, out, line, tree.behind)
 }
 
-/// Whether this is the only problem of an input.
-fn is_only_tree(number: usize, behind: &[u8]) -> bool
-    ensures { IsTrue result ↔ IsOnlyTree number behind.now }
+/// Whether a tree is the only one of an input.
+fn is_only(tree: &GivenTree) -> bool
+    ensures { IsTrue result ↔ IsOnlyTree tree.now.number tree.now.behind.now }
 {
-    number == 1 && !has_tree(behind)
+    tree.number == 1 && !has_tree(tree.behind)
 }
 
-/// Writes the diagram of a problem, with the strategy behind it; or that it isn't drawn.
+/// Writes the diagram of the problem of a tree, with the strategy behind it; or that it isn't drawn.
 fn put_diagram(
     alloc: Global,
     shown: &mut Shown,
-    number: usize,
+    tree: &GivenTree,
     line: &Line,
-    behind: &[u8],
 ) -> Result<(), NoMemory> {
-    if !is_only_tree(number, behind) {
+    if !is_only(tree) {
+        let number = tree.number;
         return written(writeln!(
             shown.said,
             "{number} not drawn: give each problem a file of its own"
         ));
     }
-    put_svg(alloc, &mut shown.text, line, behind)
+    put_svg(alloc, &mut shown.text, line, tree.behind)
 }
 
-/// Writes the text on the problem of these nodes, which these bytes follow.
+/// Writes the text on the problem of a tree.
 fn put_problem(
     alloc: Global,
     shown: &mut Shown,
     mode: Mode,
-    number: usize,
-    tree: &[u8],
-    nodes: &[Node],
+    tree: &GivenTree,
     line: &Line,
-    behind: &[u8],
-) -> Result<(), ShowFault> {
+) -> Result<(), ShowFault>
+    ensures { (refused : Bool) → IfOk result (λ _. IsWrittenOn mode tree.now.main.nodes (Ok line.now) refused shown.new.text.items) }
+{
     match mode {
         Mode::Picture => {
-            put_problem_and_strategy(alloc, &mut shown.text, number, nodes, line, behind)?;
+            put_problem_and_strategy(alloc, &mut shown.text, tree, line)?;
             Ok(())
         }
         Mode::Diagram => {
-            put_diagram(alloc, shown, number, line, behind)?;
+            put_diagram(alloc, shown, tree, line)?;
             Ok(())
         }
-        Mode::Variations(depth) => put_sgf(alloc, &mut shown.text, nodes, line, behind, depth),
-        Mode::Marks(_) => put_kept_problem(alloc, shown, number, nodes, line, tree),
+        Mode::Variations(depth) => put_sgf(alloc, &mut shown.text, tree, line, depth),
+        Mode::Marks(_) => put_kept_problem(alloc, shown, tree, line),
     }
 }
 
@@ -130,80 +129,65 @@ fn put_refused_board(
     }
 }
 
-/// Writes why a main line is no problem, and the board or the tree as far as it goes.
+/// Writes why a tree is no problem, by this fault, and its board or the tree as far as it goes.
 fn put_refused(
     alloc: Global,
     shown: &mut Shown,
     mode: Mode,
-    number: usize,
-    tree: &[u8],
-    main: MainLine,
+    tree: GivenTree,
     fault: &GameFault,
-    is_only: bool,
 ) -> Result<(), NoMemory> {
-    put_refusal_and_why(shown.words(mode), number, main.nodes.as_slice(), fault)?;
+    put_refusal_and_why(shown.words(mode), tree.number, tree.nodes(), fault)?;
     match mode {
-        Mode::Diagram if !is_only => Ok(()),
-        Mode::Picture | Mode::Diagram => put_refused_board(alloc, shown, mode, main, fault),
-        Mode::Variations(_) | Mode::Marks(_) => put_tree_as_given(&mut shown.text, tree),
+        Mode::Diagram if !is_only(&tree) => Ok(()),
+        Mode::Picture | Mode::Diagram => put_refused_board(alloc, shown, mode, tree.main, fault),
+        Mode::Variations(_) | Mode::Marks(_) => put_tree_as_given(&mut shown.text, &tree),
     }
 }
 
-/// Writes the text on a main line that is no problem, by this fault, and says whether it is refused.
+/// Writes the text on a tree that is no problem, by this fault, and says whether it is refused.
 fn put_non_problem(
     alloc: Global,
     shown: &mut Shown,
     mode: Mode,
-    number: usize,
-    tree: &[u8],
-    main: MainLine,
+    tree: GivenTree,
     fault: &GameFault,
-    behind: &[u8],
 ) -> Result<bool, ShowFault>
-    ensures { IfOk result (IsTreeRefused mode number (Err fault.now) behind.now) }
+    ensures refused { IfOk result (IsTreeRefused mode tree.entry.number (Err fault.now) tree.entry.behind.now) }
+    ensures written { IfOk result (λ refused. IsWrittenOn mode tree.entry.main.nodes (Err fault.now) refused shown.new.text.items) }
 {
     if let Mode::Marks(wanted) = mode {
-        return put_tree_marked_or_kept(alloc, shown, wanted, number, &main, tree, fault);
+        return put_tree_marked_or_kept(alloc, shown, wanted, &tree, fault);
     }
-    let is_only = is_only_tree(number, behind);
-    put_refused(alloc, shown, mode, number, tree, main, fault, is_only)?;
+    put_refused(alloc, shown, mode, tree, fault)?;
     Ok(true)
 }
 
 /// Whether a problem isn't drawn, since there are several, or not marked, since it has triangles without squares.
-fn is_problem_refused(mode: Mode, number: usize, nodes: &[Node], behind: &[u8]) -> bool
-    ensures { (p : LineWithUndo) → IsTreeRefused mode number (Ok p) behind.now result }
+fn is_problem_refused(mode: Mode, tree: &GivenTree) -> bool
+    ensures { (p : LineWithUndo) → IsTreeRefused mode tree.now.number (Ok p) tree.now.behind.now result }
 {
     match mode {
-        Mode::Diagram => !is_only_tree(number, behind),
-        Mode::Marks(_) => unsquared_triangle_node(nodes).is_some(),
+        Mode::Diagram => !is_only(tree),
+        Mode::Marks(_) => unsquared_triangle_node(tree.nodes()).is_some(),
         Mode::Picture | Mode::Variations(_) => false,
     }
 }
 
-/// What is shown of a tree, which these bytes follow.
-pub fn show_tree(
-    alloc: Global,
-    mode: Mode,
-    number: usize,
-    tree: &[u8],
-    main: MainLine,
-    behind: &[u8],
-) -> Result<Shown, ShowFault>
-    ensures { IfOk result (λ r. IsTreeRefused mode number (problem_of main.nodes) behind.now r.refused) }
+/// What is shown of a tree.
+pub fn show_tree(alloc: Global, mode: Mode, tree: GivenTree) -> Result<Shown, ShowFault>
+    ensures refused { IfOk result (λ r. IsTreeRefused mode tree.entry.number (problem_of tree.entry.main.nodes) tree.entry.behind.now r.refused) }
+    ensures written { IfOk result (λ r. IsWrittenOn mode tree.entry.main.nodes (problem_of tree.entry.main.nodes) r.refused r.text.items) }
 {
     let mut shown = Shown::nothing(alloc);
-    match problem(alloc, &main) {
+    match problem(alloc, &tree.main) {
         Ok(line) => {
-            let nodes = main.nodes.as_slice();
-            put_problem(alloc, &mut shown, mode, number, tree, nodes, &line, behind)?;
-            shown.refused = is_problem_refused(mode, number, nodes, behind);
+            put_problem(alloc, &mut shown, mode, &tree, &line)?;
+            shown.refused = is_problem_refused(mode, &tree);
         }
         Err(GameFault::NoMemory) => return Err(ShowFault::NoMemory),
         Err(fault) => {
-            shown.refused = put_non_problem(
-                alloc, &mut shown, mode, number, tree, main, &fault, behind,
-            )?;
+            shown.refused = put_non_problem(alloc, &mut shown, mode, tree, &fault)?;
         }
     }
     Ok(shown)
@@ -220,9 +204,15 @@ pub fn show(alloc: Global, mode: Mode, input: &[u8]) -> Result<Shown, ShowFault>
     while number == 1 || has_tree(rest) {
         match read_tree(alloc, rest) {
             Ok((main, used)) => {
-                let tree = &rest[..used];
+                let bytes = from_first_parenthesis(&rest[..used]);
                 rest = &rest[used..];
-                let one = show_tree(alloc, mode, number, tree, main, rest)?;
+                let tree = GivenTree {
+                    number,
+                    bytes,
+                    main,
+                    behind: rest,
+                };
+                let one = show_tree(alloc, mode, tree)?;
                 all.text.extend_from_slice(one.text.as_slice())?;
                 all.said.extend_from_slice(one.said.as_slice())?;
                 refused |= one.refused;

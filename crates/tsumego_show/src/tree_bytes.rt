@@ -1,7 +1,25 @@
-//! The text of a tree, as it was given.
-ghost use Rattle.std.specs.Prelude.{◌≤◌, length};
+//! A tree as it was given.
+ghost use Rattle.std.specs.Prelude.{◌≡◌, ◌≤◌, length};
 
-use tt_sgf::NoMemory;
+use tt_sgf::{MainLine, NoMemory, Node};
+
+/// A game tree of an input: its number, counted from 1, its bytes from its first `(` on, its main line, and the bytes behind it.
+#[derive(Drop)]
+pub struct GivenTree<'a> {
+    pub number: usize,
+    pub bytes: &'a [u8],
+    pub main: MainLine,
+    pub behind: &'a [u8],
+}
+
+impl<'a> GivenTree<'a> {
+    /// The nodes of its main line.
+    pub fn nodes(&self) -> &[Node]
+        ensures { result.now ≡ self.now.main.nodes }
+    {
+        self.main.nodes.as_slice()
+    }
+}
 
 /// How many bytes stand up to the `;` of the node of this number, and with it; all where there are fewer nodes. Nodes count from 1, and
 /// a `;` in a value begins none.
@@ -65,7 +83,7 @@ pub fn from_first_parenthesis(bytes: &[u8]) -> &[u8]
 }
 
 /// Writes a tree as it was behind the text.
-pub fn put_tree_as_given(out: &mut Vec<u8>, tree: &[u8]) -> Result<(), NoMemory> {
-    out.extend_from_slice(from_first_parenthesis(tree))?;
+pub fn put_tree_as_given(out: &mut Vec<u8>, tree: &GivenTree) -> Result<(), NoMemory> {
+    out.extend_from_slice(tree.bytes)?;
     Ok(out.push(b'\n')?)
 }

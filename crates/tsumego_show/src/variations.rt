@@ -1,5 +1,6 @@
 //! A problem as a game tree of SGF, with the answer and the strategies behind it as variations.
 ghost use Rattle.std.specs.Prelude.{◌≡◌, IfOk};
+ghost use Rattle.tsumego_show.specs.Written.{IsTextOf};
 
 use crate::answers::{Answers, read_answers};
 use crate::depths::shown_depth;
@@ -8,6 +9,7 @@ use crate::main_lines::{is_legal, main_line};
 use crate::picture::{colour_name, side_colour};
 use crate::reading_back::check_problem;
 use crate::shown::ShowFault;
+use crate::tree_bytes::GivenTree;
 use crate::writing::written;
 use std::alloc::Global;
 use std::io::Write;
@@ -296,25 +298,24 @@ fn put_bare_first_turns(out: &mut Vec<u8>, line: &Line, found: &Answers) -> Resu
     Ok(())
 }
 
-/// Writes the problem of these nodes, which the line is at, as a game tree of SGF behind the text: its nodes, and the answer that stands
+/// Writes the problem of a tree, which the line is at, as a game tree of SGF behind the text: its nodes, and the answer that stands
 /// behind it as words and variations, with at most 2,000 turns, or so many turns deep where that is asked.
 fn put_game_tree(
     alloc: Global,
     out: &mut Vec<u8>,
-    nodes: &[Node],
+    tree: &GivenTree,
     line: &Line,
-    behind: &[u8],
     depth: Option<usize>,
 ) -> Result<(), NoMemory> {
-    let found = read_answers(alloc, line, behind)?;
+    let found = read_answers(alloc, line, tree.behind)?;
     out.push(b'(')?;
-    put_given_nodes(out, nodes)?;
+    put_given_nodes(out, tree.nodes())?;
     put_name(out, line, &found)?;
     put_labels(out, line.frame().size, &found)?;
     let mut variations = Vec::new(alloc);
     put_strategies(alloc, &mut variations, line, &found, depth)?;
     let is_end = variations.is_empty() && !found.strategies.is_empty();
-    let given = match problem_node(nodes) {
+    let given = match problem_node(tree.nodes()) {
         Some(node) => first_value(node.props.as_slice(), b"C"),
         None => None,
     };
@@ -328,11 +329,12 @@ fn put_game_tree(
 pub fn put_sgf(
     alloc: Global,
     out: &mut Vec<u8>,
-    nodes: &[Node],
+    tree: &GivenTree,
     line: &Line,
-    behind: &[u8],
     depth: Option<usize>,
-) -> Result<(), ShowFault> {
-    put_game_tree(alloc, out, nodes, line, behind, depth)?;
+) -> Result<(), ShowFault>
+    ensures { IfOk result (λ _. IsTextOf out.new.items line.now) }
+{
+    put_game_tree(alloc, out, tree, line, depth)?;
     check_problem(alloc, out.as_slice(), line)
 }

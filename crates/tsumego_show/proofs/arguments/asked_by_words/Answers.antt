@@ -1,6 +1,6 @@
-use Rattle.std.proofs.Common.{true, ◌≡◌, ◌∙◌, List, None, Some, IfErr, IfOk, map, string_bytes, ap, sym, subst, refl, inl, inr, ◌⊎◌, arith}
+use Rattle.std.proofs.Common.{true, ◌≡◌, ◌∙◌, List, map, string_bytes, ap, sym, subst, refl, inl, inr, ◌⊎◌, arith}
 use Rattle.std.proofs.lemmas.Result.{IfErr-weaker, IfOk-weaker}
-use Rattle.clap.specs.Words.{App, IsAmong, Row, Text, fault_of, found_of, is_simple, is_simple_and_free, matches_of, rows_of}
+use Rattle.clap.specs.Words.{App, IsAmong, Text, fault_of, found_of, is_simple, is_simple_and_free, matches_of, rows_of}
 use Rattle.clap.specs.Kinds.{HasKind}
 use Rattle.clap.specs.declared.error.kind.ErrorKind.{ErrorKind}
 use Rattle.clap.specs.declared.error.kind.ErrorKind.TheVariants.{DisplayHelp, DisplayVersion, OutOfMemory}

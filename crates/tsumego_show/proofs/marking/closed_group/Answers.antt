@@ -1,8 +1,9 @@
-use Rattle.std.proofs.Common.{sym}
+use Rattle.std.proofs.Common.{refl, sym}
 use Rattle.tsumego_show.proofs.marking.closed_group.Goals as goal
 
 pub returns : goal.returns
 returns c = (
+  refl,
   c.requires,
   record {
     stands = sym c.in_ok-colour.ensures;
