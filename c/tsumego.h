@@ -10,8 +10,9 @@
 
    The caller owns all memory that is passed. Nothing passed may overlap what is written to, or change during the call. Memory
    comes from malloc and realloc. Where they refuse, the program isn't ended: the status says so, or in a search the line, which then
-   is `1 unsettled memory`. Don't call from a signal handler, nor from the forked child of a process with threads. A call needs
-   up to TSUMEGO_STACK bytes of stack: threads of Rust and Java have less if they aren't given more.
+   is `1 unsettled memory`. Where they refuse it to df-pn, the search begins. Don't call from a signal handler, nor from the forked
+   child of a process with threads. A call needs up to TSUMEGO_STACK bytes of stack: threads of Rust and Java have less if they
+   aren't given more.
 
    Link with libtsumego.a; or with libtsumego.so and -Wl,-rpath,FOLDER, so that the program finds it. */
 #ifndef TSUMEGO_H
