@@ -81,9 +81,8 @@ fn is_right(alloc: Global, line: &mut Line, proof: &Proof, winner: Side, room: u
     }
 }
 
-/// How many proofs for the side come of a hundred lots of lies, if none of them is wrong.
-fn proofs_of_lies(alloc: Global, line: &mut Line, winner: Side, side: Side) -> Option<u32> {
-    let mut count = 0_u32;
+/// Whether no wrong proof for the side comes of a hundred lots of lies.
+fn is_lied_in_vain(alloc: Global, line: &mut Line, winner: Side, side: Side) -> Option<bool> {
     for seed in 0..100u64 {
         let mut liar = Liar { state: seed };
         let mut memo = Memo::new(alloc, false).ok()?;
@@ -92,20 +91,20 @@ fn proofs_of_lies(alloc: Global, line: &mut Line, winner: Side, side: Side) -> O
         if let Some(found) = found.ok()? {
             let proof = found.into_proof()?;
             if !is_right(alloc, line, &proof, winner, ROOM) {
-                return None;
+                return Some(false);
             }
-            count = count.saturating_add(1);
         }
     }
-    Some(count)
+    Some(true)
 }
 
-/// Whether no lies make a wrong proof of a row's problem, for either side, and some hit upon a right one.
+/// Whether that holds of a row's problem for both sides.
 fn lies_hold(alloc: Global, row: &[u8]) -> Option<bool> {
     let (winner, mut line) = read(alloc, row)?;
-    let attacks = proofs_of_lies(alloc, &mut line, winner, Side::Attacker)?;
-    let defences = proofs_of_lies(alloc, &mut line, winner, Side::Defender)?;
-    Some(attacks > 0 || defences > 0)
+    Some(
+        is_lied_in_vain(alloc, &mut line, winner, Side::Attacker)?
+            && is_lied_in_vain(alloc, &mut line, winner, Side::Defender)?,
+    )
 }
 
 /// Whether the winner's proof is found at a row's problem with so many visits, no deeper than the room.
