@@ -1,7 +1,7 @@
 -- Sets of points over the stones of a board, word by word.
 use Rattle.std.proofs.Common.{◌≡◌, ℕ, ◌<◌, ◌≤◌, ◌↔◌, Bool, true, false, not, ◌||◌, ◌&&◌, List, [], ◌∷◌, Option, Some}
 use Rattle.std.proofs.Common.{None, refl, sym, ap, ◌∙◌, arith, inl, inr}
-use Rattle.std.specs.List.{list_any, list_all}
+use Rattle.std.specs.List.{list_any}
 use Rattle.std.specs.FinSet as set
 use Rattle.std.specs.Cmp.{unsigned_tied}
 use Rattle.std.specs.Ordering.{nat_cmp, eq_by_cmp}
@@ -15,7 +15,7 @@ use Rattle.tt_board.specs.declared.Colour.TheVariants.{Black, White}
 use Rattle.tt_board.specs.Position.{Colouring}
 use Rattle.tt_board.specs.Reach.{entry_at}
 use Rattle.tt_board.specs.Play.{is_empty, is_stone_of}
-use Rattle.tt_board.specs.Stones.{PointNumberSet, any_empty, all_stones_of, IsEmptyPointOfSet}
+use Rattle.tt_board.specs.Stones.{PointNumberSet, any_empty, IsEmptyPointOfSet}
 
 -- ---- sets
 
@@ -46,15 +46,6 @@ passes_some test (x ∷ xs) p at on = elim (or_cases (eq_by_cmp nat_cmp p x) (li
   | inl here ↦ ap (λ b. b || list_any test xs) (ap test (sym (same_number p x here)) ∙ on)
   | inr there ↦ ap (λ b. test x || b) (passes_some test xs p there on) ∙ or_true (test x)
 ]
-
--- all pass, or one does not
-all_or_one : (test : ℕ → Bool) (xs : List ℕ) → list_all test xs ≡ not (list_any (λ p. not (test p)) xs)
-all_or_one test [] = refl
-all_or_one test (x ∷ xs) = step (test x) (list_all test xs) (list_any (λ p. not (test p)) xs) (all_or_one test xs)
-  where
-    step : (b c d : Bool) → c ≡ not d → (b && c) ≡ not (not b || d)
-    step true c d e = e
-    step false c d e = refl
 
 -- a test that can't be true is false
 decide_not : (b : Bool) → (b ≡ true → ⊥) → b ≡ false
@@ -99,10 +90,6 @@ bits_told None b w x y = rw (x, y) refl
 bits_told (Some Black) b w x y = ap (λ a. a || w) x
 bits_told (Some White) b w x y = rw (x, y) refl
 
-twice : (b : Bool) → (b || b) ≡ b
-twice true = refl
-twice false = refl
-
 -- words of a set that lies on the board
 module _ (s : PointNumberSet) (n : ℕ) (small : n ≤ 361) (within : (p : ℕ) → set.contains s p ≡ true → p < n) (c : Colouring)
     (ws : List ℕ) (is : AreBitsOf ws 361 (λ p. set.contains s p)) where
@@ -114,21 +101,6 @@ module _ (s : PointNumberSet) (n : ℕ) (small : n ≤ 361) (within : (p : ℕ) 
       let facts = λ (p : ℕ) (lt : p < n). (let h : (bit_in xs p || bit_in ys p) ≡ not (is_empty (entry_at c p))
       = bits_told (entry_at c p) (bit_in xs p) (bit_in ys p) (blacks.below p lt (omega arith)) (whites.below p lt (omega arith)) in h) in
       covers_is s n small within ws xs ys is (λ p. is_empty (entry_at c p)) (λ p lt on. facts p lt ∙ ap not on) (λ p lt off. facts p lt ∙ ap not off)
-
-  -- over the words of one colour's stones
-  pub all_is : (k : Colour) (xs : List ℕ) → AreBitsOf xs n (λ p. is_stone_of (entry_at c p) k)
-      → (b : Bool) → ((b ≡ true → IsWithinUnion ws xs xs) × (IsWithinUnion ws xs xs → b ≡ true)) → b ≡ all_stones_of s c k
-  unfolding all_stones_of
-  all_is k xs stones b h =
-      let test = λ (p : ℕ). not (is_stone_of (entry_at c p) k) in
-      let facts = λ (p : ℕ) (lt : p < n). (let h' : (bit_in xs p || bit_in xs p) ≡ is_stone_of (entry_at c p) k = twice (bit_in xs p) ∙ stones.below p lt (omega arith) in h') in
-      sym (not_not b)
-      ∙ ap not (covers_is s n small within ws xs xs is test (λ p lt on. facts p lt ∙ sym (not_not _) ∙ ap not on) (λ p lt off. facts p lt ∙ sym (not_not _) ∙ ap not off) b h)
-      ∙ sym (all_or_one (λ p. is_stone_of (entry_at c p) k) (set.items s))
-    where
-      not_not : (b : Bool) → not (not b) ≡ b
-      not_not true = refl
-      not_not false = refl
 
 -- ---- the next empty point
 

@@ -1,14 +1,13 @@
 -- What stands on the points of a set.
 use Rattle.std.specs.Prelude.{◌≡◌, ℕ, ◌<◌, Bool, true, None}
-use Rattle.std.specs.List.{list_any, list_all}
+use Rattle.std.specs.List.{list_any}
 use Rattle.std.specs.FinSet as set
 use Rattle.std.specs.Ordering.{nat_cmp}
 use Rattle.tt_sgf.specs.declared.size.Size.{Size}
 use Rattle.tt_sgf.specs.Sizes.{point_count}
-use Rattle.tt_board.specs.declared.Colour.{Colour}
 use Rattle.tt_board.specs.Position.{Colouring}
 use Rattle.tt_board.specs.Reach.{entry_at}
-use Rattle.tt_board.specs.Play.{is_empty, is_stone_of}
+use Rattle.tt_board.specs.Play.{is_empty}
 
 -- a set of points
 abbrev pub PointNumberSet : Type 0
@@ -21,10 +20,6 @@ IsSetOnBoard size s = (p : ℕ) → set.contains s p ≡ true → p < point_coun
 -- some point of the set is empty
 unfoldable pub any_empty : PointNumberSet → Colouring → Bool
 any_empty s c = list_any (λ p. is_empty (entry_at c p)) (set.items s)
-
--- a stone of this colour stands on each point of the set
-unfoldable pub all_stones_of : PointNumberSet → Colouring → Colour → Bool
-all_stones_of s c k = list_all (λ p. is_stone_of (entry_at c p) k) (set.items s)
 
 -- the number is that of an empty point of the board that the set has
 abbrev pub IsEmptyPointOfSet : Size → PointNumberSet → Colouring → ℕ → Type 0

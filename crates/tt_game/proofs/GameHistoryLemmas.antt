@@ -51,7 +51,8 @@ game_history_from bs c e =
     same_game_history c.size _ _ _ _ c.passes (ap front e ∙ front_push c.earlier c.present) (ap last e ∙ last_push c.earlier c.present)
 
 -- all boards but the last show the history before the last play
-pub game_history_undone : (g : Size) (bs : List Position) (live passes back : ℕ) → live ≤ length bs → game_history_of g (take (live - 1) bs) back ≡ without_play (game_history_of g (take live bs) passes) back
+pub game_history_undone : (g : Size) (bs : List Position) (live passes back : ℕ) → live ≤ length bs
+    → game_history_of g (take (live - 1) bs) back ≡ without_play (game_history_of g (take live bs) passes) back
 game_history_undone g bs live passes back inside =
     let count : length (colourings (take live bs)) ≡ live = length-colourings (take live bs) ∙ length-take-le live bs inside in
     let fewer : live - 1 ≤ live = omega arith in

@@ -36,10 +36,12 @@ use Rattle.tt_game.specs.Line.{LineWithUndo}
 use Rattle.tt_game.specs.Faults.{least_point, least_with_entry, least_without_liberty, read_mover, read_set}
 use Rattle.tt_game.specs.Nodes.{AB, AE, AW, B, GM, SZ, TR, W, in_two_sets, has, is_go, is_setup, move_count, size_or_default, values_of}
 use Rattle.tt_game.specs.Problems.{posed_problem, problem_of, problem_if_stones, problem_if_targets_valid, read_region, problem_at_node, problem_at_targets}
-use Rattle.tt_game.specs.Records.{and_then, as_turn, at_node, empty_game_of_size, empty_game_for_nodes, empty_game_for_root, setup_or_fault, turn_or_fault, play_node_move, record_of_game, record_of, apply_nodes, set_up_node, set_up_or_fault, step_node}
+use Rattle.tt_game.specs.Records.{and_then, as_turn, at_node, empty_game_of_size, empty_game_for_nodes, empty_game_for_root, setup_or_fault, turn_or_fault}
+use Rattle.tt_game.specs.Records.{play_node_move, record_of_game, record_of, apply_nodes, set_up_node, set_up_or_fault, step_node}
 use Rattle.tt_game.specs.Records.{play_turn_by, play_named_turn, play_next_turn}
 use Rattle.tt_game.specs.RecordLaws.{UnmarkedAreNoProblems}
-use Rattle.tt_game.specs.RecordLaws.{AreMadeByPlays, IsByTheRules, IsFirstRefusal, IsMadeByPlay, FirstRefusalDecides, ProblemsAreGames, RefusalsCarryToProblems, RecordsAreGames, SetupsBeginHistories, RepeatsTestIsExact}
+use Rattle.tt_game.specs.RecordLaws.{AreMadeByPlays, IsByTheRules, IsFirstRefusal, IsMadeByPlay, FirstRefusalDecides, ProblemsAreGames}
+use Rattle.tt_game.specs.RecordLaws.{RefusalsCarryToProblems, RecordsAreGames, SetupsBeginHistories, RepeatsTestIsExact}
 use Rattle.tt_game.specs.Turns.{IsTurnOnBoardOfSize}
 use Rattle.tt_game.proofs.FaultNodes.{begin_at, step_at, step_refused, value_on}
 use Rattle.tt_game.proofs.OpenProblems.{choice, step_made}
@@ -320,7 +322,15 @@ stops_at : (k : ℕ) (r : GameSoFar) (ns : List Node) (e : GameFault) → apply_
 unfolding apply_nodes
 stops_at k r [] e h = let bad : Ok r ≡ Err e = h in cc
 stops_at k r (n ∷ ns) e h = elim (step_refused (step_node (at_node (k + 1) r) n) _ e h) [
-  | inl here ↦ record { front = []; node = n; behind = ns; last = r; parts = refl; taken = refl; refused = ap (λ j. step_node (at_node j r) n) (let same : k + 0 + 1 ≡ k + 1 = omega arith in same) ∙ here }
+  | inl here ↦ record {
+    front = [];
+    node = n;
+    behind = ns;
+    last = r;
+    parts = refl;
+    taken = refl;
+    refused = ap (λ j. step_node (at_node j r) n) (let same : k + 0 + 1 ≡ k + 1 = omega arith in same) ∙ here;
+  }
   | inr on ↦
       let later = stops_at (k + 1) on.0 ns e on.2 in
       record {
@@ -365,7 +375,10 @@ common_size = record { columns = 19; rows = 19; columns_in = (omega arith, omega
 -- the record without a node
 pub empty_record : (r : Record) × (record_of [] ≡ Ok r)
 unfolding record_of apply_nodes common_size
-empty_record = (record_of_game (empty_game common_size), ap (λ o. and_then (empty_game_of_size o) (λ r. and_then (apply_nodes 0 r []) (λ q. Ok (record_of_game q.game)))) (sized_returns_size common_size))
+empty_record = (
+  record_of_game (empty_game common_size),
+  ap (λ o. and_then (empty_game_of_size o) (λ r. and_then (apply_nodes 0 r []) (λ q. Ok (record_of_game q.game)))) (sized_returns_size common_size),
+)
 
 -- a line without a node is never refused
 pub never_empty : (e : GameFault) → record_of [] ≡ Err e → ⊥
@@ -377,7 +390,8 @@ begins_alike [] n ns others = refl
 begins_alike (m ∷ front) n ns others = refl
 
 -- the nodes before a refused one are a record
-pub front_taken : (front : List Node) (n : Node) (ns : List Node) (r q : GameSoFar) → empty_game_for_nodes (front ++ n ∷ ns) ≡ Ok r → apply_nodes 0 r front ≡ Ok q → (s : Record) × (record_of front ≡ Ok s)
+pub front_taken : (front : List Node) (n : Node) (ns : List Node) (r q : GameSoFar) → empty_game_for_nodes (front ++ n ∷ ns) ≡ Ok r
+    → apply_nodes 0 r front ≡ Ok q → (s : Record) × (record_of front ≡ Ok s)
 front_taken [] n ns r q begins runs = empty_record
 front_taken (m ∷ front) n ns r q begins runs =
     (record_of_game q.game, record_begun (m ∷ front) r begins ∙ ap (λ x. and_then x (λ s. Ok (record_of_game s.game))) runs)

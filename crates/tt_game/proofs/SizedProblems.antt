@@ -28,7 +28,8 @@ use Rattle.tt_game.specs.Line.{LineWithUndo}
 use Rattle.tt_game.specs.Faults.{least_point, least_with_entry, least_without_liberty, read_mover, read_set}
 use Rattle.tt_game.specs.Nodes.{AB, AE, AW, B, GM, SZ, TR, W, in_two_sets, has, is_go, is_setup, move_count, size_or_default, values_of}
 use Rattle.tt_game.specs.Problems.{posed_problem, problem_of, problem_if_stones, problem_if_targets_valid, read_region, problem_at_node, problem_at_targets}
-use Rattle.tt_game.specs.Records.{and_then, as_turn, at_node, empty_game_of_size, empty_game_for_nodes, empty_game_for_root, setup_or_fault, turn_or_fault, play_node_move, set_up_node, set_up_or_fault, step_node, play_turn_by, play_named_turn, play_next_turn}
+use Rattle.tt_game.specs.Records.{and_then, as_turn, at_node, empty_game_of_size, empty_game_for_nodes, empty_game_for_root, setup_or_fault, turn_or_fault}
+use Rattle.tt_game.specs.Records.{play_node_move, set_up_node, set_up_or_fault, step_node, play_turn_by, play_named_turn, play_next_turn}
 use Rattle.tt_game.proofs.OpenProblems.{either, step_made}
 
 -- each colouring of the game has an entry for each point
@@ -142,7 +143,8 @@ abbrev HasState : LineWithUndo → Type 0
 HasState p = IsWellFormedState p.frame p.state
 
 -- a problem posed in a game that fits its board has such a state
-state_with : (s : GameState) (region targets : PointNumberSet) (o : Result Colour GameFault) (q : LineWithUndo) → and_then o (λ k. Ok (posed_problem s region targets k)) ≡ Ok q → IsSized s → HasState q
+state_with : (s : GameState) (region targets : PointNumberSet) (o : Result Colour GameFault) (q : LineWithUndo)
+    → and_then o (λ k. Ok (posed_problem s region targets k)) ≡ Ok q → IsSized s → HasState q
 state_with s region targets (Err e) q h sized = let bad : Err _ ≡ Ok q = h in cc
 state_with s region targets (Ok k) q h sized =
     let same : posed_problem s region targets k ≡ q = cc in

@@ -55,7 +55,8 @@ last f s on =
     ap (λ k. map (turn_with_winner f s) (filter (is_legal f s) (map (λ p. Play p) (range_with_len (point_count f.size) k) ++ Pass ∷ []))) none
     ∙ ap (λ b. map (turn_with_winner f s) (cond b (Pass ∷ []) [])) pass
 
-pub from_last : (f : Frame) (s : State) (n : ℕ) → n ≤ point_count f.size → winner_of f s ≡ None → ((q : ℕ) → n ≤ q → IsLegal f s (Play q) → ⊥) → turns_with_winners_from f s n ≡ turn_with_winner f s Pass ∷ []
+pub from_last : (f : Frame) (s : State) (n : ℕ) → n ≤ point_count f.size → winner_of f s ≡ None → ((q : ℕ) → n ≤ q → IsLegal f s (Play q) → ⊥)
+    → turns_with_winners_from f s n ≡ turn_with_winner f s Pass ∷ []
 from_last f s n le on none = from_gap f s n (point_count f.size) le (omega arith) (λ q after before. none q after) ∙ last f s on
 
 -- no turn is legal once somebody has won

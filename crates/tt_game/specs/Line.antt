@@ -54,8 +54,7 @@ IsRefusalOfTurn f s (Play p) Occupied = (winner_of f s ≡ None) × (entry_at s.
 IsRefusalOfTurn f s Pass Outside = ⊥
 IsRefusalOfTurn f s (Play p) Outside = (winner_of f s ≡ None) × (entry_at s.present p ≡ None) × (IsTrue (set.contains f.region p) → ⊥)
 IsRefusalOfTurn f s Pass Repeats = ⊥
-IsRefusalOfTurn f s (Play p) Repeats =
-    (winner_of f s ≡ None) × (entry_at s.present p ≡ None) × IsTrue (set.contains f.region p) × IsInHistory (history s) (colouring_after_play f s p)
+IsRefusalOfTurn f s (Play p) Repeats = (winner_of f s ≡ None) × IsBarredBySuperko f s p
 
 -- an error of a push
 abbrev pub IsPushError : Frame → State → Turn → Refused → Type 0

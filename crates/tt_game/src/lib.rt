@@ -37,7 +37,7 @@ pub use history::bloom_filter::{BloomFilter, board_hash};
 pub use history::snapshot::Snapshot;
 pub use keys::Key;
 pub use line::Line;
-pub use nodes::{first_value, has_move, has_value, named_set, said_size, sets_up};
+pub use nodes::{first_value, has_move, has_value, said_size, sets_up};
 pub use plays::LegalPlays;
 pub use problems::{game_before_solution, node_count_before_solution, problem};
 pub use records::{Record, play_record};

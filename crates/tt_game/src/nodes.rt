@@ -16,7 +16,11 @@ use tt_sgf::{
 /// # Errors
 ///
 /// A value that names no point or rectangle of the board.
-pub fn named_set(properties: &[Property], name: &[u8], size: Size) -> Result<PointSet, BadPoint>
+pub(crate) fn named_set(
+    properties: &[Property],
+    name: &[u8],
+    size: Size,
+) -> Result<PointSet, BadPoint>
     ensures { ReadsSet result (set_of size (values_of name.now properties.now)) }
 {
     let mut points = PointSet::empty();

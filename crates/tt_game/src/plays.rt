@@ -69,7 +69,8 @@ impl<'a> LegalPlays<'a> {
             (turns_with_winners_from self.old.frame self.old.state self.old.from ≡ turn_with_winner self.old.frame self.old.state Turn.Pass ∷ [])
             (λ x. (self.old.from ≤ x.0) × (x.0 < point_count self.old.frame.size) × (self.new.from ≡ x.0 + 1)
             × (x.1 ≡ winner_of self.old.frame (after self.old.frame self.old.state (Turn.Play x.0)))
-            × (turns_with_winners_from self.old.frame self.old.state self.old.from ≡ turn_with_winner self.old.frame self.old.state (Turn.Play x.0) ∷ turns_with_winners_from self.old.frame self.old.state (x.0 + 1))) }
+            × (turns_with_winners_from self.old.frame self.old.state self.old.from
+            ≡ turn_with_winner self.old.frame self.old.state (Turn.Play x.0) ∷ turns_with_winners_from self.old.frame self.old.state (x.0 + 1))) }
     {
         while let Some(p) = self.line.next_empty(&self.moves, self.from) {
             self.from = p.number() + 1;

@@ -174,7 +174,8 @@ module _ (side : Side) (f : Frame) where
     IsReplayOfOutline ns (picked n t o) s r ms =
         (ls : NamedFootprints) × ((ms ≡ with_named_footprint n (kept_footprint r) ls) × IsReplayOfPick s (IsReplayOfOutline ns o (after f s t)) (with_unreached_names ns o) r ls t)
     IsReplayOfOutline ns (replied n bs) s r ms =
-        (ls : NamedFootprints) × ((ms ≡ with_named_footprint n (kept_footprint r) ls) × IsReplayOfReply s (IsReplayOfBranchesAndRepeats s (IsReplayOfBranches ns bs s)) (with_unreached_branch_names ns bs) r ls bs)
+        (ls : NamedFootprints) × ((ms ≡ with_named_footprint n (kept_footprint r) ls)
+        × IsReplayOfReply s (IsReplayOfBranchesAndRepeats s (IsReplayOfBranches ns bs s)) (with_unreached_branch_names ns bs) r ls bs)
     IsReplayOfOutline ns (part k) s r ms = IsResultOfPart f (get_or ns k None) s r × (ms ≡ ns)
 
     -- on branches together

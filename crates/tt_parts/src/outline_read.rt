@@ -1,6 +1,7 @@
 //! Reads certificates with shared parts.
 
 ghost use Rattle.std.specs.Prelude.{◌≡◌, ◌<◌, ◌≤◌, ◌+◌, ◌++◌, ◌∷◌, ℕ, List, [], decimal, IfOk, IfErr, OnOk, MatchOption, MatchResult};
+ghost use Rattle.tt_sgf.specs.declared.size.Size.{Size};
 ghost use Rattle.tt_sgf.specs.declared.size.TheConstants.{MOST_POINTS};
 ghost use Rattle.tt_proof.specs.CertificateText.{pick_symbol, replies_symbol, side_prefix};
 ghost use Rattle.tt_proof.specs.declared.tree.TheConstants.{MOST_DEPTH};
@@ -69,9 +70,8 @@ fn read_part_reference<'a>(
     bytes: &'a [u8],
     left: u16,
     depths: &Vec<u16>,
-    size: Size,
 ) -> Result<(Outline, u16, &'a [u8]), CertFault>
-    ensures { MatchResult result
+    ensures { (size : Size) → MatchResult result
         (λ r. ReadsOutline size left depths.now.items depths.now.items (outline_of r.0) r.1 (part_symbol ∷ bytes.now) r.2.now)
         (λ e. OutlineFaultAt size left depths.now.items (part_symbol ∷ bytes.now) e) }
 {
@@ -108,7 +108,7 @@ fn read_outline<'a>(
                 return Ok((Outline::Done, 0, rest));
             }
             if *first == b'*' {
-                return read_part_reference(rest, left, depths, size);
+                return read_part_reference(rest, left, depths);
             }
             if *first == b'=' {
                 return read_named_outline(alloc, rest, size, left, depths);
@@ -236,17 +236,15 @@ fn read_branches<'a>(
 /// The outline that the bytes behind the side's word spell, whose tree is at most so deep.
 fn read_shared_cert_for_side(
     alloc: Global,
-    bytes: &[u8],
     rest: &[u8],
     s: Side,
     size: Size,
     most_depth: u16,
 ) -> Result<(Side, Outline), CertFault>
-    requires side { bytes.now ≡ side_prefix s ++ rest.now }
-    requires depth { most_depth ≤ MOST_DEPTH }
-    ensures certificate { IfOk result (λ r. IsSharedCertificate size bytes.now r.0 (outline_of r.1)) }
+    requires { most_depth ≤ MOST_DEPTH }
+    ensures certificate { IfOk result (λ r. IsSharedCertificate size (side_prefix s ++ rest.now) r.0 (outline_of r.1)) }
     ensures shallow { IfOk result (λ r. depth (unfolded [] (outline_of r.1)) ≤ most_depth) }
-    ensures fault { IfErr result (λ e. IsSharedCertFault size most_depth bytes.now e) }
+    ensures fault { IfErr result (λ e. IsSharedCertFault size most_depth (side_prefix s ++ rest.now) e) }
 {
     let mut depths = Vec::new(alloc);
     let (outline, _, more) = read_outline(alloc, rest, size, most_depth, &mut depths)?;
@@ -272,7 +270,7 @@ pub(crate) fn read_shared_cert_to_depth(
     let Some((side, rest)) = split_side(bytes) else {
         return Err(CertFault::Syntax);
     };
-    read_shared_cert_for_side(alloc, bytes, rest, side, size, most_depth)
+    read_shared_cert_for_side(alloc, rest, side, size, most_depth)
 }
 
 /// The side and the outline that the bytes are the certificate of, on a board of this size.

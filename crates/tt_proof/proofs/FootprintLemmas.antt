@@ -288,4 +288,4 @@ refused_bars f s (Play p) Occupied r l = r.1 l.2
 refused_bars f s Pass Outside r l = r
 refused_bars f s (Play p) Outside r l = r.2 l.3
 refused_bars f s Pass Repeats r l = r
-refused_bars f s (Play p) Repeats r l = l.4 r.3
+refused_bars f s (Play p) Repeats r l = l.4 r.1.3

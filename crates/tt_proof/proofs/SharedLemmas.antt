@@ -1,5 +1,6 @@
 -- Lists of boards: places, and lists that are joined by one walk.
-use Rattle.std.proofs.Common.{◌≡◌, ◌≢◌, ◌↔◌, ◌<◌, ◌+◌, ◌⊎◌, ℕ, zero, suc, inl, inr, arith, List, [], ◌∷◌, ◌++◌, length, get_or, insert, remove, Contains, Option, Some, None, MatchOption, refl, sym, ap, subst, ◌∙◌}
+use Rattle.std.proofs.Common.{◌≡◌, ◌≢◌, ◌↔◌, ◌<◌, ◌+◌, ◌⊎◌, ℕ, zero, suc, inl, inr, arith, List, [], ◌∷◌, ◌++◌, length, get_or}
+use Rattle.std.proofs.Common.{insert, remove, Contains, Option, Some, None, MatchOption, refl, sym, ap, subst, ◌∙◌}
 use Rattle.std.proofs.lemmas.Bool.{cases_lt}
 use Rattle.std.proofs.lemmas.List.Sorted.{IsPermutation-remove, IsPermutation-insert, IsPermutation-sym, Contains-permutation}
 use Rattle.std.specs.List.Sorted.{IsPermutation}

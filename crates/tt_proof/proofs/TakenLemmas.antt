@@ -66,7 +66,8 @@ module _ (p : ProofClaim) (f : Frame) (s : State) (x : Footprint) (bs : List Pos
       ∙ ap front (sym (drop-map (λ b. b.points) n bs)) ∙ ap (λ cs. front (drop n cs)) shows in
       let sized = All-take (λ (b : Position). b.size ≡ f.size) k (drop n bs) (All-drop (λ (b : Position). b.size ≡ f.size) n bs sizes) in
       let there = board_in f (take k (drop n bs)) c sized (subst (λ cs. IsIn cs c) (sym same) m) in
-      All-contains (λ (b : Position). MayContainBoard x.met b → Contains (history p.state) b.points) (take k (drop n bs)) (board_of_colouring f c) low (contains_of_in (take k (drop n bs)) (board_of_colouring f c) there)
+      All-contains (λ (b : Position). MayContainBoard x.met b → Contains (history p.state) b.points) (take k (drop n bs)) (board_of_colouring f c) low
+      (contains_of_in (take k (drop n bs)) (board_of_colouring f c) there)
 
   -- so what the tree meets is in the line's history only where it is in the proof's
   unmet : p.frame ≡ f → IsFootprint p.frame p.state p.tree x → s.present ≡ p.state.present → (c : Colouring) → IsMet p.frame p.tree p.state c →

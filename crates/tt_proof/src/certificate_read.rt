@@ -233,18 +233,16 @@ pub fn split_side(bytes: &[u8]) -> Option<(Side, &[u8])>
     Some((Side::Defender, rest))
 }
 
-/// The side and the tree that the bytes spell, where `rest` follows the side's word.
+/// The side and the tree that the side's word spells with these bytes behind it.
 fn read_cert_for_side(
     alloc: Global,
-    bytes: &[u8],
     rest: &[u8],
     s: Side,
     size: Size,
 ) -> Result<(Side, Tree), CertFault>
-    requires { bytes.now ≡ side_prefix s ++ rest.now }
     ensures { MatchResult result
-        (λ r. IsCertificate size bytes.now r.0 (strategy_of r.1) × (IsTooDeep size bytes.now → ⊥))
-        (λ e. IsCertFault size bytes.now e) }
+        (λ r. IsCertificate size (side_prefix s ++ rest.now) r.0 (strategy_of r.1) × (IsTooDeep size (side_prefix s ++ rest.now) → ⊥))
+        (λ e. IsCertFault size (side_prefix s ++ rest.now) e) }
 {
     let (tree, more) = read_strategy(alloc, rest, size, MOST_DEPTH)?;
     if more.is_empty() {
@@ -264,5 +262,5 @@ pub fn read_cert(alloc: Global, bytes: &[u8], size: Size) -> Result<(Side, Tree)
     let Some((side, rest)) = split_side(bytes) else {
         return Err(CertFault::Syntax);
     };
-    read_cert_for_side(alloc, bytes, rest, side, size)
+    read_cert_for_side(alloc, rest, side, size)
 }

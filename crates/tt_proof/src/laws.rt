@@ -1,6 +1,7 @@
 //! Laws of trees and of certificates, over the definitions alone.
 
-ghost use Rattle.tt_proof.specs.StrategyLaws.{WinningStrategyForces, StrategyToLifeForces, WinsAreWinsOrLives, FittingTreesWin, FittingTreesWinOrLive, FootprintsCarryOverIfUnmet, NeedsLosePlayedColouring, OneStrategyPerTextPrefix, OneStrategyPerCertificate, StrategyOfEquations};
+ghost use Rattle.tt_proof.specs.StrategyLaws.{WinningStrategyForces, StrategyToLifeForces, WinsAreWinsOrLives, FittingTreesWin, FittingTreesWinOrLive, FootprintsCarryOverIfUnmet};
+ghost use Rattle.tt_proof.specs.StrategyLaws.{NeedsLosePlayedColouring, OneStrategyPerTextPrefix, OneStrategyPerCertificate, StrategyOfEquations};
 
 /// A winning tree of depth n makes its side force a win within n turns.
 pub fn l1()

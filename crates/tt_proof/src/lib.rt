@@ -29,7 +29,7 @@ mod tree;
 mod tree_builders;
 
 pub use board_set::BoardSet;
-pub use board_set_bounds::{BoardSetBound, is_board_within};
+pub use board_set_bounds::BoardSetBound;
 pub use certificate_read::{CertFault, read_cert, read_turn, split_side, strip_reply_end};
 pub use certificate_stops::certificate_stop;
 pub use certificate_write::{put_readable_turn, put_turn, write_cert};

@@ -1,10 +1,10 @@
 -- What steps together ask for, and what they spend.
-use Rattle.std.proofs.Common.{◌≡◌, ◌≢◌, ◌↔◌, ℕ, ◌+◌, ◌-◌, ◌^◌, ◌<◌, ◌⊎◌, Bool, true, false, Some, inl, inr, refl, sym, ◌∙◌, ap, subst, arith}
+use Rattle.std.proofs.Common.{◌≡◌, ◌↔◌, ℕ, ◌+◌, ◌-◌, ◌^◌, ◌<◌, ◌⊎◌, Bool, true, false, Some, inl, inr, refl, sym, ◌∙◌, ap, subst, arith}
 use Rattle.tt_search.specs.Grants.{GrantTally, IsAskOfStep}
 use Rattle.tt_search.specs.inside.Asking.{AreAsked}
 use Rattle.tt_search.specs.PartialTree.{PartialTree}
 use Rattle.tt_search.specs.inside.Walking.{Stand, Stage}
-use Rattle.tt_search.specs.inside.Taken.{Taken, IsLeft}
+use Rattle.tt_search.specs.inside.Taken.{Taken}
 use Rattle.tt_search.specs.SearchState.{SearchState}
 use Rattle.tt_search.specs.RunEnds.{HasGrantPerExpansion, IsTallyAfterRun}
 use Rattle.tt_search.specs.declared.search.End.TheVariants as end

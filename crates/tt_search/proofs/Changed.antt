@@ -114,7 +114,8 @@ sum_changed m xs i l h =
 -- ---- children
 
 -- the numbers with another tree at an index
-numbers_set : (goal : Side) (trees : List PartialTree) (i : ℕ) (tree : PartialTree) → child_numbers goal (children_of (set trees i tree)) ≡ set (child_numbers goal (children_of trees)) i (number goal tree)
+numbers_set : (goal : Side) (trees : List PartialTree) (i : ℕ) (tree : PartialTree)
+    → child_numbers goal (children_of (set trees i tree)) ≡ set (child_numbers goal (children_of trees)) i (number goal tree)
 numbers_set goal [] i tree = refl
 numbers_set goal (t ∷ trees) zero tree = refl
 numbers_set goal (t ∷ trees) (suc i) tree = ap (λ ns. number goal t ∷ ns) (numbers_set goal trees i tree)

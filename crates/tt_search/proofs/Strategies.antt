@@ -69,7 +69,8 @@ all_zero side (more tree children) e =
 -- ---- who is to move
 
 -- where the side to move has the number 0, so is the least of the children's
-pub own_zero : (side mover : Side) (turns : List Turn) (children : Children) → is_same_side side mover ≡ true → number side (expanded mover turns children) ≡ 0 → least (child_numbers side children) ≡ 0
+pub own_zero : (side mover : Side) (turns : List Turn) (children : Children) → is_same_side side mover ≡ true
+    → number side (expanded mover turns children) ≡ 0 → least (child_numbers side children) ≡ 0
 own_zero Attacker Attacker turns children e z = z
 own_zero Attacker Defender turns children e z = cc
 own_zero Defender Attacker turns children e z = cc
@@ -200,4 +201,5 @@ mutual
 -- the strategy of a settled tree makes a proof
 pub makes_proof : (side : Side) (f : Frame) (s : State) (tree : PartialTree) (strategy : Strategy) → strategy ≡ strategy_for side tree → number side tree ≡ 0
     → IsPartialTree f s tree → StaysWithin f.size 512 tree → IsWinningTree side f s strategy
-makes_proof side f s tree strategy e z p h = subst (IsWinningTree side f s) (sym e) (record { wins = wins side f s tree p z; shallow = low side f.size 512 tree h; in_order = in_order side f s 512 tree p h })
+makes_proof side f s tree strategy e z p h =
+    subst (IsWinningTree side f s) (sym e) (record { wins = wins side f s tree p z; shallow = low side f.size 512 tree h; in_order = in_order side f s 512 tree p h })

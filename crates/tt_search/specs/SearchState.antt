@@ -1,8 +1,8 @@
 -- What contracts see of a search, and what a step of it does.
-use Rattle.std.specs.Prelude.{◌≡◌, ◌<◌, ◌≤◌}
+use Rattle.std.specs.Prelude.{◌≡◌, ◌<◌}
 use Rattle.tt_game.specs.Line.{LineWithUndo}
 use Rattle.tt_search.specs.PartialTree.{PartialTree}
-use Rattle.tt_search.specs.Numbers.{number, count, IsUndecided}
+use Rattle.tt_search.specs.Numbers.{count, IsUndecided}
 use Rattle.tt_search.specs.MostProving.{most_proving_depth}
 use Rattle.tt_search.specs.Growing.{IsExpansion, IsClosing}
 use Rattle.tt_search.specs.declared.limits.Limits.{Limits}

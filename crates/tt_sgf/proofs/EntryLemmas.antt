@@ -15,7 +15,8 @@ use Rattle.std.specs.Option.{is_some}
 use Rattle.std.proofs.lemmas.Option.{same_Some}
 use Rattle.tt_sgf.specs.Grammar.{is_blank}
 use Rattle.tt_sgf.specs.Values.{StandsAloneIn, trimmed}
-use Rattle.tt_sgf.specs.PointLists.{IsEntryWithCorners, IsPointOrRectangle, Covers, SomeEntryCovers, AreEntries, are_letters_on_board, rectangle_between, rectangle_of_text, in_rectangle, rectangle_covers, covers, is_entry, set_of}
+use Rattle.tt_sgf.specs.PointLists.{IsEntryWithCorners, IsPointOrRectangle, Covers, SomeEntryCovers, AreEntries, are_letters_on_board}
+use Rattle.tt_sgf.specs.PointLists.{rectangle_between, rectangle_of_text, in_rectangle, rectangle_covers, covers, is_entry, set_of}
 use Rattle.tt_sgf.specs.Points.{passing}
 use Rattle.tt_sgf.specs.laws.PointLaws.{contains-passing}
 use Rattle.tt_sgf.proofs.NumberLemmas.{trimmed_is, trimmed_stands}

@@ -4,7 +4,8 @@ use Rattle.std.proofs.lemmas.Bool.{eqb-true, le-leb, cases_Bool, cases_lt, lt-le
 use Rattle.std.proofs.lemmas.List.{append-nil, drop_more, drop_all}
 use Rattle.tt_sgf.specs.Bytes.{digit_0, plus}
 use Rattle.tt_sgf.specs.Grammar.{is_blank, is_digit, AreBlanks}
-use Rattle.tt_sgf.specs.Values.{after_blanks, StandsAloneIn, AreDigits, value_of_digits, IsNumeral, IsUnsignedNumber, prepend_unless_last_blank, without_end, trimmed, bounded_value_of_digits, value_of_some_digits, without_plus, numeral_of, number_of}
+use Rattle.tt_sgf.specs.Values.{after_blanks, StandsAloneIn, AreDigits, value_of_digits, IsNumeral, IsUnsignedNumber, prepend_unless_last_blank}
+use Rattle.tt_sgf.specs.Values.{without_end, trimmed, bounded_value_of_digits, value_of_some_digits, without_plus, numeral_of, number_of}
 use Rattle.tt_sgf.proofs.TokenLemmas.{after_blanks-again, after_blanks-other, after_blanks-nil, blanks_take}
 
 -- ---- white space at the end
@@ -84,7 +85,8 @@ trimmed_is (b ∷ bs) bytes n s =
 -- ---- digits
 
 -- a first byte: a digit that fits, one that makes the number too large, or no digit
-pub bounded_value_of_digits-digit : (n b : ℕ) (bs : List ℕ) → is_digit b ≡ true → n * 10 + (b - digit_0) ≤ 65535 → bounded_value_of_digits n (b ∷ bs) ≡ bounded_value_of_digits (n * 10 + (b - digit_0)) bs
+pub bounded_value_of_digits-digit : (n b : ℕ) (bs : List ℕ) → is_digit b ≡ true → n * 10 + (b - digit_0) ≤ 65535
+    → bounded_value_of_digits n (b ∷ bs) ≡ bounded_value_of_digits (n * 10 + (b - digit_0)) bs
 unfolding bounded_value_of_digits
 bounded_value_of_digits-digit n b bs e h = rw (e, le-leb (n * 10 + (b - digit_0)) 65535 h) refl
 
@@ -203,9 +205,11 @@ some_is (b ∷ bs) e = refl
 
 module _ (bytes : List ℕ) (i n : ℕ) (lt : i < length bytes) (so_far : bounded_value_of_digits n (drop i bytes) ≡ bounded_value_of_digits 0 bytes) where
   -- one digit more that fits: the total stays
-  pub digits_more : (m : ℕ) → is_digit (get_or bytes i 0) ≡ true → m ≡ n * 10 + (get_or bytes i 0 - digit_0) → m ≤ 65535 → bounded_value_of_digits m (drop (i + 1) bytes) ≡ bounded_value_of_digits 0 bytes
+  pub digits_more : (m : ℕ) → is_digit (get_or bytes i 0) ≡ true → m ≡ n * 10 + (get_or bytes i 0 - digit_0) → m ≤ 65535
+      → bounded_value_of_digits m (drop (i + 1) bytes) ≡ bounded_value_of_digits 0 bytes
   digits_more m e is le =
-      ap (λ (x : ℕ). bounded_value_of_digits x (drop (i + 1) bytes)) is ∙ sym (bounded_value_of_digits-digit n (get_or bytes i 0) (drop (i + 1) bytes) e (omega arith)) ∙ ap (bounded_value_of_digits n) (sym (drop_more bytes i 0 lt)) ∙ so_far
+      ap (λ (x : ℕ). bounded_value_of_digits x (drop (i + 1) bytes)) is ∙ sym (bounded_value_of_digits-digit n (get_or bytes i 0) (drop (i + 1) bytes) e (omega arith))
+      ∙ ap (bounded_value_of_digits n) (sym (drop_more bytes i 0 lt)) ∙ so_far
 
   -- a digit that makes the number too large: there is no total
   pub digits_past : is_digit (get_or bytes i 0) ≡ true → 65535 < n * 10 + (get_or bytes i 0 - digit_0) → bounded_value_of_digits 0 bytes ≡ None

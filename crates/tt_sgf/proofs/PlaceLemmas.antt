@@ -1,5 +1,6 @@
 -- The walk from byte to byte, against the grammar.
-use Rattle.std.proofs.Common.{◌≡◌, ◌≢◌, ℕ, zero, suc, ◌+◌, ◌<◌, ◌≤◌, ◌⊎◌, inl, inr, Bool, true, false, ◌&&◌, ◌||◌, cond, eqb, List, [], ◌∷◌, ◌++◌, length, get_or, take, refl, sym, ap, subst, ◌∙◌, append_assoc, arith}
+use Rattle.std.proofs.Common.{◌≡◌, ◌≢◌, ℕ, zero, suc, ◌+◌, ◌<◌, ◌≤◌, ◌⊎◌, inl, inr, Bool, true, false, ◌&&◌, ◌||◌, cond, eqb}
+use Rattle.std.proofs.Common.{List, [], ◌∷◌, ◌++◌, length, get_or, take, refl, sym, ap, subst, ◌∙◌, append_assoc, arith}
 use Rattle.std.specs.List.{filter, list_any}
 use Rattle.std.proofs.lemmas.Bool.{eqb-true}
 use Rattle.std.proofs.lemmas.List.{take_all, take_more}
@@ -8,7 +9,8 @@ use Rattle.tt_sgf.specs.declared.nodes.Node.{Node as NodeRecord}
 use Rattle.tt_sgf.specs.declared.nodes.Property.{Property}
 use Rattle.tt_sgf.specs.declared.stops.Place.{Place}
 use Rattle.tt_sgf.specs.declared.stops.Place.TheVariants.{Outside, Opened, Node, Name, Named, Value, Trees as Behind, Done, Stuck}
-use Rattle.tt_sgf.specs.Grammar.{is_blank, is_letter_or_digit, is_upper, is_digit, is_lower, is_kept_in_name, AreBlanks, IsRawValue, AreLettersOrDigits, AreValues, AreProperties, AreNodes, GameTree, Trees, game, no_tree, more_trees, Spells, AreTrees, FirstTreeEndsAt}
+use Rattle.tt_sgf.specs.Grammar.{is_blank, is_letter_or_digit, is_upper, is_digit, is_lower, is_kept_in_name, AreBlanks, IsRawValue, AreLettersOrDigits}
+use Rattle.tt_sgf.specs.Grammar.{AreValues, AreProperties, AreNodes, GameTree, Trees, game, no_tree, more_trees, Spells, AreTrees, FirstTreeEndsAt}
 use Rattle.tt_sgf.specs.inside.Places.{closed, at_bracket, in_node, at_value, step, run}
 use Rattle.tt_sgf.specs.Stops.{BeginsSomeTree, StopsAt}
 use Rattle.tt_sgf.proofs.FirstTreeLemmas.{or_false}

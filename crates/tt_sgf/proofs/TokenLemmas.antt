@@ -167,7 +167,8 @@ word_again (b ∷ bs) r h e =
 pub word_takes : (bytes : List ℕ) → AreLettersOrDigits (word_of bytes) × (bytes ≡ word_of bytes ++ after_word bytes) × (begins is_letter_or_digit (after_word bytes) ≡ false)
 word_takes [] = rw (word_of-other [] refl, after_word-other [] refl) (tt, refl, refl)
 word_takes (b ∷ bs) =
-    elim (is_letter_or_digit b) as (λ t. is_letter_or_digit b ≡ t → AreLettersOrDigits (word_of (b ∷ bs)) × (b ∷ bs ≡ word_of (b ∷ bs) ++ after_word (b ∷ bs)) × (begins is_letter_or_digit (after_word (b ∷ bs)) ≡ false)) [
+    elim (is_letter_or_digit b) as (λ t. is_letter_or_digit b ≡ t
+    → AreLettersOrDigits (word_of (b ∷ bs)) × (b ∷ bs ≡ word_of (b ∷ bs) ++ after_word (b ∷ bs)) × (begins is_letter_or_digit (after_word (b ∷ bs)) ≡ false)) [
       | true ↦ λ e. let r = word_takes bs in rw (word_of-word b bs e, after_word-word b bs e) ((e, r.0), ap (λ (x : List ℕ). b ∷ x) r.1, r.2)
       | false ↦ λ e. rw (word_of-other (b ∷ bs) e, after_word-other (b ∷ bs) e) (tt, refl, e)
     ] refl

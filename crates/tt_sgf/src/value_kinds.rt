@@ -3,7 +3,8 @@
 ghost use Rattle.std.specs.Prelude.{◌≡◌, ℕ, ◌↔◌, [], ◌∷◌, Some, None, MatchOption};
 ghost use Rattle.tt_sgf.specs.declared.size.PointOrPass.{PointOrPass};
 ghost use Rattle.tt_sgf.specs.declared.size.Size.{Size};
-ghost use Rattle.tt_sgf.specs.Values.{IsUnsignedNumber, IsPointOrPass, trimmed, value_of_some_digits, number_of, numeral_of, before_colon, behind_colon, size_of, IsBoardSize, without_end, lettered_point, point_of};
+ghost use Rattle.tt_sgf.specs.Values.{IsUnsignedNumber, IsPointOrPass, trimmed, value_of_some_digits, number_of, numeral_of, before_colon};
+ghost use Rattle.tt_sgf.specs.Values.{behind_colon, size_of, IsBoardSize, without_end, lettered_point, point_of};
 
 use crate::size::{PointOrPass, Size, point_from_number};
 use crate::tokens::{is_blank, is_digit, skip_blanks};

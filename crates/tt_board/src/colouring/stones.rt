@@ -9,7 +9,7 @@ use crate::board::Board;
 use tt_sgf::{Bits, PointSet};
 
 impl Board {
-    ghost use Rattle.tt_board.specs.Stones.{IsSetOnBoard, any_empty, all_stones_of, IsEmptyPointOfSet};
+    ghost use Rattle.tt_board.specs.Stones.{IsSetOnBoard, any_empty, IsEmptyPointOfSet};
 
     /// Whether some of these points of the board is empty.
     pub fn has_some_empty(&self, points: &PointSet) -> bool
@@ -19,15 +19,6 @@ impl Board {
         let black = self.bits(Colour::Black);
         let white = self.bits(Colour::White);
         !points.bits().is_within_union(black, white)
-    }
-
-    /// Whether stones of this colour stand on all of these points of the board.
-    pub fn has_stones_on_all(&self, points: &PointSet, colour: Colour) -> bool
-        requires { IsSetOnBoard self.now.size points.now }
-        ensures { result ≡ all_stones_of points.now self.now.points colour }
-    {
-        let stones = self.bits(colour);
-        points.bits().is_within_union(stones, stones)
     }
 
     /// The empty points of the board among these, as bits; numbers past the board may have theirs too.

@@ -104,7 +104,8 @@ rising-legal_turns f s =
     let p = is_legal f s in
     subst (λ ts. IsRising f ts) (sym (filter-append p (plays_on_first n) (Pass ∷ []))) (last (p Pass) (rises_plays f p n))
   where
-    last : (b : Bool) → RisesBelow f (point_count f.size) (filter (is_legal f s) (plays_on_first (point_count f.size))) → IsRising f (filter (is_legal f s) (plays_on_first (point_count f.size)) ++ cond b (Pass ∷ []) [])
+    last : (b : Bool) → RisesBelow f (point_count f.size) (filter (is_legal f s) (plays_on_first (point_count f.size)))
+        → IsRising f (filter (is_legal f s) (plays_on_first (point_count f.size)) ++ cond b (Pass ∷ []) [])
     last true h = rising_push f _ Pass h.rising h.below
     last false h = rw Rattle.std.proofs.lemmas.List.append-nil h.rising
 
@@ -114,7 +115,14 @@ unfolding legal_turns all_turns
 length-legal_turns f s =
     let n = point_count f.size in
     let all : length (plays_on_first n ++ Pass ∷ []) ≡ length (plays_on_first n) + 1 = length_push (plays_on_first n) Pass in
-    omega (arith, length-filter (is_legal f s) (plays_on_first n ++ Pass ∷ []), count_by-le-length (is_legal f s) (plays_on_first n ++ Pass ∷ []), all, length-map-range_with_len (λ q. Play q) 0 n, point_count_is_bounded f.size)
+    omega (
+      arith,
+      length-filter (is_legal f s) (plays_on_first n ++ Pass ∷ []),
+      count_by-le-length (is_legal f s) (plays_on_first n ++ Pass ∷ []),
+      all,
+      length-map-range_with_len (λ q. Play q) 0 n,
+      point_count_is_bounded f.size,
+    )
 
 -- ---- the legal turns, turn by turn
 

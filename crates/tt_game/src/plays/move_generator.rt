@@ -58,7 +58,7 @@ impl Line {
             colour,
             empty,
             no_capture,
-            new_colouring: self.some_with_new_colouring(colour, &no_capture, &stood),
+            new_colouring: self.some_with_new_colouring(&no_capture, &stood),
             stood,
             sum: self.unfinished_board_hash(),
         }
@@ -82,11 +82,10 @@ impl Line {
     }
 
     /// Those of these points on which a play of the side to move makes a new colouring, since its stones never stood there.
-    fn some_with_new_colouring(&self, colour: Colour, no_capture: &Bits, stood: &Bits) -> Bits
-        requires colour { colour ≡ side_colour self.now.frame self.now.state.to_move }
+    fn some_with_new_colouring(&self, no_capture: &Bits, stood: &Bits) -> Bits
         requires no_capture { (p : ℕ) → p < point_count self.now.frame.size → bit_in no_capture.now.words p ≡ true
             → IsPlayOfKind NoCapture self.now.frame.size self.now.state.present (side_colour self.now.frame self.now.state.to_move) p }
-        requires stood { IncludesStoodPoints colour self.now.frame.size (history self.now.state) stood.now.words }
+        requires stood { IncludesStoodPoints (side_colour self.now.frame self.now.state.to_move) self.now.frame.size (history self.now.state) stood.now.words }
         ensures { (p : ℕ) → p < point_count self.now.frame.size → bit_in result.words p ≡ true → IsForetoldKind NoCapture self.now.frame self.now.state p }
     {
         no_capture.minus(stood)

@@ -10,7 +10,8 @@ eliminate-left-requires-clause-on_board c =
 
 pub returns : goal.returns
 returns c =
-    let own = own_stones c.args.frame.now c.args.board.now.points (point_count c.args.board.now.size) (ap point_count c.requires.same_size) c.bits-defenders.result.now.words c.bits-defenders.ensures in
+    let own = own_stones c.args.frame.now c.args.board.now.points (point_count c.args.board.now.size) (ap point_count c.requires.same_size)
+    c.bits-defenders.result.now.words c.bits-defenders.ensures in
     let most = c.eliminate-left.ensures.most c.args.board.now.points c.ground_of-ground.ensures.ground own in (
       λ h. targets_left c.args.frame.now c.args.board.now.points (point_count c.args.board.now.size) (ap point_count c.requires.same_size) c.bits-defenders.result.now.words c.bits-defenders.ensures
           c.eliminate-left.result.words c.bits-targets.result.now.words c.bits-targets.ensures c.requires.targets_on_board most (c.is_within_union.ensures.0 h),

@@ -1,7 +1,6 @@
 use Rattle.std.proofs.Common.{◌<◌, sym, ◌∙◌, arith}
 use Rattle.std.proofs.lemmas.Bool.{true≢false, and_parts}
 use Rattle.tt_sgf.specs.Sizes.{point_count}
-use Rattle.tt_sgf.specs.MachineWords.{bit_in}
 use Rattle.tt_life.proofs.LinkedSetLemmas.{small}
 use Rattle.tt_life.proofs.EyeLemmas.{start_empty}
 use Rattle.tt_life.proofs.FoundEyesLemmas.{eyes_to, eyes_none, eyes_one, eyes_all}

@@ -16,6 +16,10 @@ read_outline-returns-then-first-eq46 t c =
     (reads_done c.args.size c.args.left c.args.depths.now.items c.args.bytes.now c.in-Some.rest.now
     (c.in-Some.ensures.cases.0 ∙ ap (λ b. b ∷ c.in-Some.rest.now) c.if-first-eq46.true))
 
+pub read_outline-returns-then-first-eq42 : goal.read_outline-returns-then-first-eq42
+read_outline-returns-then-first-eq42 t c =
+    rw (c.in-Some.ensures.cases.0 ∙ ap (λ b. b ∷ c.in-Some.rest.now) c.if-first-eq42.true) (c.read_part_reference.ensures c.args.size)
+
 pub read_branches-returns-in-Some : goal.read_branches-returns-in-Some
 read_branches-returns-in-Some t c =
     walked_end c.args.size c.args.left c.loop-rest.least c.loop-rest.most c.args.depths.now.items c.loop-rest.depths.items c.args.bytes.now

@@ -1,8 +1,8 @@
-use Rattle.std.proofs.Common.{◌++◌, [], map, length, refl, sym, ap, subst, ◌∙◌, arith}
-use Rattle.tt_game.specs.Turns.{TurnWithWinner, turns_with_winners_from}
+use Rattle.std.proofs.Common.{map, length, refl, sym, ap, subst, ◌∙◌, arith}
+use Rattle.tt_game.specs.Turns.{TurnWithWinner}
 use Rattle.tt_game.specs.laws.TurnLaws.{turns_from_0_are_all}
 use Rattle.tt_search.specs.Growing.{leaf_with_winner}
-use Rattle.tt_search.specs.inside.Edges.{edge_turns, edge_trees, grown_in}
+use Rattle.tt_search.specs.inside.Edges.{grown_in}
 use Rattle.tt_search.proofs.Indices.{grown_push}
 use Rattle.tt_search.proofs.Successors.{turns_of-successors, turns_more, leaves_more, turns_last, leaves_last}
 use Rattle.tt_search.specs.inside.Expanding.{AreNewEdges}

@@ -5,12 +5,11 @@ use Rattle.tt_search.specs.declared.tree.edges.Edge.{Edge}
 use Rattle.std.proofs.lemmas.List.{length_push}
 use Rattle.tt_sgf.specs.declared.size.TheConstants.{MOST_POINTS}
 use Rattle.tt_sgf.specs.laws.SizeLaws.{point_count_is_bounded}
-use Rattle.tt_game.specs.Turns.{TurnWithWinner, turns_with_winners_from}
-use Rattle.tt_game.specs.declared.turns.Turn.TheVariants.{Play}
+use Rattle.tt_game.specs.Turns.{TurnWithWinner}
 use Rattle.tt_search.specs.declared.tree.edges.EdgeState.TheVariants.{Fresh}
 use Rattle.tt_game.specs.laws.TurnLaws.{turns_from_0_are_all}
 use Rattle.tt_search.specs.Growing.{leaf_with_winner}
-use Rattle.tt_search.specs.inside.Edges.{edge_state_of, tree_of, edge_turns, edge_trees, AreFresh}
+use Rattle.tt_search.specs.inside.Edges.{edge_state_of, tree_of, AreFresh}
 use Rattle.tt_search.specs.inside.Untried.{AreBelow, fresh_edge, plays_and_pass}
 use Rattle.tt_search.proofs.FreshRows.{fresh_edge_state}
 use Rattle.tt_search.proofs.Successors.{turns_of-successors, turns_more, leaves_more, turns_last, leaves_last}

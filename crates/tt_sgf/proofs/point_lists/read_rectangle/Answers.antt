@@ -41,7 +41,8 @@ returns-then-text-eq58 c =
     let e = c.in_ok-column-2.ensures in
     let f = c.in_ok-other_column.ensures in
     ap (λ (r : Rectangle). Some r) (c.rectangle_between-then-text-eq58.ensures ∙ between_is _ _ _ _ _ _ _ _ e.1 e.2 f.1 f.2)
-    ∙ sym (ap (rectangle_of_text size) (five text c.if-text-eq5.true) ∙ five_in size (get_or text 0 0) (get_or text 1 0) (get_or text 2 0) (get_or text 3 0) (get_or text 4 0) c.if-text-eq58.true e.0 f.0)
+    ∙ sym (ap (rectangle_of_text size) (five text c.if-text-eq5.true)
+    ∙ five_in size (get_or text 0 0) (get_or text 1 0) (get_or text 2 0) (get_or text 3 0) (get_or text 4 0) c.if-text-eq58.true e.0 f.0)
 
 pub returns : goal.returns
 returns c =

@@ -21,7 +21,8 @@ returns c = λ g col fits on free is.
     let one : 1 * 2 ^ (p % 64) % 2 ^ 64 ≡ 2 ^ (p % 64) =
     ap (λ n. n % 2 ^ 64) (omega arith) ∙ mod-eq_of_lt (pow-lt small) in
     let m = c.from-n.result in
-    let shape : c.filter_index_of_sum.result ≡ (c.args.sum + 1 * 2 ^ (m % 64) % 2 ^ 64 * get_or MIXER_POWERS (c.match-colour.first - m / 64) 0 % 2 ^ 64) % 2 ^ 64 * MIXER % 2 ^ 64 / FILTER_HASH_DIVISOR % FILTER_BITS =
+    let shape : c.filter_index_of_sum.result
+    ≡ (c.args.sum + 1 * 2 ^ (m % 64) % 2 ^ 64 * get_or MIXER_POWERS (c.match-colour.first - m / 64) 0 % 2 ^ 64) % 2 ^ 64 * MIXER % 2 ^ 64 / FILTER_HASH_DIVISOR % FILTER_BITS =
     c.filter_index_of_sum.ensures in
     let made : c.filter_index_of_sum.result ≡ (c.args.sum + 2 ^ (p % 64) * get_or MIXER_POWERS weights 0 % 2 ^ 64) % 2 ^ 64 * MIXER % 2 ^ 64 / FILTER_HASH_DIVISOR % FILTER_BITS =
     shape ∙ ap (λ n. (c.args.sum + 1 * 2 ^ (n % 64) % 2 ^ 64 * get_or MIXER_POWERS (c.match-colour.first - n / 64) 0 % 2 ^ 64) % 2 ^ 64 * MIXER % 2 ^ 64 / FILTER_HASH_DIVISOR % FILTER_BITS) index

@@ -29,4 +29,4 @@ returns c = λ p on bit.
     let fits : length l.state.present ≡ point_count l.frame.size =
     sym (length-set l.state.present p (Some k)) ∙ ap length (sym facts) ∙ length-play_of l.frame.size l.state.present k p in
     let new : bit_in stood p ≡ false = not_other (bit_in c.args.no_capture.now.words p) (bit_in stood p) left in
-    no_capture_where_new l.frame l.state k p refl fits on facts (λ d has stone. false≢true (sym new ∙ c.requires.stood d p has on (stone ∙ ap Some (sym c.requires.colour))))
+    no_capture_where_new l.frame l.state k p refl fits on facts (λ d has stone. false≢true (sym new ∙ c.requires.stood d p has on stone))

@@ -39,7 +39,8 @@ returns c = λ col p has on stone.
     let few : point_count f.size ≤ 361 = point_count_is_bounded f.size in
     c.or.ensures p (omega (arith, on, few)) ∙ elim (Contains-append_cases (take n h) (drop n h) col parts) [
       | inl early ↦
-          let stones : AreStonesOf k root.begun c.stones_on_any_board.result.now.words = subst (λ (r : Rooted). AreStonesOf k r.begun c.stones_on_any_board.result.now.words) two c.stones_on_any_board.ensures in
+          let stones : AreStonesOf k root.begun c.stones_on_any_board.result.now.words
+          = subst (λ (r : Rooted). AreStonesOf k r.begun c.stones_on_any_board.result.now.words) two c.stones_on_any_board.ensures in
           let sizes : All (λ (b : Position). b.size ≡ root.frame.size) root.begun = subst (λ (r : Rooted). All (λ (b : Position). b.size ≡ r.frame.size) r.begun) one c.board_count.ensures.sizes in
           let same : root.frame ≡ f = c.self.invariant.same_frame ∙ sym framed in
           ap (λ b. b || bit_in c.union_of_stones-later.result.words p) (stones col p (subst (λ x. Contains x col) begins early)

@@ -1,6 +1,5 @@
-use Rattle.std.proofs.Common.{◌≡◌, ◌∷◌, [], length, drop, map, Contains, sym, subst}
+use Rattle.std.proofs.Common.{◌∷◌, [], drop, map, Contains, sym, subst}
 use Rattle.std.proofs.lemmas.List.Elements.{Contains-append_right}
-use Rattle.tt_board.specs.Position.{Position}
 use Rattle.tt_board.specs.inside.Boards.{board_of}
 use Rattle.tt_board.specs.inside.Differences.{colourings_from}
 use Rattle.tt_board.proofs.boards.board_deltas.BoardDeltas.has.Goals as goal

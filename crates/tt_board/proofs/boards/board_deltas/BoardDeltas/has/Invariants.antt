@@ -1,4 +1,4 @@
-use Rattle.std.proofs.Common.{◌≡◌, ◌≤◌, ◌-◌, length, drop, map, Contains}
+use Rattle.std.proofs.Common.{◌≤◌, ◌-◌, length, drop, map, Contains}
 use Rattle.tt_board.specs.Position.{Position}
 use Rattle.tt_board.specs.inside.Boards.{board_of}
 use Rattle.tt_board.specs.inside.Differences.{colourings_from}

@@ -91,7 +91,8 @@ returns c =
     c.self.view_is (rw c.colour_number-2.ensures at (c.has_empty_or_not_in_atari.ensures.shut c.if-has_empty_or_not_in_atari.false)) in
     let filled : (q : ℕ) → IsNeighbour b.size p q → entry_at b.points q ≢ None = λ q beside bare.
     let zero : name_at b.names q ≡ 0 = named_bare _ _ (is.named.named q) bare in
-    c.has_empty_or_not_in_atari.ensures.none c.if-has_empty_or_not_in_atari.false (name_at b.names q) ((at.touching (name_at b.names q) (λ e. omega (arith, zero, e))).1 (q, beside.0, (beside, refl))) zero in
+    c.has_empty_or_not_in_atari.ensures.none c.if-has_empty_or_not_in_atari.false (name_at b.names q)
+    ((at.touching (name_at b.names q) (λ e. omega (arith, zero, e))).1 (q, beside.0, (beside, refl))) zero in
     let none_more : (m : ℕ) → ((m ≢ 0) × (m ≢ 0) × Touches b.size b.names m p) → m / 512 ≡ colour_number k → name_at b.liberties (root_of m) ≡ 1
     = λ m near' code. elim (cases_eq (name_at b.liberties (root_of m)) 1) [
       | inl one ↦ one

@@ -38,7 +38,11 @@ invariant_of-self c =
     living c.new_name.ensures.root c.new_name.ensures.colour in
     record {
       fits = ap length c.set.ensures ∙ length-set b.points p (Some k) ∙ i.fits;
-      wide = (c.join_beside.auto.names ∙ c.start_chain.auto.names ∙ i.wide.0, c.join_beside.auto.stones ∙ c.start_chain.auto.stones ∙ i.wide.1, c.join_beside.auto.liberties ∙ c.start_chain.auto.liberties ∙ i.wide.2);
+      wide = (
+        c.join_beside.auto.names ∙ c.start_chain.auto.names ∙ i.wide.0,
+        c.join_beside.auto.stones ∙ c.start_chain.auto.stones ∙ i.wide.1,
+        c.join_beside.auto.liberties ∙ c.start_chain.auto.liberties ∙ i.wide.2,
+      );
       named = subst (λ xs. AreNames b.size xs after.names) (sym c.set.ensures)
           (c.join_beside.ensures.joined (set b.points p (Some k)) (subst (λ ns. AreNamesBut b.size (set b.points p (Some k)) ns p) (sym c.start_chain.ensures.put) but));
       counted = c.join_beside.ensures.still_counted;

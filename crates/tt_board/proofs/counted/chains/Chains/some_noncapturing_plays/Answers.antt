@@ -22,5 +22,6 @@ returns-clause-no_capture c =
     c.self.view_is c.adjacent_points-near.ensures)
     (subst (λ (v : ChainBoard). AreBitsOf c.bits.result.now.words (length v.points) (λ p. is_stone_of (entry_at v.points p) (other k))) c.self.view_is (rw c.other.ensures at c.bits.ensures))
     c.and.ensures c.stones_in_atari-last.result.words c.stones_in_atari-last.ensures c.adjacent_points.result.words c.and-2.result.words c.minus.result.words
-    (subst (λ (v : ChainBoard). (p : ℕ) → p < point_count v.size → (bit_in c.adjacent_points.result.words p ≡ true) ↔ IsBesideSome v.size c.stones_in_atari-last.result.words p) c.self.view_is c.adjacent_points.ensures)
+    (subst (λ (v : ChainBoard). (p : ℕ) → p < point_count v.size
+    → (bit_in c.adjacent_points.result.words p ≡ true) ↔ IsBesideSome v.size c.stones_in_atari-last.result.words p) c.self.view_is c.adjacent_points.ensures)
     c.and-2.ensures c.minus.ensures

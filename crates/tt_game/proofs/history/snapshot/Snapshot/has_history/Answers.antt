@@ -36,7 +36,8 @@ returns c =
     let size : c.args.line.now.frame.size ≡ root.frame.size = c.requires ∙ sym (ap (λ (x : SnapshotState). x.frame.size) c.self.view_is) in
     let sizes : All (λ (b : Position). b.size ≡ root.frame.size) there =
     subst (λ (z : Size). All (λ (b : Position). b.size ≡ z) there) size c.history-boards.ensures.sizes in
-    let begins = subst (λ (r : Rooted). (IsTrue c.begins_with_root.result → r.begun ≡ take (length r.begun) there) × (r.begun ≡ take (length r.begun) there → IsTrue c.begins_with_root.result)) again c.begins_with_root.ensures in
+    let begins = subst (λ (r : Rooted). (IsTrue c.begins_with_root.result → r.begun ≡ take (length r.begun) there)
+    × (r.begun ≡ take (length r.begun) there → IsTrue c.begins_with_root.result)) again c.begins_with_root.ensures in
     let same =
     shows_boards root.frame.size (root.begun ++ i.later) there i.passes i.to_move c.args.self.now.state
     c.self.invariant.some_board c.self.invariant.sizes sizes (ap (λ (x : SnapshotState). x.state) c.self.view_is) in (
