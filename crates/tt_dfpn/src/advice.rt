@@ -12,7 +12,7 @@ pub struct VisitsLeft {
 }
 
 /// A source of advice. Nothing is believed of what it says.
-pub trait Advice {
+pub trait Advice: Drop {
     /// A turn for the side to move at the line, by which it may win, or none where it knows no more. So many turns that it said
     /// here were refused already.
     fn advise(

@@ -2,12 +2,14 @@
 //!
 //! It is up to 512 turns deep. What isn't on the way down is never inlined, so that it takes no stack at each turn.
 
-ghost use Rattle.std.specs.Prelude.{◌≡◌, ◌≤◌, ◌<◌, ◌+◌, true, false, IfOk, IfSome, None};
+ghost use Rattle.std.specs.Prelude.{◌≡◌, ◌≤◌, ◌<◌, ℕ, true, false, IfOk, IfSome, None};
 ghost use Rattle.tt_game.specs.Game.{winner_of, opponent, IsLegal};
 ghost use Rattle.tt_life.specs.Life.{HasWonOrLives};
 ghost use Rattle.tt_proof.specs.declared.tree.TheConstants.{MOST_DEPTH};
+ghost use Rattle.tt_proof.specs.ProofClaim.{IsChild};
 ghost use Rattle.tt_proof.specs.Strategy.{depth};
-ghost use Rattle.tt_proof.specs.ProofClaim.{StandsAt, IsChild};
+ghost use Rattle.tt_dfpn.specs.ProofWithin.{IsProofWithin};
+ghost use Rattle.tt_dfpn.specs.inside.Certifying.{IsChildWithin};
 
 use crate::advice::{Advice, VisitsLeft};
 use crate::memo::Memo;
@@ -18,6 +20,15 @@ use tt_sgf::NoMemory;
 
 /// How many turns the certifier asks for at one line.
 const MOST_ADVISED_TURNS: u16 = 362;
+
+/// Makes proofs after advice, and keeps them. All may end at life, or none does.
+#[derive(Drop)]
+pub struct Certifier<A: Advice> {
+    pub advice: A,
+    pub visits: VisitsLeft,
+    alloc: Global,
+    memo: Memo,
+}
 
 /// Whether two sides are the same.
 fn is_same_side(a: Side, b: Side) -> bool
@@ -34,134 +45,6 @@ fn ends_at_life(line: &Line, side: Side, memo: &mut Memo) -> bool
     side == Side::Defender && line.to_move() == Side::Attacker && memo.may_end_here(line)
 }
 
-/// A proof for the side at the line, of a depth within the room, or none. It ends at life where the memo's proofs may. The line stands
-/// as before, also after want of memory.
-#[cycle(certifying)]
-pub fn certify<A: Advice>(
-    alloc: Global,
-    line: &mut Line,
-    side: Side,
-    room: u16,
-    advice: &mut A,
-    memo: &mut Memo,
-    visits: &mut VisitsLeft,
-) -> Result<Option<LifeProof>, NoMemory>
-    requires room { room ≤ MOST_DEPTH }
-    ensures stands { IfOk result (λ o. IfSome o (λ p. StandsAt p line.old.frame line.old.state)) }
-    ensures side { IfOk result (λ o. IfSome o (λ p. p.side ≡ side)) }
-    ensures shallow { IfOk result (λ o. IfSome o (λ p. depth p.tree ≤ room)) }
-    ensures fewer { visits.new.left ≤ visits.old.left }
-    ensures same { line.new ≡ line.old }
-{
-    match line.winner() {
-        Some(winner) => proof_if_won(alloc, line, side, winner),
-        None => {
-            if ends_at_life(line, side, memo) {
-                return proof_that_ends(alloc, line, side);
-            }
-            if is_same_side(line.to_move(), side) {
-                let known = memo.known_proof(line, side, room)?;
-                if known.is_some() {
-                    return Ok(known);
-                }
-            }
-            if room == 0 || visits.left == 0 {
-                return Ok(None);
-            }
-            proof_by_visit(alloc, line, side, room, advice, memo, visits)
-        }
-    }
-}
-
-/// The same where nobody has won and nothing is known: a visit. A proof is kept where the side is to move: fewer lines lead to the
-/// others.
-#[cycle(certifying)]
-#[inline(never)]
-fn proof_by_visit<A: Advice>(
-    alloc: Global,
-    line: &mut Line,
-    side: Side,
-    room: u16,
-    advice: &mut A,
-    memo: &mut Memo,
-    visits: &mut VisitsLeft,
-) -> Result<Option<LifeProof>, NoMemory>
-    requires room { room ≤ MOST_DEPTH }
-    requires some { 0 < room }
-    requires left { 0 < visits.old.left }
-    requires nobody { winner_of line.old.frame line.old.state ≡ None }
-    ensures stands { IfOk result (λ o. IfSome o (λ p. StandsAt p line.old.frame line.old.state)) }
-    ensures side { IfOk result (λ o. IfSome o (λ p. p.side ≡ side)) }
-    ensures shallow { IfOk result (λ o. IfSome o (λ p. depth p.tree ≤ room)) }
-    ensures counts { visits.new.left < visits.old.left }
-    ensures same { line.new ≡ line.old }
-{
-    visits.left -= 1;
-    if !is_same_side(line.to_move(), side) {
-        return proof_by_reply(alloc, line, side, room, advice, memo, visits);
-    }
-    let found = proof_by_advice(alloc, line, side, room, advice, memo, visits)?;
-    memo.keep(line, &found);
-    Ok(found)
-}
-
-/// The proof where the winner has won, if this is the side.
-#[inline(never)]
-fn proof_if_won(
-    alloc: Global,
-    line: &Line,
-    side: Side,
-    winner: Side,
-) -> Result<Option<LifeProof>, NoMemory>
-    requires { winner_of line.now.frame line.now.state ≡ Some winner }
-    ensures stands { IfOk result (λ o. IfSome o (λ p. StandsAt p line.now.frame line.now.state)) }
-    ensures side { IfOk result (λ o. IfSome o (λ p. p.side ≡ side)) }
-    ensures shallow { IfOk result (λ o. IfSome o (λ p. depth p.tree ≡ 0)) }
-{
-    if winner != side {
-        return Ok(None);
-    }
-    proof_that_ends(alloc, line, side)
-}
-
-/// The proof where the side has won or lives.
-#[inline(never)]
-fn proof_that_ends(alloc: Global, line: &Line, side: Side) -> Result<Option<LifeProof>, NoMemory>
-    requires { HasWonOrLives side line.now.frame line.now.state }
-    ensures stands { IfOk result (λ o. IfSome o (λ p. StandsAt p line.now.frame line.now.state)) }
-    ensures side { IfOk result (λ o. IfSome o (λ p. p.side ≡ side)) }
-    ensures shallow { IfOk result (λ o. IfSome o (λ p. depth p.tree ≡ 0)) }
-{
-    let proof = LifeProof::done(alloc, line, side)?;
-    Ok(Some(proof))
-}
-
-/// The proof behind a legal turn, for the side, or none. The line stands as before.
-#[cycle(certifying)]
-#[inline(never)]
-fn proof_after<A: Advice>(
-    alloc: Global,
-    line: &mut Line,
-    side: Side,
-    room: u16,
-    turn: &Turn,
-    advice: &mut A,
-    memo: &mut Memo,
-    visits: &mut VisitsLeft,
-) -> Result<Option<LifeProof>, NoMemory>
-    requires room { room < MOST_DEPTH }
-    requires legal { IsLegal line.old.frame line.old.state turn.now }
-    ensures child { IfOk result (λ o. IfSome o (λ p. IsChild line.old.frame line.old.state side turn.now p)) }
-    ensures shallow { IfOk result (λ o. IfSome o (λ p. depth p.tree ≤ room)) }
-    ensures fewer { visits.new.left ≤ visits.old.left }
-    ensures same { line.new ≡ line.old }
-{
-    line.push_legal(*turn)?;
-    let found = certify(alloc, line, side, room, advice, memo, visits);
-    line.pop();
-    found
-}
-
 /// Whether the turn is legal at the line.
 fn is_legal(line: &Line, turn: &Turn) -> bool
     ensures { result ≡ true → IsLegal line.now.frame line.now.state turn.now }
@@ -174,127 +57,236 @@ fn is_legal(line: &Line, turn: &Turn) -> bool
     line.refusal(*turn).is_none()
 }
 
-/// The proof that plays an advised turn, where the side is to move. Each turn that is refused is asked for again. Where the proof may end
-/// at life, a defender whose targets live passes.
-#[cycle(certifying)]
-#[inline(never)]
-fn proof_by_advice<A: Advice>(
-    alloc: Global,
-    line: &mut Line,
-    side: Side,
-    room: u16,
-    advice: &mut A,
-    memo: &mut Memo,
-    visits: &mut VisitsLeft,
-) -> Result<Option<LifeProof>, NoMemory>
-    requires room { room ≤ MOST_DEPTH }
-    requires some { 0 < room }
-    requires nobody { winner_of line.old.frame line.old.state ≡ None }
-    requires to_move { line.old.state.to_move ≡ side }
-    ensures stands { IfOk result (λ o. IfSome o (λ p. StandsAt p line.old.frame line.old.state)) }
-    ensures side { IfOk result (λ o. IfSome o (λ p. p.side ≡ side)) }
-    ensures shallow { IfOk result (λ o. IfSome o (λ p. depth p.tree ≤ room)) }
-    ensures fewer { visits.new.left ≤ visits.old.left }
-    ensures same { line.new ≡ line.old }
-{
-    if side == Side::Defender && memo.may_end_here(line) {
-        return proof_by_turn(alloc, line, side, room, &Turn::Pass, advice, memo, visits);
+impl<A: Advice> Certifier<A> {
+    /// A certifier that has made nothing, with so many visits.
+    pub fn new(
+        alloc: Global,
+        advice: A,
+        may_end_at_life: bool,
+        visits: VisitsLeft,
+    ) -> Result<Certifier<A>, NoMemory>
+        ensures { IfOk result (λ c. c.visits ≡ visits) }
+    {
+        let memo = Memo::new(alloc, may_end_at_life)?;
+        Ok(Certifier {
+            advice,
+            visits,
+            alloc,
+            memo,
+        })
     }
-    for refused in 0..MOST_ADVISED_TURNS {
-        let Some(turn) = advice.advise(line, refused, visits)? else {
-            return Ok(None);
-        };
-        let proof_by_turn = proof_by_turn(alloc, line, side, room, &turn, advice, memo, visits)?;
-        if proof_by_turn.is_some() {
-            return Ok(proof_by_turn);
+
+    /// A proof for the side at the line, of a depth within the room, or none. The line stands as before, also after want of memory.
+    #[cycle(certifying)]
+    pub fn certify(
+        &mut self,
+        line: &mut Line,
+        side: Side,
+        room: u16,
+    ) -> Result<Option<LifeProof>, NoMemory>
+        requires room { room ≤ MOST_DEPTH }
+        ensures found { IfOk result (λ o. IfSome o (IsProofWithin side room line.old.frame line.old.state)) }
+        ensures fewer { self.new.visits.left ≤ self.old.visits.left }
+        ensures same { line.new ≡ line.old }
+    {
+        match line.winner() {
+            Some(winner) => self.proof_if_won(line, side, winner),
+            None => {
+                if ends_at_life(line, side, &mut self.memo) {
+                    return self.proof_that_ends(line, side);
+                }
+                if is_same_side(line.to_move(), side) {
+                    let known = self.memo.known_proof(line, side, room)?;
+                    if known.is_some() {
+                        return Ok(known);
+                    }
+                }
+                if room == 0 || self.visits.left == 0 {
+                    return Ok(None);
+                }
+                self.proof_by_visit(line, side, room)
+            }
         }
     }
-    Ok(None)
-}
 
-/// The proof that plays this turn, where it is legal and the side wins behind it.
-#[cycle(certifying)]
-#[inline(never)]
-fn proof_by_turn<A: Advice>(
-    alloc: Global,
-    line: &mut Line,
-    side: Side,
-    room: u16,
-    turn: &Turn,
-    advice: &mut A,
-    memo: &mut Memo,
-    visits: &mut VisitsLeft,
-) -> Result<Option<LifeProof>, NoMemory>
-    requires room { room ≤ MOST_DEPTH }
-    requires some { 0 < room }
-    requires to_move { line.old.state.to_move ≡ side }
-    ensures stands { IfOk result (λ o. IfSome o (λ p. StandsAt p line.old.frame line.old.state)) }
-    ensures side { IfOk result (λ o. IfSome o (λ p. p.side ≡ side)) }
-    ensures shallow { IfOk result (λ o. IfSome o (λ p. depth p.tree ≤ room)) }
-    ensures fewer { visits.new.left ≤ visits.old.left }
-    ensures same { line.new ≡ line.old }
-{
-    if !is_legal(line, turn) {
-        return Ok(None);
+    /// The same where nobody has won and nothing is known: a visit. A proof is kept where the side is to move: fewer lines lead to the
+    /// others.
+    #[cycle(certifying)]
+    #[inline(never)]
+    fn proof_by_visit(
+        &mut self,
+        line: &mut Line,
+        side: Side,
+        room: u16,
+    ) -> Result<Option<LifeProof>, NoMemory>
+        requires room { room ≤ MOST_DEPTH }
+        requires some { 0 < room }
+        requires left { 0 < self.old.visits.left }
+        requires nobody { winner_of line.old.frame line.old.state ≡ None }
+        ensures found { IfOk result (λ o. IfSome o (IsProofWithin side room line.old.frame line.old.state)) }
+        ensures counts { self.new.visits.left < self.old.visits.left }
+        ensures same { line.new ≡ line.old }
+    {
+        self.visits.left -= 1;
+        if !is_same_side(line.to_move(), side) {
+            return self.proof_by_reply(line, side, room);
+        }
+        let found = self.proof_by_advice(line, side, room)?;
+        self.memo.keep(line, &found);
+        Ok(found)
     }
-    let child = proof_after(alloc, line, side, room - 1, turn, advice, memo, visits)?;
-    proof_from_child(alloc, line, room, turn, child)
-}
 
-/// The proof that plays the turn and goes on with the child, where there is one.
-#[inline(never)]
-fn proof_from_child(
-    alloc: Global,
-    line: &Line,
-    room: u16,
-    turn: &Turn,
-    child: Option<LifeProof>,
-) -> Result<Option<LifeProof>, NoMemory>
-    requires legal { IsLegal line.now.frame line.now.state turn.now }
-    requires child { IfSome child (λ p. IsChild line.now.frame line.now.state line.now.state.to_move turn.now p) }
-    requires shallow { IfSome child (λ p. depth p.tree + 1 ≤ room) }
-    ensures stands { IfOk result (λ o. IfSome o (λ p. StandsAt p line.now.frame line.now.state)) }
-    ensures side { IfOk result (λ o. IfSome o (λ p. p.side ≡ line.now.state.to_move)) }
-    ensures shallow { IfOk result (λ o. IfSome o (λ p. depth p.tree ≤ room)) }
-{
-    let Some(child) = child else {
-        return Ok(None);
-    };
-    let proof = LifeProof::pick(alloc, line, *turn, child)?;
-    Ok(Some(proof))
-}
+    /// The proof where the winner has won, if this is the side.
+    #[inline(never)]
+    fn proof_if_won(
+        &self,
+        line: &Line,
+        side: Side,
+        winner: Side,
+    ) -> Result<Option<LifeProof>, NoMemory>
+        requires { winner_of line.now.frame line.now.state ≡ Some winner }
+        ensures { IfOk result (λ o. IfSome o (IsProofWithin side 0 line.now.frame line.now.state)) }
+    {
+        if winner != side {
+            return Ok(None);
+        }
+        self.proof_that_ends(line, side)
+    }
 
-/// The proof that answers each legal turn, where the other side is to move.
-#[cycle(certifying)]
-#[inline(never)]
-fn proof_by_reply<A: Advice>(
-    alloc: Global,
-    line: &mut Line,
-    side: Side,
-    room: u16,
-    advice: &mut A,
-    memo: &mut Memo,
-    visits: &mut VisitsLeft,
-) -> Result<Option<LifeProof>, NoMemory>
-    requires room { room ≤ MOST_DEPTH }
-    requires some { 0 < room }
-    requires nobody { winner_of line.old.frame line.old.state ≡ None }
-    requires to_move { side ≡ opponent line.old.state.to_move }
-    ensures stands { IfOk result (λ o. IfSome o (λ p. StandsAt p line.old.frame line.old.state)) }
-    ensures side { IfOk result (λ o. IfSome o (λ p. p.side ≡ side)) }
-    ensures shallow { IfOk result (λ o. IfSome o (λ p. depth p.tree ≤ room)) }
-    ensures fewer { visits.new.left ≤ visits.old.left }
-    ensures same { line.new ≡ line.old }
-{
-    let turns = line.turns();
-    let mut children = Vec::with_capacity(alloc, turns.len())?;
-    for turn in turns.as_slice() {
-        let Some(child) = proof_after(alloc, line, side, room - 1, turn, advice, memo, visits)?
-        else {
+    /// The proof where the side has won or lives.
+    #[inline(never)]
+    fn proof_that_ends(&self, line: &Line, side: Side) -> Result<Option<LifeProof>, NoMemory>
+        requires { HasWonOrLives side line.now.frame line.now.state }
+        ensures { IfOk result (λ o. IfSome o (IsProofWithin side 0 line.now.frame line.now.state)) }
+    {
+        let proof = LifeProof::done(self.alloc, line, side)?;
+        Ok(Some(proof))
+    }
+
+    /// The proof behind a legal turn, for the side, or none. The line stands as before.
+    #[cycle(certifying)]
+    #[inline(never)]
+    fn proof_after(
+        &mut self,
+        line: &mut Line,
+        side: Side,
+        room: u16,
+        turn: &Turn,
+    ) -> Result<Option<LifeProof>, NoMemory>
+        requires room { room < MOST_DEPTH }
+        requires legal { IsLegal line.old.frame line.old.state turn.now }
+        ensures found { IfOk result (λ o. IfSome o (IsChildWithin side room line.old.frame line.old.state turn.now)) }
+        ensures fewer { self.new.visits.left ≤ self.old.visits.left }
+        ensures same { line.new ≡ line.old }
+    {
+        line.push_legal(*turn)?;
+        let found = self.certify(line, side, room);
+        line.pop();
+        found
+    }
+
+    /// The proof that plays an advised turn, where the side is to move. Each turn that is refused is asked for again. Where the proof may
+    /// end at life, a defender whose targets live passes.
+    #[cycle(certifying)]
+    #[inline(never)]
+    fn proof_by_advice(
+        &mut self,
+        line: &mut Line,
+        side: Side,
+        room: u16,
+    ) -> Result<Option<LifeProof>, NoMemory>
+        requires room { room ≤ MOST_DEPTH }
+        requires some { 0 < room }
+        requires to_move { line.old.state.to_move ≡ side }
+        ensures found { IfOk result (λ o. IfSome o (IsProofWithin side room line.old.frame line.old.state)) }
+        ensures fewer { self.new.visits.left ≤ self.old.visits.left }
+        ensures same { line.new ≡ line.old }
+    {
+        if side == Side::Defender && self.memo.may_end_here(line) {
+            return self.proof_by_turn(line, side, room, &Turn::Pass);
+        }
+        for refused in 0..MOST_ADVISED_TURNS {
+            let Some(turn) = self.advice.advise(line, refused, &mut self.visits)? else {
+                return Ok(None);
+            };
+            let proof_by_turn = self.proof_by_turn(line, side, room, &turn)?;
+            if proof_by_turn.is_some() {
+                return Ok(proof_by_turn);
+            }
+        }
+        Ok(None)
+    }
+
+    /// The proof that plays this turn, where it is legal and the side wins behind it.
+    #[cycle(certifying)]
+    #[inline(never)]
+    fn proof_by_turn(
+        &mut self,
+        line: &mut Line,
+        side: Side,
+        room: u16,
+        turn: &Turn,
+    ) -> Result<Option<LifeProof>, NoMemory>
+        requires room { room ≤ MOST_DEPTH }
+        requires some { 0 < room }
+        requires to_move { line.old.state.to_move ≡ side }
+        ensures found { IfOk result (λ o. IfSome o (IsProofWithin side room line.old.frame line.old.state)) }
+        ensures fewer { self.new.visits.left ≤ self.old.visits.left }
+        ensures same { line.new ≡ line.old }
+    {
+        if !is_legal(line, turn) {
+            return Ok(None);
+        }
+        let child = self.proof_after(line, side, room - 1, turn)?;
+        self.proof_from_child(line, turn, child)
+    }
+
+    /// The proof that plays the turn and goes on with the child, where there is one.
+    #[inline(never)]
+    fn proof_from_child(
+        &self,
+        line: &Line,
+        turn: &Turn,
+        child: Option<LifeProof>,
+    ) -> Result<Option<LifeProof>, NoMemory>
+        requires legal { IsLegal line.now.frame line.now.state turn.now }
+        requires child { IfSome child (IsChild line.now.frame line.now.state line.now.state.to_move turn.now) }
+        ensures { (room : ℕ) → IfSome child (λ p. depth p.tree < room)
+            → IfOk result (λ o. IfSome o (IsProofWithin line.now.state.to_move room line.now.frame line.now.state)) }
+    {
+        let Some(child) = child else {
             return Ok(None);
         };
-        children.push((*turn, child))?;
+        let proof = LifeProof::pick(self.alloc, line, *turn, child)?;
+        Ok(Some(proof))
     }
-    let proof = LifeProof::reply(alloc, line, children)?;
-    Ok(Some(proof))
+
+    /// The proof that answers each legal turn, where the other side is to move.
+    #[cycle(certifying)]
+    #[inline(never)]
+    fn proof_by_reply(
+        &mut self,
+        line: &mut Line,
+        side: Side,
+        room: u16,
+    ) -> Result<Option<LifeProof>, NoMemory>
+        requires room { room ≤ MOST_DEPTH }
+        requires some { 0 < room }
+        requires nobody { winner_of line.old.frame line.old.state ≡ None }
+        requires to_move { side ≡ opponent line.old.state.to_move }
+        ensures found { IfOk result (λ o. IfSome o (IsProofWithin side room line.old.frame line.old.state)) }
+        ensures fewer { self.new.visits.left ≤ self.old.visits.left }
+        ensures same { line.new ≡ line.old }
+    {
+        let turns = line.turns();
+        let mut children = Vec::with_capacity(self.alloc, turns.len())?;
+        for turn in turns.as_slice() {
+            let Some(child) = self.proof_after(line, side, room - 1, turn)? else {
+                return Ok(None);
+            };
+            children.push((*turn, child))?;
+        }
+        let proof = LifeProof::reply(self.alloc, line, children)?;
+        Ok(Some(proof))
+    }
 }

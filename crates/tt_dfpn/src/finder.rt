@@ -11,6 +11,7 @@ mod life;
 mod region;
 mod search;
 mod shared_table;
+mod simulation;
 mod threats;
 mod transpositions;
 mod workers;

@@ -7,7 +7,7 @@
 //!
 //! | Module | What it has |
 //! |---|---|
-//! | `attempts` | `find_proof`: the finder says who wins, the certifier proves that; if the proof fails, both try again |
+//! | `attempts` | `find_proof`: a search says who wins, the certifier proves that; if the proof fails, both try again |
 //! | `advice` | the trait `Advice`, by which the certifier asks the finder |
 //! | `certifier` | makes a proof from the leaves up; it may end at life |
 //! | `memo` | the proofs that the certifier keeps, and which of them it may use at a `Line` |
@@ -24,7 +24,6 @@ mod memo;
 mod no_life;
 
 pub use advice::{Advice, VisitsLeft};
-pub use attempts::{MOST_POSITIONS, find_life_proof, find_proof};
-pub use certifier::certify;
+pub use attempts::{MOST_POSITIONS, OneFinder, WinnerSearch, find_life_proof, find_proof};
+pub use certifier::Certifier;
 pub use finder::{Advisor, Finding, SharedSearch};
-pub use memo::Memo;

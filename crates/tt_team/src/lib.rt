@@ -3,12 +3,10 @@
 //!
 //! | Module | What it has |
 //! |---|---|
-//! | `attempts` | `find_life_proof_by_workers`, `find_proof_by_workers`: the workers say who wins, the certifier proves that |
-//! | `rounds` | who wins, as workers find in rounds, between which the table grows |
+//! | `rounds` | `Workers`: who wins, as they find in rounds, between which the table grows |
 
 #![tactic(auto)]
 
-mod attempts;
 mod rounds;
 
-pub use attempts::{find_life_proof_by_workers, find_proof_by_workers};
+pub use rounds::Workers;

@@ -2,16 +2,21 @@
 //! reads it then.
 
 ghost use Rattle.std.specs.Prelude.{◌≡◌, ◌≤◌, ◌-◌, All, IfOk, sum_by};
+ghost use Rattle.std.specs.Thread.{IsSync};
 
 use std::alloc::Global;
 use std::thread;
 use std::thread::Threads;
-use tt_dfpn::{Advisor, Finding, SharedSearch, VisitsLeft};
+use tt_dfpn::{Advisor, Finding, OneFinder, SharedSearch, VisitsLeft, WinnerSearch};
 use tt_game::{Line, Side};
 use tt_sgf::NoMemory;
 
 /// So many workers search at most: more don't find sooner.
 const MOST_FINDERS: usize = 8;
+
+/// In the first attempts all workers search: the one that leaves out turns, and the one that leaves out none. In those after, the
+/// first worker has to know which lines the certifier refused.
+const ATTEMPTS_TOGETHER: u8 = 2;
 
 /// How many visits the first worker has alone. Most problems are settled then, and need no threads.
 const VISITS_ALONE: u32 = 16_384;
@@ -24,27 +29,12 @@ const ROUND_FACTOR: u32 = 16;
 /// In so many rounds all visits that can be asked for are spent.
 const MOST_ROUNDS: u8 = 4;
 
-/// What so many workers find within a share of visits each, in a thread of its own each where one can be made.
-fn search_by_workers<R: Threads + Sync>(
-    rt: &R,
-    alloc: Global,
-    search: &SharedSearch<'_>,
-    workers: u32,
-    share: u32,
-) -> Result<Vec<Finding>, NoMemory>
-    ensures { IfOk result (λ v. All (λ f. f.visited ≤ share) v.items) }
-{
-    let mut numbers = Vec::new(alloc);
-    for worker in 0..workers {
-        numbers.push(worker)?;
-    }
-    let find = |worker: u32| -> Finding
-        ensures { result.visited ≤ share }
-    { search.search_winner(worker, share) };
-    match thread::map_vec(rt, numbers, &find) {
-        Ok(findings) => Ok(findings),
-        Err(_) => Err(NoMemory),
-    }
+/// Workers that search for the side that wins, in a thread of its own each.
+#[derive(Drop)]
+pub struct Workers<'a, R> {
+    pub rt: &'a R,
+    pub alloc: Global,
+    pub count: usize,
 }
 
 /// Takes the visits of all findings off those that are left.
@@ -56,8 +46,8 @@ fn count_visits(mut findings: Vec<Finding>, visits: &mut VisitsLeft)
     }
 }
 
-/// Who wins, as the first worker says that knows.
-fn winner_of(findings: &[Finding]) -> Option<Side> {
+/// Who wins, by the guess of the first worker that has one.
+fn guessed_winner(findings: &[Finding]) -> Option<Side> {
     for one in findings {
         if one.winner.is_some() {
             return one.winner;
@@ -66,61 +56,97 @@ fn winner_of(findings: &[Finding]) -> Option<Side> {
     None
 }
 
-/// Who wins at the line, as so many workers find in one round within so many visits of all.
-fn search_round<R: Threads + Sync>(
-    rt: &R,
-    alloc: Global,
-    line: &Line,
-    advisor: &mut Advisor,
-    workers: u32,
-    most: u32,
-    visits: &mut VisitsLeft,
-) -> Result<Option<Side>, NoMemory>
-    ensures fewer { visits.new.left ≤ visits.old.left }
-{
-    let round = visits.left.min(most);
-    let search = advisor.shared_search(line, round)?;
-    let share = round / workers.max(1);
-    let findings = search_by_workers(rt, alloc, &search, workers, share)?;
-    let before = visits.left;
-    let winner = winner_of(findings.as_slice());
-    let first = findings.first().copied();
-    count_visits(findings, visits);
-    if let Some(finding) = first {
-        advisor.learn(&finding, before - visits.left);
+impl<R: Threads + Sync> Workers<'_, R> {
+    /// What so many workers find within a share of visits each, in a thread of its own each where one can be made.
+    fn run_workers(
+        &self,
+        search: &SharedSearch<'_>,
+        workers: u32,
+        share: u32,
+    ) -> Result<Vec<Finding>, NoMemory>
+        ensures { IfOk result (λ v. All (λ f. f.visited ≤ share) v.items) }
+    {
+        let mut numbers = Vec::new(self.alloc);
+        for worker in 0..workers {
+            numbers.push(worker)?;
+        }
+        let find = |worker: u32| -> Finding
+            ensures { result.visited ≤ share }
+        { search.run_worker(worker, share) };
+        match thread::map_vec(self.rt, numbers, &find) {
+            Ok(findings) => Ok(findings),
+            Err(_) => Err(NoMemory),
+        }
     }
-    Ok(winner)
+
+    /// Who wins at the line, as so many workers find in one round within so many visits of all.
+    fn search_round(
+        &self,
+        line: &Line,
+        advisor: &mut Advisor,
+        workers: u32,
+        most: u32,
+        visits: &mut VisitsLeft,
+    ) -> Result<Option<Side>, NoMemory>
+        ensures fewer { visits.new.left ≤ visits.old.left }
+    {
+        let round = visits.left.min(most);
+        let search = advisor.shared_search(line, round)?;
+        let share = round / workers.max(1);
+        let findings = self.run_workers(&search, workers, share)?;
+        let before = visits.left;
+        let winner = guessed_winner(findings.as_slice());
+        let first = findings.first().copied();
+        count_visits(findings, visits);
+        if let Some(finding) = first {
+            advisor.learn(&finding, before - visits.left);
+        }
+        Ok(winner)
+    }
+
+    /// Who wins at the line, as the workers find: the first alone where that is soon.
+    fn search_in_rounds(
+        &self,
+        line: &Line,
+        advisor: &mut Advisor,
+        visits: &mut VisitsLeft,
+    ) -> Result<Option<Side>, NoMemory>
+        ensures fewer { visits.new.left ≤ visits.old.left }
+    {
+        let alone = advisor.winner_by_search(line, VISITS_ALONE, visits)?;
+        if alone.is_some() {
+            return Ok(alone);
+        }
+        let finders = self.count.min(MOST_FINDERS) as u32;
+        let mut most = FIRST_ROUND_VISITS;
+        for _ in 0..MOST_ROUNDS {
+            if visits.left == 0 {
+                break;
+            }
+            let winner = self.search_round(line, advisor, finders, most, visits)?;
+            if winner.is_some() {
+                return Ok(winner);
+            }
+            most = most.saturating_mul(ROUND_FACTOR);
+        }
+        Ok(None)
+    }
 }
 
-/// Who wins at the line, as so many workers find: the first alone where that is soon.
-pub(crate) fn search_winner<R: Threads + Sync>(
-    rt: &R,
-    alloc: Global,
-    line: &Line,
-    advisor: &mut Advisor,
-    workers: usize,
-    visits: &mut VisitsLeft,
-) -> Result<Option<Side>, NoMemory>
-    ensures fewer { visits.new.left ≤ visits.old.left }
-{
-    if workers <= 1 {
-        return advisor.search_winner(line, u32::MAX, visits);
-    }
-    let alone = advisor.search_winner(line, VISITS_ALONE, visits)?;
-    if alone.is_some() {
-        return Ok(alone);
-    }
-    let finders = workers.min(MOST_FINDERS) as u32;
-    let mut most = FIRST_ROUND_VISITS;
-    for _ in 0..MOST_ROUNDS {
-        if visits.left == 0 {
-            break;
+impl<R: Threads + Sync> WinnerSearch for Workers<'_, R> {
+    ghost ready = { λ _. IsSync R.row };
+
+    fn search_winner(
+        &self,
+        line: &Line,
+        attempt: u8,
+        advisor: &mut Advisor,
+        visits: &mut VisitsLeft,
+    ) -> Result<Option<Side>, NoMemory> {
+        if self.count <= 1 || attempt >= ATTEMPTS_TOGETHER {
+            OneFinder.search_winner(line, attempt, advisor, visits)
+        } else {
+            self.search_in_rounds(line, advisor, visits)
         }
-        let winner = search_round(rt, alloc, line, advisor, finders, most, visits)?;
-        if winner.is_some() {
-            return Ok(winner);
-        }
-        most = most.saturating_mul(ROUND_FACTOR);
     }
-    Ok(None)
 }

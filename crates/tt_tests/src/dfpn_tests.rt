@@ -6,7 +6,7 @@ use crate::problem_tests::posed;
 use crate::proof_tests::replays;
 use crate::rows::{Table, holding};
 use std::alloc::Global;
-use tt_dfpn::{Advice, Memo, VisitsLeft, certify, find_proof};
+use tt_dfpn::{Advice, Certifier, OneFinder, VisitsLeft, find_proof};
 use tt_game::{Line, Side, Turn};
 use tt_proof::{MOST_DEPTH, Proof, write_cert};
 use tt_sgf::{NoMemory, Point};
@@ -37,7 +37,7 @@ fn read(alloc: Global, row: &[u8]) -> Option<(Side, Line)> {
     Some((winner, line))
 }
 
-/// Advice that says any turn, whether it wins or not, legal or not, on the board or beside it.
+/// Advice that says any turn, whether it wins or not, legal or not, in the first row or beside the board.
 #[derive(Drop)]
 struct Liar {
     state: u64,
@@ -56,13 +56,13 @@ impl Advice for Liar {
             .state
             .wrapping_mul(6_364_136_223_846_793_005)
             .wrapping_add(1_442_695_040_888_963_407);
-        let number = self.state / 0x1_0000_0000 % 9;
-        if number == 8 {
+        let number = self.state / 0x1_0000_0000 % 10;
+        if number == 9 {
             return Ok(None);
         }
         let point = if number == 7 { 360 } else { number as u16 };
         let turn = match Point::new(point) {
-            Some(p) if number > 0 => Turn::Play(p),
+            Some(p) if number < 8 => Turn::Play(p),
             _ => Turn::Pass,
         };
         Ok(Some(turn))
@@ -81,30 +81,30 @@ fn is_right(alloc: Global, line: &mut Line, proof: &Proof, winner: Side, room: u
     }
 }
 
-/// Whether no wrong proof for the side comes of a hundred lots of lies.
-fn is_lied_in_vain(alloc: Global, line: &mut Line, winner: Side, side: Side) -> Option<bool> {
+/// How many right proofs for the side come of a hundred lots of lies. None where a wrong one does.
+fn proofs_of_lies(alloc: Global, line: &mut Line, winner: Side, side: Side) -> Option<u32> {
+    let mut count = 0u32;
     for seed in 0..100u64 {
-        let mut liar = Liar { state: seed };
-        let mut memo = Memo::new(alloc, false).ok()?;
-        let mut visits = VisitsLeft { left: 500 };
-        let found = certify(alloc, line, side, ROOM, &mut liar, &mut memo, &mut visits);
+        let visits = VisitsLeft { left: 500 };
+        let mut certifier = Certifier::new(alloc, Liar { state: seed }, false, visits).ok()?;
+        let found = certifier.certify(line, side, ROOM);
         if let Some(found) = found.ok()? {
             let proof = found.into_proof()?;
             if !is_right(alloc, line, &proof, winner, ROOM) {
-                return Some(false);
+                return None;
             }
+            count = count.saturating_add(1);
         }
     }
-    Some(true)
+    Some(count)
 }
 
-/// Whether that holds of a row's problem for both sides.
+/// Whether some lies hit upon the winner's proof of a row's problem, and none make a wrong proof for either side.
 fn lies_hold(alloc: Global, row: &[u8]) -> Option<bool> {
     let (winner, mut line) = read(alloc, row)?;
-    Some(
-        is_lied_in_vain(alloc, &mut line, winner, Side::Attacker)?
-            && is_lied_in_vain(alloc, &mut line, winner, Side::Defender)?,
-    )
+    let right = proofs_of_lies(alloc, &mut line, winner, winner)?;
+    let wrong = proofs_of_lies(alloc, &mut line, winner, winner.opponent())?;
+    Some(right > 0 && wrong == 0)
 }
 
 /// Whether the winner's proof is found at a row's problem with so many visits, no deeper than the room.
@@ -114,7 +114,7 @@ fn is_found(alloc: Global, row: &[u8], room: u16, visits: u32) -> Option<bool> {
     }
     let (winner, mut line) = read(alloc, row)?;
     let mut visits = VisitsLeft { left: visits };
-    match find_proof(alloc, &mut line, room, &mut visits).ok()? {
+    match find_proof(alloc, &OneFinder, &mut line, room, &mut visits).ok()? {
         Some(proof) => Some(is_right(alloc, &mut line, &proof, winner, room)),
         None => Some(false),
     }

@@ -122,7 +122,7 @@ impl Advisor {
     }
 
     /// Who wins at the line by a search of at most so many visits, if that says so.
-    pub fn search_winner(
+    pub fn winner_by_search(
         &mut self,
         line: &Line,
         most: u32,

@@ -79,6 +79,8 @@ pub(crate) struct Finder {
     pub(crate) life: Life,
     /// What was read ahead of the table, so that it is read at all.
     bits_read_ahead: u64,
+    /// Whether a play that repeats a board was left out of the turns that were listed last.
+    pub(crate) left_repeat_out: bool,
     /// Lists that aren't used.
     lists: Vec<Vec<Child>>,
     /// Whether suicides and plays into the mover's own eyes are left out.
@@ -197,6 +199,7 @@ impl Finder {
             wins: [[0; 512]; 2],
             life: Life::none(alloc)?,
             bits_read_ahead: 0,
+            left_repeat_out: false,
             lists: Vec::new(alloc),
             prunes: true,
             reserve: 0,
@@ -312,7 +315,7 @@ impl Finder {
     }
 
     /// The attacker's play that takes the first target's chain at once.
-    fn first_target_capture(&self, attacker: Colour) -> Option<u16> {
+    pub(crate) fn first_target_capture(&self, attacker: Colour) -> Option<u16> {
         let target = *self.region.targets.first()?;
         let p = self.board.only_liberty(target)?;
         if !self.region.inside[index(p)] {
@@ -337,7 +340,11 @@ impl Finder {
     ) -> bool {
         let attacks = mover != self.region.defender;
         let effect = self.board.preview_play(mover, p);
-        if (effect.is_suicide && self.prunes) || self.board.history().has(effect.hash) {
+        if effect.is_suicide && self.prunes {
+            return false;
+        }
+        if self.board.history().has(effect.hash) {
+            self.left_repeat_out = true;
             return false;
         }
         if effect.takes_target {
@@ -379,6 +386,7 @@ impl Finder {
         mover: Colour,
         list: &mut Vec<Child>,
     ) -> Option<u16> {
+        self.left_repeat_out = false;
         let attacks = mover != self.region.defender;
         let capture = self.first_target_capture(self.region.defender.other());
         if attacks && capture.is_some() {
@@ -414,6 +422,29 @@ impl Finder {
     /// Ends the search that runs, where it has no memory.
     pub(crate) fn stop_search(&mut self) {
         self.reserve = u32::MAX;
+    }
+
+    /// Whether the search that runs was ended, where it had no memory.
+    #[inline(always)]
+    pub(crate) fn has_stopped(&self) -> bool {
+        self.reserve == u32::MAX
+    }
+
+    /// An empty list.
+    #[inline]
+    pub(crate) fn take_list(&mut self) -> Vec<Child> {
+        let mut list = match self.lists.pop() {
+            Some(list) => list,
+            None => Vec::new(self.alloc),
+        };
+        list.clear();
+        list
+    }
+
+    /// Takes a list back that isn't used any more.
+    #[inline]
+    pub(crate) fn give_list_back(&mut self, list: Vec<Child>) {
+        let _ = self.lists.push(list);
     }
 
     /// Whether the search that runs is at its end.
@@ -462,11 +493,7 @@ impl Finder {
         if visits.left % 1024 == 0 {
             self.main_table.grow_if_needed(self.alloc);
         }
-        let mut list = match self.lists.pop() {
-            Some(list) => list,
-            None => Vec::new(self.alloc),
-        };
-        list.clear();
+        let mut list = self.take_list();
         let hashes = self.hashes_of_position(mover);
         if self.shares_table() {
             self.look_round(hashes, room, visits);
@@ -478,9 +505,9 @@ impl Finder {
             WON
         } else {
             self.refute_by_threats(mover, hashes, &mut list);
-            self.search_best_children(mover, hashes, most, room, &mut list, visits)
+            self.search_best_children(mover, most, room, &mut list, visits)
         };
-        let _ = self.lists.push(list);
+        self.give_list_back(list);
         if self.cut == room.saturating_add(1) {
             self.cut = 0;
         }
@@ -493,7 +520,6 @@ impl Finder {
     fn search_best_children(
         &mut self,
         mover: Colour,
-        hashes: Hashes,
         most: ProofNumbers,
         room: u16,
         list: &mut Vec<Child>,
@@ -501,9 +527,10 @@ impl Finder {
     ) -> ProofNumbers
         ensures fewer { visits.new.left ≤ visits.old.left }
     {
-        if self.reserve == u32::MAX {
+        if self.has_stopped() {
             return UNKNOWN;
         }
+        let hashes = self.hashes_of_position(mover);
         let start = visits.left;
         for _ in 0..=start {
             let choice = summary_of_children(list.as_slice());
@@ -528,6 +555,9 @@ impl Finder {
             let child = list[k];
             let bounds = thresholds_of(&choice, &child.numbers, most);
             list[k].numbers = self.search_after_turn(mover, child.turn, bounds, room, visits);
+            if list[k].numbers.proof == 0 {
+                self.refute_alike(mover, child.turn, list, visits);
+            }
         }
         UNKNOWN
     }

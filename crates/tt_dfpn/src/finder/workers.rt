@@ -16,7 +16,7 @@ use tt_sgf::NoMemory;
 /// After so many visits a worker looks round for what the others did.
 const VISITS_BETWEEN_LOOKS: u32 = 256;
 
-/// A search of a line's problem, which workers share: each calls `search_winner`, in a thread of its own.
+/// A search of a line's problem, which workers share: each calls `run_worker`, in a thread of its own.
 #[derive(Drop)]
 pub struct SharedSearch<'a> {
     alloc: Global,
@@ -79,7 +79,7 @@ impl<'a> SharedSearch<'a> {
 
     /// What the worker of a number finds within so many visits: nothing where it has no memory. The first that settles the problem ends
     /// the searches of all.
-    pub fn search_winner(&self, worker: u32, most: u32) -> Finding
+    pub fn run_worker(&self, worker: u32, most: u32) -> Finding
         ensures { result.visited ≤ most }
     {
         match self.search_with_memory(worker, most) {
@@ -161,7 +161,7 @@ impl Finder {
     }
 
     /// The numbers of a position that is known to be settled.
-    fn settled_numbers(&self, hashes: Hashes) -> Option<ProofNumbers> {
+    pub(crate) fn settled_numbers(&self, hashes: Hashes) -> Option<ProofNumbers> {
         let entry = self.find_entry(hashes)?;
         if entry.numbers.is_settled() {
             Some(entry.numbers)

@@ -1,7 +1,7 @@
 use Rattle.std.proofs.Common.{◌≡◌, ◌≤◌, ◌+◌, ◌*◌}
 use Rattle.tt_game.specs.Turns.{legal_turns}
-use Rattle.tt_dfpn.specs.Certifying.{AreFirstChildren}
-use Rattle.tt_dfpn.proofs.certifier.+certifying.Given as goal
+use Rattle.tt_dfpn.specs.inside.Certifying.{AreFirstChildren}
+use Rattle.tt_dfpn.proofs.certifier.Certifier.+certifying.Given as goal
 
 -- each line behind a turn has less room
 abbrev pub decreases-proof_after : goal.decreases-proof_after
@@ -25,13 +25,13 @@ decreases-proof_by_turn g l = l.room * 8 + 4
 abbrev pub invariant-proof_by_advice-loop-refused : goal.invariant-proof_by_advice-loop-refused
 invariant-proof_by_advice-loop-refused g l = record {
   same : l.line ≡ l.fn.line;
-  fewer : l.visits.left ≤ l.fn.visits.left;
+  fewer : l.self.visits.left ≤ l.fn.self.visits.left;
 }
 
 abbrev pub invariant-proof_by_reply-loop-turn : goal.invariant-proof_by_reply-loop-turn
 invariant-proof_by_reply-loop-turn g l = record {
   same : l.line ≡ l.fn.line;
-  fewer : l.visits.left ≤ l.fn.visits.left;
+  fewer : l.self.visits.left ≤ l.fn.self.visits.left;
   all : l.turn-items ≡ legal_turns l.fn.line.frame l.fn.line.state;
   first : AreFirstChildren l.fn.line.frame l.fn.line.state l.fn.room l.turn-index l.children.items;
 }
