@@ -61,7 +61,8 @@ not_there x e = none-some x e
 not_free : {X : Type 0} (x : X) → Some (Some x) ≡ Some None → ⊥
 not_free x e = none-some x (sym (same_Some (Some x) None e))
 
-held_at : (old new : List (Option JobResult)) (f : SearchedJob) (o : Option (Option JobResult)) → slice_get old f.job ≡ o → Puts old new f → (job : ℕ) → held new job ≤ held old job + cond (nat_eq f.job job) 1 0
+held_at : (old new : List (Option JobResult)) (f : SearchedJob) (o : Option (Option JobResult)) → slice_get old f.job ≡ o → Puts old new f → (job : ℕ)
+    → held new job ≤ held old job + cond (nat_eq f.job job) 1 0
 held_at old new f None is puts job = let e = ap (λ (l : List (Option JobResult)). held l job) (puts.dropped (λ k. not_there None (sym is ∙ k))) in omega (arith, e)
 held_at old new f (Some (Some had)) is puts job = let e = ap (λ (l : List (Option JobResult)). held l job) (puts.dropped (λ k. not_free had (sym is ∙ k))) in omega (arith, e)
 held_at old new f (Some None) is puts job = dite (ℕ_discrete job f.job)

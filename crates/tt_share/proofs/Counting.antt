@@ -75,7 +75,8 @@ module _ (line : LineWithUndo) (limits : Limits) (t : Turn) (start : SearchState
   start_count : count start.tree ≡ 0
   start_count = ap count new_is ∙ new_count start.line.frame start.line.state
 
-  reached_count : (search : SearchState) (old new : GrantTally) (n : ℕ) → HasRunTo start search → HasGrantPerExpansion start old search new → new.granted ≡ old.granted + n → IsSearchCountAfter line limits t n
+  reached_count : (search : SearchState) (old new : GrantTally) (n : ℕ) → HasRunTo start search → HasGrantPerExpansion start old search new
+      → new.granted ≡ old.granted + n → IsSearchCountAfter line limits t n
   reached_count search old new n h spent granted = (search, reached_behind search h, reached_grown search h, omega (arith, spent, granted, start_count))
 
   -- its count is what was asked for

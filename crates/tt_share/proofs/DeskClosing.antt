@@ -176,7 +176,8 @@ pub record End (desk : DeskModel) (seats : List SeatModel) (drawn asked : ℕ) :
   pub grants : (total : ℕ) → AreGrantsOfTotal total (min asked total) seats
 
 -- where one gathers all seats and stands for all, they show what seats of a closed desk show
-pub closes : (desk : DeskModel) (plan : DeskSize) (drawn flag asked : ℕ) (knowledge : List SeatKnowledge) (id : ℕ) (v : SeatKnowledge) (seats : List SeatModel) → plan.jobs ≡ desk.jobs → plan.seats ≡ desk.seats
+pub closes : (desk : DeskModel) (plan : DeskSize) (drawn flag asked : ℕ) (knowledge : List SeatKnowledge) (id : ℕ) (v : SeatKnowledge) (seats : List SeatModel)
+    → plan.jobs ≡ desk.jobs → plan.seats ≡ desk.seats
     → length seats ≡ desk.seats
     → 0 < desk.jobs → 0 < desk.seats → Gathers seats v → IsDesk plan drawn flag asked knowledge → get_elem? knowledge id ≡ some v → End desk seats drawn asked
 closes desk plan drawn flag asked knowledge id v seats same_jobs same_seats len some_job some_seat g h at =

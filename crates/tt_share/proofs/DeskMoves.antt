@@ -29,7 +29,8 @@ each_cut P knowledge id w new one two all seat u is =
     ⊎_elim (λ (was : get_elem? (set knowledge id w) seat ≡ some u). each_set P knowledge id w one all seat u was) (λ (same : new ≡ u). subst P same two) (at_snoc (set knowledge id w) new u seat is)
 
 -- some seat still meets P where one changed, if the change keeps P
-some_set : (P : SeatKnowledge → Type 0) (knowledge : List SeatKnowledge) (id : ℕ) (v w : SeatKnowledge) → get_elem? knowledge id ≡ some v → (P v → P w) → SomeSeat P knowledge → SomeSeat P (set knowledge id w)
+some_set : (P : SeatKnowledge → Type 0) (knowledge : List SeatKnowledge) (id : ℕ) (v w : SeatKnowledge) → get_elem? knowledge id ≡ some v → (P v → P w)
+    → SomeSeat P knowledge → SomeSeat P (set knowledge id w)
 some_set P knowledge id v w at keep has =
     dite (ℕ_discrete has.0 id)
     (λ e. (id, w, set_here knowledge id w (at_within knowledge id v at), keep (subst P (some-injective has.1 v (sym (has.2) ∙ ap (get_elem? knowledge) e ∙ at)) has.3)))
@@ -49,7 +50,8 @@ module _ (numbers : SeatKnowledge → List ℕ) (limit : ℕ) where
       omega (arith, overdraw_below limit count)
 
   -- each number in a seat is below the count
-  pub counts_below : (count : ℕ) (knowledge : List SeatKnowledge) (id : ℕ) (v : SeatKnowledge) → AreDealtNumbers numbers limit count knowledge → get_elem? knowledge id ≡ some v → (k : ℕ) → k < length (numbers v)
+  pub counts_below : (count : ℕ) (knowledge : List SeatKnowledge) (id : ℕ) (v : SeatKnowledge) → AreDealtNumbers numbers limit count knowledge
+      → get_elem? knowledge id ≡ some v → (k : ℕ) → k < length (numbers v)
       → get_or (numbers v) k 0 < count
   counts_below count knowledge id v h at k lt =
       let weight : ℕ → ℕ = λ n. cond (leb count n) 1 0 in
@@ -59,7 +61,8 @@ module _ (numbers : SeatKnowledge → List ℕ) (limit : ℕ) where
       below_by_weight (numbers v) count k (omega arith) lt
 
   -- where a seat changes and keeps its numbers and its count of seats, the count stays
-  counts_same : (count : ℕ) (knowledge : List SeatKnowledge) (id : ℕ) (v w : SeatKnowledge) → AreDealtNumbers numbers limit count knowledge → get_elem? knowledge id ≡ some v → numbers w ≡ numbers v → w.seat_count ≡ v.seat_count
+  counts_same : (count : ℕ) (knowledge : List SeatKnowledge) (id : ℕ) (v w : SeatKnowledge) → AreDealtNumbers numbers limit count knowledge
+      → get_elem? knowledge id ≡ some v → numbers w ≡ numbers v → w.seat_count ≡ v.seat_count
       → AreDealtNumbers numbers limit count (set knowledge id w)
   counts_same count knowledge id v w h at same seat_count = record {
     each_once = λ weight.
@@ -73,7 +76,8 @@ module _ (numbers : SeatKnowledge → List ℕ) (limit : ℕ) where
   }
 
   -- where a seat that stands for itself and ends below the limit gets the count as a number, there is one more
-  counts_add : (count : ℕ) (knowledge : List SeatKnowledge) (id : ℕ) (v w : SeatKnowledge) → AreDealtNumbers numbers limit count knowledge → get_elem? knowledge id ≡ some v → v.seat_count ≡ 1 → last_number (numbers v) < limit
+  counts_add : (count : ℕ) (knowledge : List SeatKnowledge) (id : ℕ) (v w : SeatKnowledge) → AreDealtNumbers numbers limit count knowledge
+      → get_elem? knowledge id ≡ some v → v.seat_count ≡ 1 → last_number (numbers v) < limit
       → numbers w ≡ numbers v ++ count ∷ [] → w.seat_count ≡ 1 → AreDealtNumbers numbers limit (count + 1) (set knowledge id w)
   counts_add count knowledge id v w h at one within is one' =
       let up = h.rising id v at one in record {
@@ -91,7 +95,8 @@ module _ (numbers : SeatKnowledge → List ℕ) (limit : ℕ) where
       }
 
   -- where a seat without numbers becomes two without numbers, the count stays
-  counts_cut : (count : ℕ) (knowledge : List SeatKnowledge) (id : ℕ) (v w new : SeatKnowledge) → AreDealtNumbers numbers limit count knowledge → get_elem? knowledge id ≡ some v → numbers v ≡ [] → numbers w ≡ [] → numbers new ≡ []
+  counts_cut : (count : ℕ) (knowledge : List SeatKnowledge) (id : ℕ) (v w new : SeatKnowledge) → AreDealtNumbers numbers limit count knowledge
+      → get_elem? knowledge id ≡ some v → numbers v ≡ [] → numbers w ≡ [] → numbers new ≡ []
       → AreDealtNumbers numbers limit count (set knowledge id w ++ new ∷ [])
   counts_cut count knowledge id v w new h at v_none w_none new_none = record {
     each_once = λ weight.
@@ -109,9 +114,11 @@ module _ (numbers : SeatKnowledge → List ℕ) (limit : ℕ) where
   }
 
   -- where one seat takes over the numbers and seats of another one, the count stays
-  counts_join : (count : ℕ) (knowledge : List SeatKnowledge) (id : ℕ) (v : SeatKnowledge) (other : ℕ) (w both left : SeatKnowledge) → AreDealtNumbers numbers limit count knowledge → get_elem? knowledge id ≡ some v
+  counts_join : (count : ℕ) (knowledge : List SeatKnowledge) (id : ℕ) (v : SeatKnowledge) (other : ℕ) (w both left : SeatKnowledge)
+      → AreDealtNumbers numbers limit count knowledge → get_elem? knowledge id ≡ some v
       → get_elem? knowledge other ≡ some w
-      → get_elem? (set knowledge id both) other ≡ some w → numbers both ≡ numbers v ++ numbers w → both.seat_count ≡ v.seat_count + w.seat_count → numbers left ≡ [] → 0 < v.seat_count → 0 < w.seat_count
+      → get_elem? (set knowledge id both) other ≡ some w → numbers both ≡ numbers v ++ numbers w → both.seat_count ≡ v.seat_count + w.seat_count → numbers left ≡ []
+      → 0 < v.seat_count → 0 < w.seat_count
       → AreDealtNumbers numbers limit count (set (set knowledge id both) other left)
   counts_join count knowledge id v other w both left h at was at' is seat_count none_left some_v some_w = record {
     each_once = λ weight.
@@ -134,11 +141,13 @@ module _ (numbers : SeatKnowledge → List ℕ) (limit : ℕ) where
   }
 
 -- where a seat changes and keeps its count of seats, the seats that they stand for are as many as before
-parts_same : (knowledge : List SeatKnowledge) (id : ℕ) (v w : SeatKnowledge) → get_elem? knowledge id ≡ some v → w.seat_count ≡ v.seat_count → sum_by (λ u. u.seat_count) (set knowledge id w) ≡ sum_by (λ u. u.seat_count) knowledge
+parts_same : (knowledge : List SeatKnowledge) (id : ℕ) (v w : SeatKnowledge) → get_elem? knowledge id ≡ some v → w.seat_count ≡ v.seat_count
+    → sum_by (λ u. u.seat_count) (set knowledge id w) ≡ sum_by (λ u. u.seat_count) knowledge
 parts_same knowledge id v w at same = let s = sum_set (λ u. u.seat_count) knowledge id v w at in omega arith
 
 -- where a seat that stands for itself takes a seat's slot, seats that stand for none still hold nothing
-spent_same : (knowledge : List SeatKnowledge) (id : ℕ) (w : SeatKnowledge) → w.seat_count ≡ 1 → EachSeat (λ u. u.seat_count ≡ 0 → u ≡ no_knowledge) knowledge → EachSeat (λ u. u.seat_count ≡ 0 → u ≡ no_knowledge) (set knowledge id w)
+spent_same : (knowledge : List SeatKnowledge) (id : ℕ) (w : SeatKnowledge) → w.seat_count ≡ 1 → EachSeat (λ u. u.seat_count ≡ 0 → u ≡ no_knowledge) knowledge
+    → EachSeat (λ u. u.seat_count ≡ 0 → u ≡ no_knowledge) (set knowledge id w)
 spent_same knowledge id w one spent = each_set (λ u. u.seat_count ≡ 0 → u ≡ no_knowledge) knowledge id w (λ e. absurd (omega arith)) spent
 
 -- where a seat changes and keeps its flag and whether it saw it, what the flag says stays so
@@ -155,7 +164,8 @@ no_wrap : (n m : ℕ) → n ≤ m → m + 1 < 2 ^ 64 → (n + 1) % 2 ^ 64 ≡ n 
 no_wrap n m le small = omega arith
 
 -- the number that a step finds is the seat's next one
-next_one : (numbers : SeatKnowledge → List ℕ) (limit count : ℕ) (knowledge : List SeatKnowledge) (id : ℕ) (v : SeatKnowledge) → AreDealtNumbers numbers limit count knowledge → get_elem? knowledge id ≡ some v
+next_one : (numbers : SeatKnowledge → List ℕ) (limit count : ℕ) (knowledge : List SeatKnowledge) (id : ℕ) (v : SeatKnowledge)
+    → AreDealtNumbers numbers limit count knowledge → get_elem? knowledge id ≡ some v
     → v.seat_count ≡ 1 → CanBeNextNumber (numbers v) count
 next_one numbers limit count knowledge id v h at one =
     let up = h.rising id v at one in
@@ -244,7 +254,8 @@ seen_now false true c φ p old new = old refl
 seen_now false false c φ p old new = new p
 
 -- a seat that looks at the flag leaves a desk a desk
-desk_looks : (plan : DeskSize) (drawn flag asked : ℕ) (knowledge : List SeatKnowledge) (id : ℕ) (v : SeatKnowledge) → IsDesk plan drawn flag asked knowledge → get_elem? knowledge id ≡ some v → v.seat_count ≡ 1
+desk_looks : (plan : DeskSize) (drawn flag asked : ℕ) (knowledge : List SeatKnowledge) (id : ℕ) (v : SeatKnowledge) → IsDesk plan drawn flag asked knowledge
+    → get_elem? knowledge id ≡ some v → v.seat_count ≡ 1
     → IsDesk plan drawn flag asked (set knowledge id (knowledge_with_look v (nat_eq flag 1)))
 desk_looks plan drawn flag asked knowledge id v h at one = let w : SeatKnowledge = knowledge_with_look v (nat_eq flag 1) in record {
   seat_count = parts_same knowledge id v w at refl ∙ h.seat_count;
@@ -278,7 +289,8 @@ looks plan slots id me empty one s h homes at fits =
     )
 
 -- of the seats for which a seat stands, one that has made no step becomes a seat of its own
-desk_cuts : (plan : DeskSize) (drawn flag asked : ℕ) (knowledge : List SeatKnowledge) (id seat_count more : ℕ) → more ≡ seat_count + 1 → IsDesk plan drawn flag asked knowledge → get_elem? knowledge id ≡ some (fresh_knowledge more)
+desk_cuts : (plan : DeskSize) (drawn flag asked : ℕ) (knowledge : List SeatKnowledge) (id seat_count more : ℕ) → more ≡ seat_count + 1
+    → IsDesk plan drawn flag asked knowledge → get_elem? knowledge id ≡ some (fresh_knowledge more)
     → IsDesk plan drawn flag asked (set knowledge id (fresh_knowledge seat_count) ++ new_seat_knowledge ∷ [])
 desk_cuts plan drawn flag asked knowledge id seat_count more is_more h at =
     let v : SeatKnowledge = fresh_knowledge more in
@@ -318,7 +330,8 @@ right_true true b e = refl
 right_true false b e = e
 
 -- two seats that are joined leave a desk a desk
-desk_joins : (plan : DeskSize) (drawn flag asked : ℕ) (knowledge : List SeatKnowledge) (id : ℕ) (v : SeatKnowledge) (other : ℕ) (w : SeatKnowledge) → IsDesk plan drawn flag asked knowledge → get_elem? knowledge id ≡ some v
+desk_joins : (plan : DeskSize) (drawn flag asked : ℕ) (knowledge : List SeatKnowledge) (id : ℕ) (v : SeatKnowledge) (other : ℕ) (w : SeatKnowledge)
+    → IsDesk plan drawn flag asked knowledge → get_elem? knowledge id ≡ some v
     → ¬ (other ≡ id) → get_elem? (set knowledge id (joined_knowledge v w)) other ≡ some w → 0 < v.seat_count → 0 < w.seat_count
     → IsDesk plan drawn flag asked (set (set knowledge id (joined_knowledge v w)) other no_knowledge)
 desk_joins plan drawn flag asked knowledge id v other w h at two at' some_v some_w =

@@ -19,3 +19,4 @@ pub mod Noting
 pub mod Asked
 pub mod Apart
 pub mod Spending
+pub mod AtPlaces

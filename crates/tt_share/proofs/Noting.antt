@@ -1,6 +1,6 @@
 -- What is noted of the jobs' counts.
-use Rattle.std.proofs.Common.{◌≡◌, ℕ, zero, suc, ◌+◌, ◌<◌, List, [], ◌∷◌, Bool, true, false, Option, Some, None, slice_get, slice_set, get_or, map, replicate, length, sum_by, All, refl, sym, ap}
-use Rattle.std.proofs.Common.{subst, ◌∙◌, arith}
+use Rattle.std.proofs.Common.{◌≡◌, ℕ, zero, suc, ◌+◌, ◌<◌, ◌≤◌, List, [], ◌∷◌, Bool, true, false, Option, Some, None, slice_get, slice_set, get_or, map, replicate, length, sum_by}
+use Rattle.std.proofs.Common.{All, IfSome, refl, sym, ap, subst, ◌∙◌, arith}
 use Rattle.std.proofs.lemmas.List.{length-set}
 use Rattle.std.proofs.lemmas.List.Sums.{sum_by-cons}
 use Rattle.std.proofs.lemmas.Option.{same_Some, none-some, slice_get_within, slice_get-map, slice_get-get_or, get_or_from_slice_get}
@@ -13,14 +13,21 @@ use Rattle.tt_game.specs.Turns.{legal_turns}
 use Rattle.tt_search.specs.Numbers.{count}
 use Rattle.tt_search.specs.SearchState.{SearchState}
 use Rattle.tt_search.specs.declared.limits.Limits.{Limits}
+use Rattle.tt_search.specs.declared.limits.Reason.{Reason}
 use Rattle.tt_search.specs.declared.limits.Reason.TheVariants.{Total}
 use Rattle.tt_share.specs.declared.jobs.JobResult.{JobResult}
 use Rattle.tt_search.specs.declared.search.End.TheVariants.{Stuck}
 use Rattle.tt_share.specs.declared.jobs.JobResult.TheVariants as result
-use Rattle.tt_share.specs.Answers.{IsTotalSpent, spent_in_all}
+use Rattle.tt_share.specs.Answers.{AreSearchCounts, IsExpandedInAll, IsSearchCountAfter, IsSpent, IsWithinTotal, spent_in_all}
 use Rattle.tt_share.specs.inside.Jobs.{IsCounted, IsForTotal, IsJobCount, IsJob, end_of, kept_of}
-use Rattle.tt_share.specs.inside.Results.{ResultsSoFar, AreNoted, HasEnd, FilledBelow, IsAllSpent}
+use Rattle.tt_share.specs.inside.Results.{ResultsSoFar, AreNoted, HasEnd, FilledBelow, KeepsTotal}
+use Rattle.tt_share.proofs.Counting.{none_begun}
 use Rattle.tt_share.proofs.ResultLemmas.{get_set_same, get_set_other}
+
+-- what holds of a total, where there is one
+pub if_some : (total : Option ℕ) (P : ℕ → Type 0) → ((n : ℕ) → total ≡ Some n → P n) → IfSome total P
+if_some None P h = tt
+if_some (Some n) P h = h n refl
 
 -- what stands at a slot stands there as its image
 map_at : {A B : Type 0} (f : A → B) (xs : List A) (i : ℕ) (x : A) → slice_get xs i ≡ Some x → slice_get (map f xs) i ≡ Some (f x)
@@ -107,25 +114,77 @@ blank_sum (e ∷ spent) none =
     let more = blank_sum spent (λ k d short. none (suc k) d (omega (arith, short))) in
     omega (arith, one, more, sum_by-cons (λ (x : Turn × ℕ). x.1) e spent)
 
--- where every job has a result and all of the total is spent, the counts tell how
-pub spent_told : (p : ResultsSoFar) (total : Option ℕ) (job : ℕ) (t : Turn) (held : SearchState) (end : JobResult) → AreNoted p.line p.limits p.ends p.spent → FilledBelow (length p.ends) p.ends
-    → HasEnd p.ends job end → end_of end ≡ Stuck Total (Some held) → IsJob p.line job t → IsAllSpent total p → (n : ℕ) × (total ≡ Some n) × IsTotalSpent p.line p.limits n t held p.spent
-spent_told p total job t held end noted filled here is at all =
-    let h = all (job, end, here, subst IsForTotal (sym is) tt) in
-    let within = slice_get_within p.ends job (Some end) here in
-    let low : job < length p.spent = omega (arith, within, noted.each) in
-    let e : Turn × ℕ = get_or p.spent job (t, 0) in
-    let there : slice_get p.spent job ≡ Some e = slice_get-get_or p.spent job (t, 0) low in
-    let own : count held.tree ≡ e.1 = (subst (IsCounted p.line p.limits e.0 e.1) is (noted.noted job end e here there)).1 in
-    let turn : e.0 ≡ t = same_Some e.0 t (sym (subst (λ (ts : List Turn). slice_get ts job ≡ Some e.0) noted.turns (map_at (λ (x : Turn × ℕ). x.0) p.spent job e there)) ∙ at) in
-    let pair : e ≡ (t, count held.tree) = ap (λ (u : Turn). (u, e.1)) turn ∙ ap (λ (m : ℕ). (t, m)) (sym own) in (
-      h.0,
-      h.1,
-      record {
-        turns = noted.turns;
-        counts = λ k d short.
-            (let had = filled k (omega (arith, short, noted.each)) in (noted.noted k had.0 (get_or p.spent k d) had.1 (slice_get-get_or p.spent k d short)).0);
+-- what is noted are counts of searches: where a job has no result, of one that begins
+pub search_counts : (line : LineWithUndo) (limits : Limits) (ends : List (Option JobResult)) (spent : List (Turn × ℕ)) → 1 ≤ limits.depth → AreNoted line limits ends spent
+    → AreSearchCounts line limits spent
+search_counts line limits ends spent deep noted = record {
+  turns = noted.turns;
+  counts = λ k d short. counted k (get_or spent k d) (omega (arith, short, noted.each)) (slice_get-get_or spent k d short);
+}
+  where
+    counted_at : (k : ℕ) (e : Turn × ℕ) (end : Option (Option JobResult)) → k < length ends → slice_get spent k ≡ Some e → slice_get ends k ≡ end → IsSearchCountAfter line limits e.0 e.1
+    counted_at k e None low there is = absurd (none-some (get_or ends k None) (sym is ∙ slice_get-get_or ends k None low))
+    counted_at k e (Some None) low there is = subst (λ (n : ℕ). IsSearchCountAfter line limits e.0 n) (sym (noted.unspent k e is there)) (none_begun line limits e.0 deep)
+    counted_at k e (Some (Some end)) low there is = (noted.noted k end e is there).0
+
+    counted : (k : ℕ) (e : Turn × ℕ) → k < length ends → slice_get spent k ≡ Some e → IsSearchCountAfter line limits e.0 e.1
+    counted k e low there = counted_at k e (slice_get ends k) low there refl
+
+-- no search expanded anything
+module _ (line : LineWithUndo) (limits : Limits) (deep : 1 ≤ limits.depth) where
+  unspent : List Turn → List (Turn × ℕ)
+  unspent [] = []
+  unspent (t ∷ ts) = (t, 0) ∷ unspent ts
+
+  unspent_turns : (ts : List Turn) → map (λ (e : Turn × ℕ). e.0) (unspent ts) ≡ ts
+  unfolding unspent
+  unspent_turns [] = refl
+  unspent_turns (t ∷ ts) = ap (λ (l : List Turn). t ∷ l) (unspent_turns ts)
+
+  unspent_counts : (ts : List Turn) (k : ℕ) (d : Turn × ℕ) → k < length (unspent ts) → IsSearchCountAfter line limits (get_or (unspent ts) k d).0 (get_or (unspent ts) k d).1
+  unfolding unspent
+  unspent_counts [] k d short = absurd (omega (arith, short))
+  unspent_counts (t ∷ ts) zero d short = none_begun line limits t deep
+  unspent_counts (t ∷ ts) (suc k) d short = unspent_counts ts k d (omega (arith, short))
+
+  unspent_sum : (ts : List Turn) → spent_in_all (unspent ts) ≡ 0
+  unfolding unspent
+  unspent_sum [] = refl
+  unspent_sum (t ∷ ts) = let more = unspent_sum ts in omega (arith, more, sum_by-cons (λ (e : Turn × ℕ). e.1) (t, 0) (unspent ts))
+
+  pub none_expanded : IsExpandedInAll line limits 0
+  none_expanded =
+      let turns = legal_turns line.frame line.state in
+      (unspent turns, record { turns = unspent_turns turns; counts = unspent_counts turns }, unspent_sum turns)
+
+-- where every job has a result and the searches keep to the total, the counts tell how
+module _ (p : ResultsSoFar) (total : Option ℕ) (job : ℕ) (t : Turn) (held : SearchState) (end : JobResult) (reason : Reason) (noted : AreNoted p.line p.limits p.ends p.spent)
+    (filled : FilledBelow (length p.ends) p.ends) (here : HasEnd p.ends job end) (is : end_of end ≡ Stuck reason (Some held)) (at : IsJob p.line job t) (keeps : KeepsTotal total p) where
+  -- the search that is stuck is among those that were counted
+  spent_is : IsSpent p.line p.limits (spent_in_all p.spent) t held p.spent
+  spent_is =
+      let within = slice_get_within p.ends job (Some end) here in
+      let low : job < length p.spent = omega (arith, within, noted.each) in
+      let e : Turn × ℕ = get_or p.spent job (t, 0) in
+      let there : slice_get p.spent job ≡ Some e = slice_get-get_or p.spent job (t, 0) low in
+      let own : count held.tree ≡ e.1 = (subst (IsCounted p.line p.limits e.0 e.1) is (noted.noted job end e here there)).1 in
+      let turns = subst (λ (ts : List Turn). slice_get ts job ≡ Some e.0) noted.turns (map_at (λ (x : Turn × ℕ). x.0) p.spent job e there) in
+      let turn : e.0 ≡ t = same_Some e.0 t (sym turns ∙ at) in
+      let pair : e ≡ (t, count held.tree) = ap (λ (u : Turn). (u, e.1)) turn ∙ ap (λ (m : ℕ). (t, m)) (sym own) in record {
+        by = record {
+          turns = noted.turns;
+          counts = λ k d short.
+              (let had = filled k (omega (arith, short, noted.each)) in (noted.noted k had.0 (get_or p.spent k d) had.1 (slice_get-get_or p.spent k d short)).0);
+        };
         own = (job, low, get_or_from_slice_get p.spent job (t, count held.tree) (t, count held.tree) (there ∙ ap Some pair));
-        in_all = h.2;
-      },
-    )
+        in_all = refl;
+      }
+
+  pub within_told : IsWithinTotal p.line p.limits total t held
+  within_told = (spent_in_all p.spent, p.spent, spent_is, if_some total (λ most. spent_in_all p.spent ≤ most) keeps.within)
+
+  pub spent_told : reason ≡ Total → (n : ℕ) × (total ≡ Some n) × IsSpent p.line p.limits n t held p.spent
+  spent_told e =
+      let stuck : end_of end ≡ Stuck Total (Some held) = is ∙ ap (λ (r : Reason). Stuck r (Some held)) e in
+      let h = keeps.all (job, end, here, subst IsForTotal (sym stuck) tt) in
+      (h.0, h.1, subst (λ (n : ℕ). IsSpent p.line p.limits n t held p.spent) h.2 spent_is)

@@ -1,5 +1,7 @@
 -- Results that are put at their slots.
-use Rattle.std.proofs.Common.{◌≡◌, ◌≢◌, ℕ, zero, suc, ◌<◌, inl, inr, List, [], ◌∷◌, ◌++◌, All, Option, Some, None, slice_get, slice_set, get_or, length, refl, sym, ap, subst, ◌∙◌, arith, append_assoc}
+use Rattle.std.proofs.Common.{◌≡◌, ◌≢◌, ℕ, zero, suc, ◌<◌, inl, inr, List, [], ◌∷◌, ◌++◌, All, Option, Some, None, slice_get, slice_set, get_or, length}
+use Rattle.std.proofs.Common.{map, reverse, refl, sym, ap, subst, ◌∙◌, arith, append_assoc}
+use Rattle.std.proofs.lemmas.List.{map-append, reverse-append}
 use Rattle.std.proofs.lemmas.Option.{same_Some, none-some}
 use Rattle.tt_game.specs.Line.{LineWithUndo}
 use Rattle.tt_game.specs.declared.turns.Turn.{Turn}
@@ -96,13 +98,21 @@ pub taken_more : {X : Type 0} (all left less taken : List X) (x : X) → all ≡
 taken_more all left less taken x was is = was ∙ (ap (λ l. l ++ taken) is ∙ append_assoc less (x ∷ []) taken)
 
 -- what stands between two lists has the length of the first one as its slot
-there_at : {X : Type 0} (less more : List X) (x : X) → slice_get (less ++ x ∷ more) (length less) ≡ Some x
+pub there_at : {X : Type 0} (less more : List X) (x : X) → slice_get (less ++ x ∷ more) (length less) ≡ Some x
 there_at [] more x = refl
 there_at (y ∷ less) more x = there_at less more x
 
 -- and it stood among all
 pub taken_there : {X : Type 0} (all left less taken : List X) (x : X) → all ≡ left ++ taken → left ≡ less ++ x ∷ [] → slice_get all (length less) ≡ Some x
 taken_there all left less taken x was is = ap (λ l. slice_get l (length less)) (taken_more all left less taken x was is) ∙ there_at less taken x
+
+-- one more was put behind the images of those that were taken, the last first
+pub reversed_more : {A B : Type 0} (f : A → B) (done after all : List B) (x : A) (left less : List A) → left ≡ less ++ x ∷ [] → after ≡ done ++ f x ∷ []
+    → done ++ reverse (map f left) ≡ all → after ++ reverse (map f less) ≡ all
+reversed_more f done after all x left less is more was =
+    let last : reverse (map f left) ≡ f x ∷ reverse (map f less) =
+    ap (λ l. reverse (map f l)) is ∙ (ap reverse (map-append f less (x ∷ [])) ∙ reverse-append (map f less) (f x ∷ [])) in
+    ap (λ l. l ++ reverse (map f less)) more ∙ (append_assoc done (f x ∷ []) (reverse (map f less)) ∙ (ap (λ l. done ++ l) (sym last) ∙ was))
 
 -- a lesser stuck job stays stuck
 past_still : (old new : List (Option JobResult)) (job : ℕ) → KeepsEnds old new → IsPastStuck old job → IsPastStuck new job
@@ -130,7 +140,8 @@ given_at first old new all i f (Some None) there is puts was = λ job end at. (
     ])
 
 -- the same, whatever stood at its slot
-pub given_more : (first old new : List (Option JobResult)) (all : List SearchedJob) (i : ℕ) (f : SearchedJob) → slice_get all i ≡ Some f → Puts old new f → AreGiven first old all → AreGiven first new all
+pub given_more : (first old new : List (Option JobResult)) (all : List SearchedJob) (i : ℕ) (f : SearchedJob) → slice_get all i ≡ Some f → Puts old new f
+    → AreGiven first old all → AreGiven first new all
 given_more first old new all i f there puts was = given_at first old new all i f (slice_get old f.job) there refl puts was
 
 -- so it is with what one more worker handed back

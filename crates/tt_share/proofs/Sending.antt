@@ -6,7 +6,7 @@ use denote.Param.{param}
 use denote.Ref.{NamedLft}
 use denote.Struct.Field.{shr_ref_field}
 use denote.Struct.Tuple.{TupleAt, type_at}
-use denote.Param.Send.{IsSend, IsSync, view_send, view_sync, sendable}
+use denote.Param.Send.{IsSend, IsSync, view_sync, sendable}
 use denote.Param.SendFields.{as_row_send, as_row_sync, declared_send, declared_sync}
 use Rattle.std.proofs.Crossing.{crosses}
 use Rattle.std.specs.contracts.alloc.Global as Global
@@ -35,6 +35,7 @@ use Rattle.tt_share.specs.contracts.jobs.Jobs as Jobs
 use Rattle.tt_share.specs.contracts.jobs.JobResult as JobResult
 use Rattle.tt_share.specs.contracts.jobs.SearchedJob as SearchedJob
 use Rattle.tt_share.specs.contracts.workers.HandedBack as HandedBack
+use Rattle.tt_share.specs.contracts.workers.WorkerPlace as WorkerPlace
 
 -- a stuck search crosses threads in its box
 job_result_send : IsSend JobResult.the_row
@@ -53,8 +54,11 @@ table_seat_send S V s = record { owned = λ d vs. ((λ vss. (tt, ((λ uss. (tt, 
 seat_send : IsSend Seat.the_row
 seat_send = search (sendable, crosses, table_seat_send) depth 40
 
-pub handed_back_send : IsSend HandedBack.the_row
+handed_back_send : IsSend HandedBack.the_row
 handed_back_send = search (sendable, crosses, searched_job_send, seat_send) depth 40
+
+pub place_send : IsSend WorkerPlace.the_row
+place_send = search (sendable, crosses, handed_back_send, seat_send) depth 40
 
 abbrev pub Handle : RattleType
 Handle = Arc.the_row Proof.the_row Global.the_row ghosts

@@ -19,7 +19,8 @@ use Rattle.tt_share.specs.inside.Slots.{slots_at, IsIndexOf}
 use Rattle.tt_share.specs.Table.{slots_passing_from, slots_with_key, total_node_count}
 
 -- one more element has its slot at the end, if it passes
-pub slots-snoc : {X : Type 0} (t : X → Bool) (n : ℕ) (xs : List X) (x : X) → slots_passing_from t n (xs ++ x ∷ []) ≡ cond (t x) (slots_passing_from t n xs ++ (n + length xs) ∷ []) (slots_passing_from t n xs)
+pub slots-snoc : {X : Type 0} (t : X → Bool) (n : ℕ) (xs : List X) (x : X)
+    → slots_passing_from t n (xs ++ x ∷ []) ≡ cond (t x) (slots_passing_from t n xs ++ (n + length xs) ∷ []) (slots_passing_from t n xs)
 slots-snoc t n [] x = grind arith
 slots-snoc t n (y ∷ ys) x = let e = slots-snoc t (n + 1) ys x in grind (arith, e)
 
@@ -27,7 +28,8 @@ snoc_at : (b : Bool) (slots : List ℕ) (m n : ℕ) → m ≡ n → cond b (slot
 snoc_at b slots m n e = ap (λ i. cond b (slots ++ i ∷ []) slots) e
 
 -- with one more slot at the key of one more proof, an index stays one
-pub index-snoc : {S : Type 0} (old new : HashMap Key (Vec ℕ Global) S) (ps : List ProofClaim) (p : ProofClaim) (key : Key) (slot : ℕ) → slot ≡ length ps → key ≡ key_of p.frame p.state → IsIndexOf old ps
+pub index-snoc : {S : Type 0} (old new : HashMap Key (Vec ℕ Global) S) (ps : List ProofClaim) (p : ProofClaim) (key : Key) (slot : ℕ) → slot ≡ length ps
+    → key ≡ key_of p.frame p.state → IsIndexOf old ps
     → ((q : Key) → slots_at same_key new q ≡ cond (same_key key q) (slots_at same_key old q ++ slot ∷ []) (slots_at same_key old q))
     → IsIndexOf new (ps ++ p ∷ [])
 index-snoc old new ps p key slot at same was step q =
@@ -41,7 +43,8 @@ index-snoc old new ps p key slot at same was step q =
     ∙ sym e
 
 -- with one more tree, its nodes are added, up to the greatest number of 64 bits
-pub nodes-snoc : (ps : List ProofClaim) (p : ProofClaim) (total n : ℕ) → total ≡ total_node_count ps → n ≡ min (total + min (nodes p.tree) (2 ^ 64 - 1)) (2 ^ 64 - 1) → n ≡ total_node_count (ps ++ p ∷ [])
+pub nodes-snoc : (ps : List ProofClaim) (p : ProofClaim) (total n : ℕ) → total ≡ total_node_count ps → n ≡ min (total + min (nodes p.tree) (2 ^ 64 - 1)) (2 ^ 64 - 1)
+    → n ≡ total_node_count (ps ++ p ∷ [])
 nodes-snoc ps p total n was is = let e = sum_by-append (λ (d : ProofClaim). nodes d.tree) ps (p ∷ []) in grind (arith, e)
 
 -- one more element maps to one more
@@ -85,7 +88,8 @@ has_key k ps p j h is =
     sym (same_key_implies_equal k (key_of p.frame p.state) (slot_passes (λ (d : ProofClaim). same_key k (key_of d.frame d.state)) 0 ps p j (get_or (slots_with_key k ps) j 0) h at is))
 
 -- what stands at a slot of the key has the key
-pub has_key_at : {A : Type 0} (value : A → ProofClaim) (k : Key) (xs : List A) (ps : List ProofClaim) (x : A) (slots : List ℕ) (j : ℕ) → map value xs ≡ ps → slots ≡ slots_with_key k ps → j < length slots
+pub has_key_at : {A : Type 0} (value : A → ProofClaim) (k : Key) (xs : List A) (ps : List ProofClaim) (x : A) (slots : List ℕ) (j : ℕ) → map value xs ≡ ps
+    → slots ≡ slots_with_key k ps → j < length slots
     → get_or slots j 0 < length xs → x ≡ get_or xs (get_or slots j 0) x → key_of (value x).frame (value x).state ≡ k
 has_key_at value k xs ps x slots j all are h inside is =
     let at : slice_get xs (get_or slots j 0) ≡ Some x = slice_get_read xs (length xs) (get_or slots j 0) x refl inside is in

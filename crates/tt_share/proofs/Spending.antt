@@ -1,10 +1,11 @@
 -- All of a total is spent where a search was refused.
-use Rattle.std.proofs.Common.{◌≡◌, ℕ, zero, suc, ◌+◌, ◌<◌, ◌≤◌, List, [], ◌∷◌, ◌++◌, Option, Some, None, All, Contains, Bool, true, false, slice_get, replicate, sum_by, count_by, cond, leb, nat_eq}
-use Rattle.std.proofs.Common.{MatchOption}
+use Rattle.std.proofs.Common.{◌≡◌, ℕ, zero, suc, ◌+◌, ◌-◌, ◌<◌, ◌≤◌, List, [], ◌∷◌, ◌++◌, Option, Some, None, All, Contains, Bool, true, slice_get, replicate}
+use Rattle.std.proofs.Common.{MatchOption, length, map, reverse, sum_by, count_by, cond, leb, nat_eq}
 use Rattle.std.proofs.Common.{inl, inr, true≢false, refl, sym, ap, subst, ◌∙◌, arith, zero-le}
 use Rattle.std.proofs.lemmas.Bool.{cases_lt}
 use Rattle.std.proofs.lemmas.Bool.Decides.{nat_tests}
-use Rattle.std.proofs.lemmas.List.Elements.{Contains-push}
+use Rattle.std.proofs.lemmas.List.{get_or-reverse, length-reverse, reverse-append}
+use Rattle.std.proofs.lemmas.List.Elements.{All-map, Contains-push}
 use Rattle.std.proofs.lemmas.List.Sums.{sum_by_push, sum_by-cons}
 use Rattle.std.proofs.lemmas.Option.{none-some, same_Some}
 use mathlib.Core.Logic.{dite}
@@ -18,7 +19,7 @@ use Rattle.tt_share.specs.declared.jobs.SearchedJob.{SearchedJob}
 use Rattle.tt_share.specs.declared.workers.HandedBack.{HandedBack}
 use Rattle.tt_share.specs.Answers.{spent_in_all}
 use Rattle.tt_share.specs.inside.Jobs.{IsForTotal, end_of}
-use Rattle.tt_share.specs.inside.Results.{ResultsSoFar, HasTotal, IsAllSpent, SpendsTotal, AskedFor}
+use Rattle.tt_share.specs.inside.Results.{ResultsSoFar, HasTotal, KeepsTotal, SpendsTotal, AskedFor}
 use Rattle.tt_share.specs.Seats.{DeskModel, SeatModel, EndsInOverdraw, EachNumberInOneSeat, AreGrantsOfTotal, AreDeskCounts, granted_among, last_number, occurrences_in_seats}
 use Rattle.tt_share.specs.inside.Tallies.{IsGranted, Tallies}
 use Rattle.tt_share.specs.inside.Workers.{times, spent_on, spent_by_all, held, held_in, AllApart, OnlyHandedBack, SomeTotal, IsWork}
@@ -64,6 +65,24 @@ nothing : {A : Type 0} (xs : List A) → sum_by (λ (_ : A). 0) xs ≡ 0
 nothing [] = refl
 nothing {A} (x ∷ xs) = let e = nothing xs in omega (arith, e, sum_by-cons (λ (_ : A). 0) x xs)
 
+-- the images of a list, the last first, weigh as much
+reversed_weighs : {A B : Type 0} (f : A → B) (weight : B → ℕ) (xs : List A) → sum_by weight (reverse (map f xs)) ≡ sum_by (λ x. weight (f x)) xs
+reversed_weighs f weight [] = refl
+reversed_weighs f weight (x ∷ xs) =
+    let e = ap (sum_by weight) (reverse-append (f x ∷ []) (map f xs)) in
+    omega (arith, e, reversed_weighs f weight xs, sum_by_push weight (reverse (map f xs)) (f x), sum_by-cons (λ y. weight (f y)) x xs)
+
+-- what holds of the images of all holds of them, the last first
+all_reversed : {A B : Type 0} (P : B → Type 0) (f : A → B) (xs : List A) → All (λ x. P (f x)) xs → All P (reverse (map f xs))
+all_reversed P f xs all k d low =
+    let short : k < length (map f xs) = omega (arith, low, length-reverse (map f xs)) in
+    subst P (sym (get_or-reverse (map f xs) k d short)) (All-map P f xs all (length (map f xs) - 1 - k) d (omega (arith, short)))
+
+-- the seats that workers hand back are the desk's
+pub seats_ours : (line : LineWithUndo) (limits : Limits) (desk : DeskModel) (work : List HandedBack) → All (IsWork line limits desk) work
+    → All (λ (s : SeatModel). s.desk ≡ desk.id) (reverse (map (λ (b : HandedBack). b.seat) work))
+seats_ours line limits desk work works = all_reversed (λ (s : SeatModel). s.desk ≡ desk.id) (λ (b : HandedBack). b.seat) work (λ k d low. (works k d low).seat)
+
 -- ---- seats that were refused
 
 -- 1 where the numbers end with one that is no grant
@@ -95,13 +114,16 @@ most_one list drawn seats once job = elim (cases_lt job drawn) [
   | inr h ↦ let e = once.above job (omega arith) in omega (arith, e)
 ]
 
--- of what one caller was granted, all is spent where some job is stuck for the total
+-- what one caller spends is what it was granted, and all of the total where some job is stuck for that
 pub own_spent : (n : ℕ) (first last : ResultsSoFar) (before after : GrantTally) (total : Option ℕ) → first.ends ≡ replicate n None → spent_in_all first.spent ≡ 0
-    → before.granted ≡ 0 → IsGranted total after.granted after.refused → AskedFor first before last after → IsAllSpent total last
-own_spent n first last before after total blank unspent unasked granted h asked = elim (h.refused asked) [
-  | inl was ↦ absurd (blank_none n was.0 was.1 (ap (λ (l : List (Option JobResult)). slice_get l was.0) (sym blank) ∙ was.2))
-  | inr up ↦ spends total granted up
-]
+    → before.granted ≡ 0 → IsGranted total after.granted after.refused → AskedFor first before last after → KeepsTotal total last
+own_spent n first last before after total blank unspent unasked granted h = record {
+  within = λ m is. omega (arith, h.spent, (granted.1 m is).0, unspent, unasked);
+  all = λ asked. elim (h.refused asked) [
+    | inl was ↦ absurd (blank_none n was.0 was.1 (ap (λ (l : List (Option JobResult)). slice_get l was.0) (sym blank) ∙ was.2))
+    | inr up ↦ spends total granted up
+  ];
+}
   where
     -- as many as the total
     spends : (o : Option ℕ) → IsGranted o after.granted after.refused → after.refused ≡ true → (m : ℕ) × (o ≡ Some m) × (spent_in_all last.spent ≡ m)
@@ -112,8 +134,10 @@ own_spent n first last before after total blank unspent unasked granted h asked 
 
 module _ (line : LineWithUndo) (limits : Limits) (desk : DeskModel) (closed : Closed) (work : List HandedBack) (seats : List SeatModel) (own : SeatModel)
     (works : All (IsWork line limits desk) work)
-    (backs : (weight : SeatModel → ℕ) → sum_by weight seats ≡ sum_by (λ (b : HandedBack). weight b.seat) work)
-    (closes : AreDeskCounts desk (seats ++ own ∷ []) closed) where
+    (are : seats ≡ reverse (map (λ (b : HandedBack). b.seat) work)) (closes : AreDeskCounts desk (seats ++ own ∷ []) closed) where
+  backs : (weight : SeatModel → ℕ) → sum_by weight seats ≡ sum_by (λ (b : HandedBack). weight b.seat) work
+  backs weight = ap (sum_by weight) are ∙ reversed_weighs (λ (b : HandedBack). b.seat) weight work
+
   -- no job comes twice, as the desk gave out no number twice
   pub all_apart : (ends : List (Option JobResult)) → ends ≡ replicate desk.jobs None → AllApart ends work
   all_apart ends blank job = elim (cases_lt job desk.jobs) [
@@ -182,10 +206,13 @@ module _ (line : LineWithUndo) (limits : Limits) (desk : DeskModel) (closed : Cl
     -- no more than the total is spent, and all of it where some job is stuck for it
     pub total_spent : SpendsTotal desk.total closed.granted last
     total_spent = record {
+      keeps = record {
+        within = λ total is. let granted = (spends total is).asked.2 in grind (arith, spent_is total is, granted);
+        all = λ h.
+            let s = some_refused h in
+            let all = (spends s.0 s.1).refused s.2.0 s.2.1 s.2.2 in
+            (s.0, s.1, spent_is s.0 s.1 ∙ all);
+      };
       granted_is = spent_is;
-      within = λ total is. let granted = (spends total is).asked.2 in grind (arith, spent_is total is, granted);
-      all = λ h.
-          let s = some_refused h in
-          let all = (spends s.0 s.1).refused s.2.0 s.2.1 s.2.2 in
-          (s.0, s.1, spent_is s.0 s.1 ∙ all);
+      none = λ is. subst (λ (o : Option ℕ). MatchOption o (closed.granted ≡ 0) (λ n. AreGrantsOfTotal n closed.granted (seats ++ own ∷ []))) is closes.granted;
     }

@@ -86,7 +86,8 @@ pub ready_by : {side : Side} {ends : List (Option JobResult)} {job : ℕ} → Is
 ready_by {side} {ends} {job} least = inl (job, least.wins)
 
 -- all is ready, and no job has a win: then none is missing
-pub not_missing : (side : Side) (ends now : List (Option JobResult)) (i : ℕ) → NoWin side ends → IsReady side ends → i < length ends → slice_get now i ≡ slice_get ends i → slice_get now i ≡ Some None → ⊥
+pub not_missing : (side : Side) (ends now : List (Option JobResult)) (i : ℕ) → NoWin side ends → IsReady side ends → i < length ends → slice_get now i ≡ slice_get ends i
+    → slice_get now i ≡ Some None → ⊥
 not_missing side ends now i none ready within same missing = elim ready [
   | inl h ↦ none h.0 h.1
   | inr h ↦ let had = h i within in none-some had.0 (same_Some None (Some had.0) (sym missing ∙ (same ∙ had.1)))

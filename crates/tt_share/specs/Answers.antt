@@ -1,5 +1,5 @@
 -- What the answer to a line says.
-use Rattle.std.specs.Prelude.{◌≡◌, ℕ, ◌+◌, ◌<◌, ◌≤◌, ◌↔◌, ◌⊎◌, List, [], Option, Some, None, All, Contains, IsSome, map, sum_by}
+use Rattle.std.specs.Prelude.{◌≡◌, ℕ, ◌+◌, ◌<◌, ◌≤◌, ◌↔◌, ◌⊎◌, List, [], Option, Some, None, All, Contains, IfSome, IsSome, map, sum_by}
 use Rattle.std.specs.Arc.{arc_value}
 use Rattle.tt_game.specs.declared.frame.Frame.{Frame}
 use Rattle.tt_game.specs.declared.turns.Turn.{Turn}
@@ -42,16 +42,29 @@ IsSearchCountAfter line limits t n =
 abbrev pub spent_in_all : List (Turn × ℕ) → ℕ
 spent_in_all spent = sum_by (λ (e : Turn × ℕ). e.1) spent
 
--- How a total was spent, where the search is behind the turn
-pub record IsTotalSpent (line : LineWithUndo) (limits : Limits) (total : ℕ) (t : Turn) (search : SearchState) (spent : List (Turn × ℕ)) : Type 0 where
+-- How many nodes searches behind the legal turns expanded
+pub record AreSearchCounts (line : LineWithUndo) (limits : Limits) (spent : List (Turn × ℕ)) : Type 0 where
   -- each legal turn is there, in rising order
   pub turns : map (λ (e : Turn × ℕ). e.0) spent ≡ legal_turns line.frame line.state
   -- each with the count of a grown search behind it, under the same budget and a depth one less
   pub counts : All (λ (e : Turn × ℕ). IsSearchCountAfter line limits e.0 e.1) spent
+
+-- searches behind the legal turns expanded so many in all
+abbrev pub IsExpandedInAll : LineWithUndo → Limits → ℕ → Type 0
+IsExpandedInAll line limits n = (spent : List (Turn × ℕ)) × AreSearchCounts line limits spent × (spent_in_all spent ≡ n)
+
+-- How so many nodes in all were expanded, where the search is behind the turn
+pub record IsSpent (line : LineWithUndo) (limits : Limits) (n : ℕ) (t : Turn) (search : SearchState) (spent : List (Turn × ℕ)) : Type 0 where
+  -- by searches behind the legal turns
+  pub by : AreSearchCounts line limits spent
   -- the search's own count is there
   pub own : Contains spent (t, count search.tree)
-  -- the counts add up to the total
-  pub in_all : spent_in_all spent ≡ total
+  -- the counts add up to that
+  pub in_all : spent_in_all spent ≡ n
+
+-- the search is one of those behind the legal turns, and these expanded no more in all than the total, where there is one
+abbrev pub IsWithinTotal : LineWithUndo → Limits → Option ℕ → Turn → SearchState → Type 0
+IsWithinTotal line limits total t search = (n : ℕ) × (spent : List (Turn × ℕ)) × IsSpent line limits n t search spent × IfSome total (λ most. n ≤ most)
 
 -- what is known of the counts: all of them where the total is spent, and else nothing
 abbrev pub counts_if_total_spent_of : Reason → List (Turn × ℕ) → List (Turn × ℕ)
@@ -79,15 +92,15 @@ pub record IsStuckForMemory (line : LineWithUndo) (limits : Limits) (stuck : Stu
   pub turn : ((stuck.turn ≡ Pass) × (stuck.search ≡ None)) ⊎ (IsLegal line.frame line.state stuck.turn × LesserTurnsLose line.frame line.state stuck.turn)
   pub behind : (search : SearchState) → stuck.search ≡ Some search → IsSearchAfter line limits stuck.turn search × IsGrownFromRoot search.limits search.line.frame search.line.state search.tree
 
--- the search that is held is stuck behind the turn, or memory was refused; it is stuck for the total only where there is one, and
--- then all of it is spent
+-- the search that is held is stuck behind the turn, within the total, or memory was refused; it is stuck for the total only where there
+-- is one, and then all of it is spent
 abbrev pub IsUnsettledAnswer : LineWithUndo → Limits → Option ℕ → Reason → Stuck → Type 0
-IsUnsettledAnswer line limits total Budget stuck =
-    (search : SearchState) × (stuck.search ≡ Some search) × IsStuckAfter line limits Budget stuck.turn search × (stuck.spent.items ≡ [])
-IsUnsettledAnswer line limits total Depth stuck =
-    (search : SearchState) × (stuck.search ≡ Some search) × IsStuckAfter line limits Depth stuck.turn search × (stuck.spent.items ≡ [])
+IsUnsettledAnswer line limits total Budget stuck = (search : SearchState) × (stuck.search ≡ Some search)
+    × IsStuckAfter line limits Budget stuck.turn search × IsWithinTotal line limits total stuck.turn search × (stuck.spent.items ≡ [])
+IsUnsettledAnswer line limits total Depth stuck = (search : SearchState) × (stuck.search ≡ Some search)
+    × IsStuckAfter line limits Depth stuck.turn search × IsWithinTotal line limits total stuck.turn search × (stuck.spent.items ≡ [])
 IsUnsettledAnswer line limits total Total stuck = (n : ℕ) × (total ≡ Some n) × (search : SearchState) × (stuck.search ≡ Some search)
-    × IsStuckAfter line limits Total stuck.turn search × IsTotalSpent line limits n stuck.turn search stuck.spent.items
+    × IsStuckAfter line limits Total stuck.turn search × IsSpent line limits n stuck.turn search stuck.spent.items
 IsUnsettledAnswer line limits total Memory stuck = IsStuckForMemory line limits stuck × (stuck.spent.items ≡ [])
 
 -- a proof of the line and its first turn, or what is stuck

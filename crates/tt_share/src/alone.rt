@@ -2,8 +2,8 @@
 
 ghost use Rattle.std.specs.Prelude.{◌≡◌, ℕ, ◌≤◌, Option, None, IfErr, IfOk, MatchOption, ltb, true};
 ghost use Rattle.tt_game.specs.Game.{winner_of};
-ghost use Rattle.tt_share.specs.Answers.{IsAnswer};
-ghost use Rattle.tt_share.specs.inside.Results.{IsReady, IsAllSpent, KnowsNothing};
+ghost use Rattle.tt_share.specs.Answers.{AreSearchCounts, IsAnswer};
+ghost use Rattle.tt_share.specs.inside.Results.{IsReady, KeepsTotal, KnowsNothing};
 ghost use Rattle.tt_share.specs.inside.Tallies.{IsGranted};
 
 use crate::answer::Answer;
@@ -101,15 +101,17 @@ pub(crate) fn new_results_or_answer<'a, S: Store>(
     }
 }
 
-/// The answer that the results make. Its proof is offered to the store.
+/// The answer that the results make. Its proof is offered to the store. The counts of the results are those of searches.
 pub(crate) fn conclude_and_offer<S: Store>(
     alloc: Global,
     results: Results<'_>,
     store: &mut S,
 ) -> Answer
     requires ready { IsReady results.line.state.to_move results.ends }
-    ensures { (total : Option ℕ) → IsAllSpent total results.entry → IsAnswer results.entry.line results.entry.limits total result }
+    ensures answer { (total : Option ℕ) → KeepsTotal total results.entry → IsAnswer results.entry.line results.entry.limits total result }
+    ensures counts { AreSearchCounts results.entry.line results.entry.limits results.entry.spent }
 {
+    results.tell_counts();
     match results.conclude() {
         Ok(answer) => {
             offer_answer(&answer, store);

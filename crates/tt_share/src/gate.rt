@@ -9,9 +9,6 @@ pub trait Gate: Sync {
 
     /// The search that `begin` announced has ended.
     fn end(&self, job: usize);
-
-    /// df-pn had too little memory for the problem, so the workers begin. Does nothing unless an impl says what.
-    fn dfpn_lacked_memory(&self) {}
 }
 
 /// Hears of each job, and does nothing.

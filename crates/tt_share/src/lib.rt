@@ -13,8 +13,8 @@
 //! | `gate` | the trait `Gate`: workers call it when a job begins and ends |
 //! | `desk` | gives out jobs. In its folder: `rule`, its invariant; `grants`, how a seat gets grants |
 //! | `log` | proofs that threads share. In its folder: `view` and `taken`, a thread's index of the log; `log_store`, a view as a `Store` |
-//! | `table` | proofs by key. In its folder: `locked`, a table under a lock |
-//! | `capacity` | the most workers, the most proofs that a view keeps |
+//! | `table` | proofs by key, for other callers: no program here uses one. In its folder: `locked`, a table under a lock |
+//! | `capacity` | the most workers, the most proofs that a store keeps |
 //! | `laws` | facts about the definitions |
 
 #![tactic(auto)]
@@ -34,7 +34,7 @@ mod workers;
 
 pub use alone::{solve_one, solve_one_within_total};
 pub use answer::{Answer, Stuck};
-pub use capacity::{MOST_KEPT_PROOFS, MOST_WORKERS};
+pub use capacity::MOST_WORKERS;
 pub use desk::{Closed, Desk, Seat};
 pub use gate::{Gate, NoGate};
 pub use log::log_store::LogStore;

@@ -1,4 +1,5 @@
-//! The table: proofs in the order in which they came, the slots of each key, and the nodes of all trees.
+//! The table: proofs in the order in which they came, the slots of each key, and the nodes of all trees. It serves other callers:
+//! workers share a `CertLog`.
 
 pub(crate) mod locked;
 
@@ -20,7 +21,7 @@ use tt_game::{Key, Line, Side};
 use tt_proof::Proof;
 use tt_sgf::NoMemory;
 
-/// Proofs in the order in which they came.
+/// Proofs in the order in which they came. No program here has one.
 #[derive(Drop)]
 pub struct TableState {
     proofs: Vec<Arc<Proof>>,

@@ -1,9 +1,9 @@
 //! Solving by workers in threads.
 
-ghost use Rattle.std.specs.Prelude.{◌≡◌, ◌≤◌, None, Some, IfOk, IfSome};
+ghost use Rattle.std.specs.Prelude.{◌≡◌, ◌≤◌, None, Some, IfOk, IfSome, MatchOption};
 ghost use Rattle.tt_game.specs.Game.{winner_of};
 ghost use Rattle.tt_share.specs.declared.capacity.TheConstants.{MOST_WORKERS};
-ghost use Rattle.tt_share.specs.Answers.{IsAnswer};
+ghost use Rattle.tt_share.specs.Answers.{IsAnswer, IsExpandedInAll};
 ghost use Rattle.tt_share.specs.inside.Results.{KnowsNothing, IsReady, SpendsTotal};
 
 use crate::alone::{conclude_and_offer, new_results_or_answer};
@@ -49,23 +49,13 @@ pub(crate) fn search_together<R: Threads + Wait + Sync, G: Gate, S: Store>(
     let (desk, mut all) = Desk::new(alloc, count, workers + 1, total)?;
     let Some(own) = all.pop() else { unreachable!() };
     let work = run_workers(rt, &results.jobs, &desk, log, gate, all)?;
-    let mut seats = gather_results(&desk, results, work, seats);
+    let mut seats = gather_results(results, work, seats);
     let mut grants = SeatGrants::new(&desk, own);
     results.search_missing_until_win(store, &mut grants);
     seats.push_reserved(grants.into_seat());
     match desk.close(seats) {
         Ok(closed) => Ok(closed.granted),
         Err(_) => unreachable!(),
-    }
-}
-
-/// All of a total, where there is one.
-fn whole_total(total: Option<u32>) -> u64
-    ensures { IfSome total (λ n. result ≡ n) }
-{
-    match total {
-        Some(n) => u64::from(n),
-        None => 0,
     }
 }
 
@@ -93,8 +83,8 @@ pub fn solve<R: Threads + Wait + Sync, G: Gate>(
     answer
 }
 
-/// What `solve` answers, and how many expansions were granted of the total, or 0 where there is none: no more than the total; and the
-/// answer is one within so many, too. Where memory was refused outside a job all of the total may count as granted.
+/// What `solve` answers, and how many expansions were granted of the total, or 0 where there is none: as many as the searches behind the
+/// legal turns made, and no more than the total; and the answer is one within so many, too.
 pub fn solve_counting_grants<R: Threads + Wait + Sync, G: Gate>(
     rt: &R,
     alloc: Global,
@@ -109,7 +99,8 @@ pub fn solve_counting_grants<R: Threads + Wait + Sync, G: Gate>(
     requires limits { 1 ≤ limits.now.depth }
     requires open { winner_of line.now.frame line.now.state ≡ None }
     ensures answer { IsAnswer line.now limits.now total result.0 }
-    ensures granted { IfSome total (λ n. (result.1 ≤ n) × IsAnswer line.now limits.now (Some result.1) result.0) }
+    ensures granted { MatchOption total (result.1 ≡ 0) (λ n. (result.1 ≤ n) × IsAnswer line.now limits.now (Some result.1) result.0) }
+    ensures counts { IfSome total (λ _. IsExpandedInAll line.now limits.now result.1) }
 {
     let Ok(view) = View::new(alloc, log) else {
         return (no_memory_answer(alloc), 0);
@@ -119,7 +110,7 @@ pub fn solve_counting_grants<R: Threads + Wait + Sync, G: Gate>(
         Ok(mut results) => {
             match search_together(rt, &mut results, total, workers, log, gate, &mut store) {
                 Ok(granted) => (conclude_and_offer(alloc, results, &mut store), granted),
-                Err(_) => (no_memory_answer(alloc), whole_total(total)),
+                Err(_) => (no_memory_answer(alloc), 0),
             }
         }
         Err(answer) => (answer, 0),

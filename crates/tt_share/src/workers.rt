@@ -1,13 +1,15 @@
 //! Workers: threads that draw the jobs of a line at a desk and search them, and what comes back of them.
 
-ghost use Rattle.std.specs.Prelude.{◌≡◌, ◌≤◌, ◌<◌, ◌+◌, ◌⊎◌, ◌||◌, ℕ, [], ◌∷◌, ◌++◌, All, None, IfOk, IfNone, IfSome, IsTrue, length, sum_by, vec_len, vec_capacity};
+ghost use Rattle.std.specs.Prelude.{◌≡◌, ◌≤◌, ◌<◌, ◌+◌, ◌⊎◌, ◌||◌, ℕ, [], ◌∷◌, ◌++◌, All, None, Some, IfOk, IfNone, IfSome, IsTrue, length, map, reverse, vec_len, vec_capacity};
 ghost use Rattle.tt_share.specs.inside.Jobs.{IsResult, IsStuck};
 ghost use Rattle.tt_share.specs.inside.Results.{KeepsEnds};
 ghost use Rattle.tt_share.specs.Answers.{spent_in_all};
-ghost use Rattle.tt_share.specs.Seats.{SeatModel, seat_of};
 ghost use Rattle.tt_share.specs.declared.workers.HandedBack.{HandedBack};
-ghost use Rattle.tt_share.specs.inside.Workers.{SomeWin, IsWork, held, times, spent_on, spent_by_all, AreApart, AllApart, IsPlaced, AllPlaced, AddsOverdraw, AllDrawn, KeepsFirstStuck, jobs_of, AreGiven, OnlyHandedBack};
+ghost use Rattle.tt_share.specs.inside.Workers.{SomeWin, AreSearched, IsWork, KeepsFirstStuck, AddsOverdraw, AllDrawn, jobs_of, IsSeated, HasBack, WorksAtPlace, AllWorkAtPlaces, place_of};
+ghost use Rattle.tt_share.specs.inside.Workers.{held, times, spent_on, spent_by_all, AreApart, AllApart, IsPlaced, AllPlaced, AreGiven, OnlyHandedBack};
+ghost use Rattle.tt_share.specs.declared.workers.WorkerPlace.{WorkerPlace};
 
+use crate::capacity::MOST_WORKERS;
 use crate::desk::grants::SeatGrants;
 use crate::desk::{Desk, Seat};
 use crate::gate::Gate;
@@ -16,6 +18,7 @@ use crate::log::CertLog;
 use crate::log::log_store::LogStore;
 use crate::log::view::View;
 use crate::results::Results;
+use std::alloc::Global;
 use std::sync::Wait;
 use std::thread;
 use std::thread::Threads;
@@ -27,6 +30,13 @@ use tt_sgf::NoMemory;
 pub(crate) struct HandedBack {
     pub seat: Seat,
     pub searched: Vec<SearchedJob>,
+}
+
+/// Where a worker works: the seat with which it begins, and then what it hands back.
+#[derive(Drop)]
+struct WorkerPlace {
+    seat: Option<Seat>,
+    back: Option<HandedBack>,
 }
 
 /// Draws a job, with room for its result. A seat that raised the flag, or sees it or saw it before, draws no more.
@@ -111,7 +121,74 @@ fn work_with_view<R: Wait, G: Gate>(
     }
 }
 
-/// Each seat works in a thread of its own, where one can be made. Where memory is refused the seats are gone.
+/// Works with the seat at a place, and leaves there what the worker hands back.
+fn work_at_place<R: Wait, G: Gate>(
+    rt: &R,
+    jobs: &Jobs<'_>,
+    desk: &Desk,
+    log: &CertLog,
+    gate: &G,
+    place: &mut WorkerPlace,
+)
+    requires jobs { desk.now.jobs ≡ length jobs.now.turns.items }
+    requires seat { IsSeated desk.now place.old }
+    ensures { WorksAtPlace jobs.now.line.now jobs.now.limits desk.now place.old place.new }
+{
+    let Some(seat) = place.seat.take() else {
+        unreachable!()
+    };
+    place.back = Some(work_with_view(rt, jobs, desk, log, gate, seat));
+}
+
+/// A place for each seat.
+fn places_of(alloc: Global, seats: Vec<Seat>) -> Result<Vec<WorkerPlace>, NoMemory>
+    ensures { IfOk result (λ v. v.items ≡ map place_of seats.items) }
+{
+    let mut places = Vec::with_capacity(alloc, seats.len())?;
+    for seat in seats {
+        places.push_reserved(WorkerPlace {
+            seat: Some(seat),
+            back: None,
+        });
+    }
+    Ok(places)
+}
+
+/// What the workers left at their places, put into a list that has room for it.
+fn backs_of(places: Vec<WorkerPlace>, mut work: Vec<HandedBack>) -> Vec<HandedBack>
+    requires places { All HasBack places.items }
+    requires room { (work.items ≡ []) × (vec_len places ≤ vec_capacity work) }
+    ensures { map Some result.items ≡ map (λ (p : WorkerPlace). p.back) places.items }
+{
+    for place in places {
+        let WorkerPlace { back, .. } = place;
+        let Some(back) = back else { unreachable!() };
+        work.push_reserved(back);
+    }
+    work
+}
+
+/// Each seat works at its place in a thread of its own, where one can be made.
+fn work_at_places<R: Threads + Wait + Sync, G: Gate>(
+    rt: &R,
+    jobs: &Jobs<'_>,
+    desk: &Desk,
+    log: &CertLog,
+    gate: &G,
+    places: &mut [WorkerPlace],
+)
+    requires jobs { desk.now.jobs ≡ length jobs.now.turns.items }
+    requires seats { All (IsSeated desk.now) places.old }
+    ensures { AllWorkAtPlaces jobs.now.line.now jobs.now.limits desk.now places.old places.new }
+{
+    let worker = |_: usize, place: &mut WorkerPlace|
+        requires { (desk.now.jobs ≡ length jobs.now.turns.items) × IsSeated desk.now place.now }
+        ensures { WorksAtPlace jobs.entry.now.line.now jobs.entry.now.limits desk.entry.now place.entry.now place.exit.now }
+    { work_at_place(rt, jobs, desk, log, gate, place) };
+    thread::for_each_mut(rt, places, MOST_WORKERS, &worker);
+}
+
+/// The seats work. Memory is refused only before any of them does; then the seats are gone.
 pub(crate) fn run_workers<R: Threads + Wait + Sync, G: Gate>(
     rt: &R,
     jobs: &Jobs<'_>,
@@ -126,15 +203,10 @@ pub(crate) fn run_workers<R: Threads + Wait + Sync, G: Gate>(
     ensures drawn { IfOk result (λ v. AllDrawn desk.now.jobs seats.items v.items) }
     ensures len { IfOk result (λ v. vec_len v ≡ vec_len seats) }
 {
-    let worker = |seat: Seat| -> HandedBack
-        requires { (desk.now.jobs ≡ length jobs.now.turns.items) × (seat.desk ≡ desk.now.id) × (seat.grants ≡ []) }
-        ensures work { IsWork jobs.entry.now.line.now jobs.entry.now.limits desk.entry.now result }
-        ensures drawn { AddsOverdraw desk.entry.now.jobs (seat.numbers ++ jobs_of result.searched.items) result.seat.numbers }
-    { work_with_view(rt, jobs, desk, log, gate, seat) };
-    match thread::map_vec(rt, seats, &worker) {
-        Ok(work) => Ok(work),
-        Err(_) => Err(NoMemory),
-    }
+    let work = Vec::with_capacity(jobs.alloc, seats.len())?;
+    let mut places = places_of(jobs.alloc, seats)?;
+    work_at_places(rt, jobs, desk, log, gate, places.as_mut_slice());
+    Ok(backs_of(places, work))
 }
 
 /// Puts the results of one worker into the list of all.
@@ -153,23 +225,21 @@ fn gather_one_worker(results: &mut Results<'_>, mut searched: Vec<SearchedJob>)
     }
 }
 
-/// Puts the results of all workers into the list of all, and their seats into one that has room for one more.
+/// Puts the results of all workers into the list of all, and their seats, the last first, into one that has room for one more.
 pub(crate) fn gather_results(
-    desk: &Desk,
     results: &mut Results<'_>,
     mut work: Vec<HandedBack>,
     mut seats: Vec<Seat>,
 ) -> Vec<Seat>
-    requires work { All (IsWork results.old.line results.old.limits desk.now) work.items }
+    requires searched { All (AreSearched results.old.line results.old.limits) work.items }
     requires room { (seats.items ≡ []) × (vec_len work < vec_capacity seats) }
     ensures same { results.new ≡ record results.old { ends = results.new.ends; spent = results.new.spent } }
     ensures spent { AllApart results.old.ends work.items → spent_in_all results.new.spent ≡ spent_in_all results.old.spent + spent_by_all work.items }
-    ensures backs { (weight : SeatModel → ℕ) → sum_by weight result.items ≡ sum_by (λ (b : HandedBack). weight b.seat) work.items }
+    ensures seats { result.items ≡ reverse (map (λ (b : HandedBack). b.seat) work.items) }
     ensures room { vec_len result < vec_capacity result }
     ensures kept { KeepsEnds results.old.ends results.new.ends }
     ensures placed { All (AllPlaced results.new.ends) work.items }
     ensures given { OnlyHandedBack results.old.ends results.new.ends work.items }
-    ensures seats { All (λ s. s.desk ≡ desk.now.id) result.items }
     ensures all { vec_len result ≡ vec_len work }
 {
     while let Some(back) = work.pop() {

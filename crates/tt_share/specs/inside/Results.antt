@@ -45,18 +45,20 @@ pub record KnowsNothing (p : ResultsSoFar) : Type 0 where
 abbrev pub HasTotal : List (Option JobResult) → Type 0
 HasTotal ends = (job : ℕ) × (end : JobResult) × HasEnd ends job end × IsForTotal (end_of end)
 
--- where some job is stuck for the total, all of it is spent
-abbrev pub IsAllSpent : Option ℕ → ResultsSoFar → Type 0
-IsAllSpent total p = HasTotal p.ends → (n : ℕ) × (total ≡ Some n) × (spent_in_all p.spent ≡ n)
+-- The searches keep to a total, where there is one
+pub record KeepsTotal (total : Option ℕ) (p : ResultsSoFar) : Type 0 where
+  -- no more than it is spent, whatever the results are
+  pub within : (n : ℕ) → total ≡ Some n → spent_in_all p.spent ≤ n
+  -- all of it where some job is stuck for it
+  pub all : HasTotal p.ends → (n : ℕ) × (total ≡ Some n) × (spent_in_all p.spent ≡ n)
 
 -- How the searches spend a total, where there is one, of which so much was granted
 pub record SpendsTotal (total : Option ℕ) (granted : ℕ) (p : ResultsSoFar) : Type 0 where
+  pub keeps : KeepsTotal total p
   -- what was granted, and nothing else
   pub granted_is : (n : ℕ) → total ≡ Some n → spent_in_all p.spent ≡ granted
-  -- no more than it, whatever the results are
-  pub within : (n : ℕ) → total ≡ Some n → spent_in_all p.spent ≤ n
-  -- all of it where some job is stuck for it
-  pub all : IsAllSpent total p
+  -- without a total nothing is counted
+  pub none : total ≡ None → granted ≡ 0
 
 -- what was asked for while results were put: as many were granted as the counts rose by, and one was refused where a job is newly
 -- stuck for the total

@@ -1,5 +1,5 @@
 -- What workers hand back. Only private contracts cite these.
-use Rattle.std.specs.Prelude.{◌≡◌, ℕ, ◌+◌, ◌++◌, ◌<◌, ◌≤◌, ◌⊎◌, Bool, IsTrue, All, List, Option, length, map, Some, None, slice_get, sum_by, count_by, nat_eq}
+use Rattle.std.specs.Prelude.{◌≡◌, ℕ, ◌+◌, ◌++◌, ◌<◌, ◌≤◌, ◌⊎◌, Bool, IsTrue, All, List, [], Option, length, get_or, map, Some, None, slice_get, sum_by, count_by, nat_eq}
 use Rattle.tt_game.specs.declared.frame.Side.{Side}
 use Rattle.tt_game.specs.Line.{LineWithUndo}
 use Rattle.tt_search.specs.declared.limits.Limits.{Limits}
@@ -9,6 +9,7 @@ use Rattle.tt_share.specs.Seats.{DeskModel, SeatModel, EndsInOverdraw, granted_a
 use Rattle.tt_share.specs.declared.jobs.JobResult.{JobResult}
 use Rattle.tt_share.specs.declared.jobs.SearchedJob.{SearchedJob}
 use Rattle.tt_share.specs.declared.workers.HandedBack.{HandedBack}
+use Rattle.tt_share.specs.declared.workers.WorkerPlace.{WorkerPlace}
 
 -- some result is a win for the side
 abbrev pub SomeWin : Side → List SearchedJob → Type 0
@@ -30,6 +31,18 @@ AddsOverdraw jobs before after = (overdraw : List ℕ) × (after ≡ before ++ o
 abbrev pub AllDrawn : ℕ → List SeatModel → List HandedBack → Type 0
 AllDrawn jobs seats work = (i : ℕ) (seat : SeatModel) (back : HandedBack) → slice_get seats i ≡ Some seat → slice_get work i ≡ Some back
     → AddsOverdraw jobs (seat.numbers ++ jobs_of back.searched.items) back.seat.numbers
+
+-- the place of a worker that hasn't begun
+abbrev pub place_of : SeatModel → WorkerPlace
+place_of seat = record { seat = Some seat; back = None }
+
+-- a fresh seat of the desk's stands at the place
+abbrev pub IsSeated : DeskModel → WorkerPlace → Type 0
+IsSeated desk place = (seat : SeatModel) × (place.seat ≡ Some seat) × (seat.desk ≡ desk.id) × (seat.grants ≡ [])
+
+-- a worker has left there what it hands back
+abbrev pub HasBack : WorkerPlace → Type 0
+HasBack place = (back : HandedBack) × (place.back ≡ Some back)
 
 -- some result is no proof
 abbrev pub SomeStuck : List SearchedJob → Type 0
@@ -73,12 +86,16 @@ AllApart ends work = (job : ℕ) → held ends job + sum_by (λ (b : HandedBack)
 abbrev pub SomeTotal : List SearchedJob → Type 0
 SomeTotal searched = (i : ℕ) × (f : SearchedJob) × (slice_get searched i ≡ Some f) × IsForTotal (end_of f.end)
 
+-- each result that the worker hands back is that of its job's turn
+abbrev pub AreSearched : LineWithUndo → Limits → HandedBack → Type 0
+AreSearched line limits back = All (IsResult line limits) back.searched.items
+
 -- What a worker hands back to a desk
 pub record IsWork (line : LineWithUndo) (limits : Limits) (desk : DeskModel) (back : HandedBack) : Type 0 where
   -- the seat is the desk's
   pub seat : back.seat.desk ≡ desk.id
   -- each result is that of its job's turn
-  pub searched : All (IsResult line limits) back.searched.items
+  pub searched : AreSearched line limits back
   -- no job was drawn after one that was won
   pub wins : WinsAreLast line.state.to_move back.seat.flag back.searched.items
   -- each is of a job that the seat drew, as often at most
@@ -110,3 +127,14 @@ AreGiven before after searched = (job : ℕ) (end : JobResult) → HasEnd after 
 abbrev pub OnlyHandedBack : List (Option JobResult) → List (Option JobResult) → List HandedBack → Type 0
 OnlyHandedBack before after work = (job : ℕ) (end : JobResult) → HasEnd after job end → HasEnd before job end
     ⊎ ((i : ℕ) × (back : HandedBack) × (slice_get work i ≡ Some back) × IsGiven after back.searched.items job end)
+
+-- A worker works with the seat at a place, and leaves there what it hands back
+pub record WorksAtPlace (line : LineWithUndo) (limits : Limits) (desk : DeskModel) (before after : WorkerPlace) : Type 0 where
+  pub back : HandedBack
+  pub left : after.back ≡ Some back
+  pub work : IsWork line limits desk back
+  pub drawn : (seat : SeatModel) → before.seat ≡ Some seat → AddsOverdraw desk.jobs (seat.numbers ++ jobs_of back.searched.items) back.seat.numbers
+
+-- so it is at each place
+abbrev pub AllWorkAtPlaces : LineWithUndo → Limits → DeskModel → List WorkerPlace → List WorkerPlace → Type 0
+AllWorkAtPlaces line limits desk before after = (i : ℕ) (d : WorkerPlace) → i < length before → WorksAtPlace line limits desk (get_or before i d) (get_or after i d)

@@ -15,7 +15,7 @@ ghost use Rattle.tt_share.specs.Answers.{IsAnswer, counts_if_total_spent_of};
 ghost use Rattle.tt_share.specs.declared.jobs.JobResult.{JobResult};
 ghost use Rattle.tt_share.specs.inside.Beginning.{BeginsWith, IsStuckWith};
 ghost use Rattle.tt_share.specs.inside.Jobs.{EndsBehind, IsJob, end_of};
-ghost use Rattle.tt_share.specs.inside.Results.{IsAllSpent, HasEnd, HaveLost, IsLeastWin, IsLeastStuck, IsReady, NoneStuck, NoWin};
+ghost use Rattle.tt_share.specs.inside.Results.{HasEnd, HaveLost, IsLeastWin, IsLeastStuck, IsReady, KeepsTotal, NoneStuck, NoWin};
 
 use crate::answer::{Answer, Stuck};
 use crate::jobs::{JobResult, Jobs};
@@ -123,7 +123,7 @@ impl<'a> Results<'a> {
     /// the least turn whose search is stuck, with its own reason and search.
     pub fn conclude(self) -> Result<Answer, NoMemory>
         requires ready { IsReady self.line.state.to_move self.ends }
-        ensures answer { (total : Option ℕ) → IsAllSpent total self.entry → IfOk result (IsAnswer self.entry.line self.entry.limits total) }
+        ensures answer { (total : Option ℕ) → KeepsTotal total self.entry → IfOk result (IsAnswer self.entry.line self.entry.limits total) }
         ensures picks { (job : ℕ) (turn : Turn) → IsLeastWin self.entry.line.state.to_move self.entry.ends job → IsJob self.entry.line job turn →
             IfOk result (BeginsWith (Some turn)) }
         ensures replies { NoWin self.entry.line.state.to_move self.entry.ends → NoneStuck self.entry.ends → IfOk result (BeginsWith None) }

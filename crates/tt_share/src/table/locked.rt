@@ -1,4 +1,4 @@
-//! A table behind a lock, and the stores that searches have of it.
+//! A table behind a lock, and the stores that searches have of it. They serve other callers: workers share a `CertLog`.
 
 ghost use Rattle.std.specs.Prelude.{◌≡◌, ◌≢◌, ◌≤◌, ◌+◌, ◌↔◌, ℕ, IfOk, IfSome};
 ghost use Rattle.tt_search.specs.Stores.{HasKeyAndSide};
@@ -14,7 +14,7 @@ use tt_proof::Proof;
 use tt_search::{Kept, Store};
 use tt_sgf::NoMemory;
 
-/// Proofs that several searches share.
+/// Proofs that several searches share. No program here has one.
 #[derive(Drop)]
 pub struct Table {
     state: Mutex<TableState>,
@@ -31,7 +31,7 @@ impl Table {
 }
 
 /// A handle on a table, through which at most 4,096 proofs may be kept. What it finds may have been kept through another
-/// handle.
+/// handle. No program here has one.
 #[derive(Drop)]
 pub struct LockedStore<'a, R> {
     rt: &'a R,

@@ -1,11 +1,9 @@
-use Rattle.std.proofs.Common.{rules, ◌≡◌, ◌∷◌, All, Some, sum_by, sym, ap, subst, ◌∙◌, arith}
-use Rattle.std.proofs.lemmas.List.Sums.{sum_by_push}
-use Rattle.std.proofs.lemmas.List.Elements.{All-pop, All-push}
-use Rattle.tt_share.specs.Seats.{SeatModel}
+use Rattle.std.proofs.Common.{rules, ◌∷◌, All, Some, ◌∙◌, arith}
+use Rattle.std.proofs.lemmas.List.Elements.{All-pop}
 use Rattle.tt_share.specs.declared.workers.HandedBack.{HandedBack}
-use Rattle.tt_share.specs.inside.Workers.{AreApart, AllPlaced, IsWork}
+use Rattle.tt_share.specs.inside.Workers.{AreApart, AllPlaced, AreSearched}
 use Rattle.tt_share.proofs.Apart.{held_backs, back_apart, spent_backs}
-use Rattle.tt_share.proofs.Placing.{same_asked, same_twice, keeps_twice, backs_still, all_more, taken_more, taken_there, given_backs}
+use Rattle.tt_share.proofs.Placing.{same_asked, same_twice, keeps_twice, backs_still, all_more, taken_more, taken_there, reversed_more, given_backs}
 use Rattle.tt_share.proofs.workers.gather_results.Goals as goal
 
 pub loop-back-preserved : goal.loop-back-preserved
@@ -13,12 +11,12 @@ loop-back-preserved c =
     let old = c.loop-back.results in
     let new = c.gather_one_worker.new.results in
     let back = c.in-Some.back in
-    let both = All-pop (IsWork old.line old.limits c.args.desk.now) _ _ (Some back) c.in-Some.ensures.items c.loop-back.invariant.left in
+    let both = All-pop (AreSearched old.line old.limits) _ _ (Some back) c.in-Some.ensures.items c.loop-back.invariant.left in
     let was = c.loop-back.invariant.placed in
     record {
-      left = same_asked (λ line limits. All (IsWork line limits c.args.desk.now) c.pop.new.self.items) old new c.gather_one_worker.ensures.same both.0;
-      seats = subst (All (λ (s : SeatModel). s.desk ≡ c.args.desk.now.id)) (sym c.push_reserved.ensures.items)
-          (All-push (λ (s : SeatModel). s.desk ≡ c.args.desk.now.id) c.loop-back.seats.items back.seat c.loop-back.invariant.seats both.1.seat);
+      left = same_asked (λ line limits. All (AreSearched line limits) c.pop.new.self.items) old new c.gather_one_worker.ensures.same both.0;
+      seats = reversed_more (λ (b : HandedBack). b.seat) c.loop-back.seats.items _ _ back c.loop-back.work.items c.pop.new.self.items
+          c.in-Some.ensures.items c.push_reserved.ensures.items c.loop-back.invariant.seats;
       count = search rules;
       room = search rules;
       same = same_twice c.args.results.now old new c.loop-back.invariant.same c.gather_one_worker.ensures.same;
@@ -27,17 +25,6 @@ loop-back-preserved c =
           (λ job. let most = apart job in omega (arith, most, c.loop-back.invariant.held job)) in
           spent_backs _ _ _ back c.loop-back.work.items c.pop.new.self.items c.in-Some.ensures.items (c.gather_one_worker.ensures.spent each) (c.loop-back.invariant.spent apart));
       held = λ job. held_backs old.ends new.ends back c.loop-back.work.items c.pop.new.self.items c.in-Some.ensures.items c.gather_one_worker.ensures.held job _ (c.loop-back.invariant.held job);
-      backs = λ weight.
-          (let seats = ap (sum_by weight) c.push_reserved.ensures.items in
-          let left = ap (sum_by (λ (b : HandedBack). weight b.seat)) c.in-Some.ensures.items in
-          omega (
-            arith,
-            seats,
-            left,
-            c.loop-back.invariant.backs weight,
-            sum_by_push weight c.loop-back.seats.items back.seat,
-            sum_by_push (λ (b : HandedBack). weight b.seat) c.pop.new.self.items back,
-          ));
       len = c.gather_one_worker.ensures.len ∙ c.loop-back.invariant.len;
       kept = keeps_twice c.args.results.now.ends old.ends new.ends c.loop-back.invariant.kept c.gather_one_worker.ensures.kept;
       given = given_backs c.args.results.now.ends old.ends new.ends c.args.work.items _ back
@@ -51,4 +38,4 @@ loop-back-preserved c =
 
 pub gather_one_worker-requires : goal.gather_one_worker-requires
 gather_one_worker-requires c =
-    record { searched = (All-pop (IsWork c.loop-back.results.line c.loop-back.results.limits c.args.desk.now) _ _ (Some c.in-Some.back) c.in-Some.ensures.items c.loop-back.invariant.left).1.searched }
+    record { searched = (All-pop (AreSearched c.loop-back.results.line c.loop-back.results.limits) _ _ (Some c.in-Some.back) c.in-Some.ensures.items c.loop-back.invariant.left).1 }

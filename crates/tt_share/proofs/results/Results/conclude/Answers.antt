@@ -6,7 +6,6 @@ use Rattle.tt_search.specs.SearchState.{SearchState}
 use Rattle.tt_search.specs.declared.limits.Reason.{Reason}
 use Rattle.tt_share.specs.declared.jobs.JobResult.{JobResult}
 use Rattle.tt_search.specs.declared.search.End.TheVariants.{Settled, Stuck}
-use Rattle.tt_search.specs.declared.limits.Reason.TheVariants.{Total}
 use Rattle.tt_share.specs.declared.jobs.JobResult.TheVariants as result
 use Rattle.tt_share.specs.inside.Beginning.{BeginsWith}
 use Rattle.tt_share.specs.inside.Jobs.{AreResults, EndsBehind, IsJob, IsStuckOrWon, end_of}
@@ -14,7 +13,7 @@ use Rattle.tt_share.specs.Answers.{IsAnswer, counts_if_total_spent_of}
 use Rattle.tt_share.specs.inside.Results.{ResultsSoFar, AreNoted, HasEnd, HaveLost, IsLost, AllStuckOrWon, NoWin, IsStuckAt}
 use Rattle.tt_share.proofs.Lost.{legal_job, lesser_lose, one_more}
 use Rattle.tt_share.proofs.Placing.{seen, shown}
-use Rattle.tt_share.proofs.Noting.{spent_told}
+use Rattle.tt_share.proofs.Noting.{spent_told, within_told}
 use Rattle.tt_share.proofs.StuckBehind.{says}
 use Rattle.tt_share.proofs.Wins.{all_filled, none_at, least_at, same_turn, stuck_same, same_stuck, settled_here, not_stuck_more, stuck_of, settled_of, stuck_there}
 use Rattle.tt_share.proofs.Wins.{stuck_within, job_here, rest_same, not_missing, lost_side, win_within, ends_here}
@@ -96,11 +95,12 @@ returns-in-Some-Stuck-clause-answer c =
     side ends c.in_default.ensures.least in
     let noted = subst (λ (p : ResultsSoFar). AreNoted p.line p.limits p.ends p.spent) c.self.view_is c.self.invariant.noted in
     let counts_if_total_spent = c.counts_if_total_spent.ensures ∙ ap (λ (p : ResultsSoFar). counts_if_total_spent_of c.in-Some-Stuck.reason p.spent) c.self.view_is in
-    λ total all. says c.args.self.line c.args.self.limits total _
-    (legal_job c.args.self.line i turn job) lesser c.args.self.spent c.in-Some-Stuck.reason c.in-Some-Stuck.search refl behind counts_if_total_spent
-    (λ held reason holds. spent_told c.args.self total i turn held taken.0 noted (all_filled c.args.self.line.state.to_move c.args.self.ends none c.requires.ready) there
-    (is ∙ (ap (λ (r : Reason). Stuck r c.in-Some-Stuck.search) reason ∙ ap (λ (o : Option SearchState). Stuck Total o) holds))
-    job all)
+    let filled = all_filled c.args.self.line.state.to_move c.args.self.ends none c.requires.ready in
+    let reason = c.in-Some-Stuck.reason in
+    λ total keeps. says c.args.self.line c.args.self.limits total _
+    (legal_job c.args.self.line i turn job) lesser c.args.self.spent reason c.in-Some-Stuck.search refl behind counts_if_total_spent
+    (λ held holds. within_told c.args.self total i turn held taken.0 reason noted filled there (is ∙ ap (λ (o : Option SearchState). Stuck reason o) holds) job keeps)
+    (λ held e holds. spent_told c.args.self total i turn held taken.0 reason noted filled there (is ∙ ap (λ (o : Option SearchState). Stuck reason o) holds) job keeps e)
 
 pub returns-in-Some-Stuck-clause-picks : goal.returns-in-Some-Stuck-clause-picks
 returns-in-Some-Stuck-clause-picks c =
@@ -216,11 +216,13 @@ returns-clause-stuck c =
     absurd (c.loop-job.invariant.unstuck job (omega (arith, within, long, all, c.self.inside.ends.ok.0, c.self.invariant.one_each, c.loop-job-test.false)) here))
 
 pub returns-in-Some-clause-answer : goal.returns-in-Some-clause-answer
-returns-in-Some-clause-answer c = λ total all. shown
-    (λ l m es. IfOk c.answer_by_winning_turn.result (IsAnswer l m total)) c.self.inside.jobs.line.now c.self.inside.jobs.limits c.self.inside.ends.items c.self.inside.spent.items c.args.self c.self.view_is
+returns-in-Some-clause-answer c = λ total keeps. shown
+    (λ l m es. IfOk c.answer_by_winning_turn.result (IsAnswer l m total))
+    c.self.inside.jobs.line.now c.self.inside.jobs.limits c.self.inside.ends.items c.self.inside.spent.items c.args.self c.self.view_is
     (c.answer_by_winning_turn.ensures.answer total)
 
 pub returns-clause-answer : goal.returns-clause-answer
-returns-clause-answer c = λ total all. shown
-    (λ l m es. IfOk c.answer_by_lost_turns.result (IsAnswer l m total)) c.self.inside.jobs.line.now c.self.inside.jobs.limits c.self.inside.ends.items c.self.inside.spent.items c.args.self c.self.view_is
+returns-clause-answer c = λ total keeps. shown
+    (λ l m es. IfOk c.answer_by_lost_turns.result (IsAnswer l m total))
+    c.self.inside.jobs.line.now c.self.inside.jobs.limits c.self.inside.ends.items c.self.inside.spent.items c.args.self c.self.view_is
     (c.answer_by_lost_turns.ensures.answer total)

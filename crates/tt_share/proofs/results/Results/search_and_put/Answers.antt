@@ -6,8 +6,8 @@ use Rattle.tt_share.proofs.results.Results.search_and_put.Goals as goal
 
 pub put_if_missing-requires : goal.put_if_missing-requires
 put_if_missing-requires g c = record {
-  searched = shown (λ l m es. IsResult l m c.search-searched.result) c.self.inside.jobs.line.now c.self.inside.jobs.limits c.self.inside.ends.items c.self.inside.spent.items c.args.self.now c.self.view_is
-      c.search-searched.ensures.result;
+  searched = shown (λ l m es. IsResult l m c.search-searched.result) c.self.inside.jobs.line.now c.self.inside.jobs.limits c.self.inside.ends.items c.self.inside.spent.items
+      c.args.self.now c.self.view_is c.search-searched.ensures.result;
 }
 
 pub returns-clause-asks : goal.returns-clause-asks
