@@ -29,5 +29,8 @@ ORDERS_FIT = b"lives ?ba!--=?ca=!ba=?--!--.;--.;ca=!ba*0--!--.;"
 UNFIT = b"(;SZ[5:1]AB[aa];W[ca]TR[ca])"
 UNFIT_KILLED = b"killed =!da=?ba=!aa.ea=!ba=?aa=!ba=?da.--=!da.;ba=!da=?aa.--!aa.;da=!ba.--=!ba*2;--=!ba.;"
 
+# A dense board without squares: of random ones, the one for which df-pn's proofs took most memory, far more than 30 MB.
+DENSE = b"(;SZ[7]AB[ba][ca][cb][cd][df][eb][gd]AW[bf][ce][cf][db][ee][ef][ge][gg]PL[B]TR[ef])"
+
 # A lone stone of White's on an open board.
 OPEN_BOARD = b"(;SZ[5]AW[cc]PL[B]TR[cc])"

@@ -1,13 +1,12 @@
 """What the programs say of problems, as data."""
-import re
 from dataclasses import dataclass
-from typing import Optional, Set, Tuple
+from typing import Optional, Tuple
 
 from .board import OTHER
 from .problems import Problem
 from .strategy import Strategy
 
-__all__ = ["Answer", "Closing", "KILLED", "Ko", "LIVES", "REFUSED", "Turn", "UNSETTLED", "Verdict", "numbers_without_memory", "verdict_of"]
+__all__ = ["Answer", "Closing", "KILLED", "Ko", "LIVES", "REFUSED", "Turn", "UNSETTLED", "Verdict", "verdict_of"]
 
 KILLED, LIVES, UNSETTLED, REFUSED = "killed", "lives", "unsettled", "refused"
 
@@ -26,18 +25,10 @@ class Verdict:
         return self.word in (KILLED, LIVES)
 
 
-def verdict_of(line: str, lacked_memory: bool = False) -> Verdict:
-    """The verdict of a line without its number: `killed ca`, `lives`, `unsettled budget`, `refused 20`. Where df-pn lacked memory, that is
-    why a problem is unsettled, whatever the search after it was stuck for."""
+def verdict_of(line: str) -> Verdict:
+    """The verdict of a line without its number: `killed ca`, `lives`, `unsettled budget`, `refused 20`."""
     word, _, rest = line.partition(" ")
-    if word == UNSETTLED and lacked_memory:
-        rest = "memory"
     return Verdict(word, rest or None) if word in (KILLED, LIVES) else Verdict(word, None, rest)
-
-
-def numbers_without_memory(errors: str) -> Set[int]:
-    """The numbers of the problems for which df-pn had too little memory, by what `solve --progress` wrote on standard error."""
-    return {int(number) for number in re.findall(r"problem (\d+): df-pn had too little memory", errors)}
 
 
 @dataclass(frozen=True)

@@ -2,7 +2,7 @@
 import re
 from typing import Iterable, Iterator, List, Optional, Tuple, Union
 
-from .answers import REFUSED, Verdict, numbers_without_memory, verdict_of
+from .answers import REFUSED, Verdict, verdict_of
 from .programs import JOBS, MAX_BYTES, ProgramError, in_parallel, run
 from .sgf import GameTree, SgfError, read_bytes, to_text, trees_of, write_bytes
 from .solving import OUT_OF_TIME, POSITIONS
@@ -67,15 +67,14 @@ def _batches(problems: Iterable[Indexed]) -> Iterator[List[Indexed]]:
 
 def _asked(batch: List[Indexed], seconds: float, positions: int) -> List[Tuple[int, Verdict]]:
     """The verdicts of problems by one process. If it ends early, the one that it was at gets a process of its own, and the rest another."""
-    words = ["solve", "--budget", "1", "--progress", "--dfpn", str(positions)]
+    words = ["solve", "--budget", "1", "--dfpn", str(positions)]
     try:
-        ended = run("tsumego", words, b"".join(text for _, text in batch), seconds if len(batch) == 1 else seconds * 2)
-        lines, lacking = ended.text.splitlines(), numbers_without_memory(ended.errors)
+        lines = run("tsumego", words, b"".join(text for _, text in batch), seconds if len(batch) == 1 else seconds * 2).text.splitlines()
     except ProgramError:
         if len(batch) == 1:
             raise
-        lines, lacking = [], set()
-    found = [(number, verdict_of(line.partition(" ")[2], place in lacking)) for place, ((number, _), line) in enumerate(zip(batch, lines), 1)]
+        lines = []
+    found = [(number, verdict_of(line.partition(" ")[2])) for (number, _), line in zip(batch, lines)]
     rest = batch[len(found) :]
     if not rest:
         return found

@@ -2,9 +2,9 @@
 import time
 from typing import Dict, List, Optional, Tuple
 
-from .answers import UNSETTLED, Verdict, numbers_without_memory, verdict_of
+from .answers import UNSETTLED, Verdict, verdict_of
 from .problems import Problem
-from .programs import JOBS, Ended, in_parallel, run
+from .programs import JOBS, in_parallel, run
 from .sgf import write_bytes
 from .strategy import Strategy, read_certificate
 
@@ -52,8 +52,8 @@ def verdict(problem: Problem, clock: Clock) -> Verdict:
 
 def settled(problem: Problem, clock: Clock) -> Tuple[Verdict, Optional[str]]:
     """Who wins a problem, and the certificate of that where one run finds both in a third of the seconds."""
-    ended = _solve(problem.text(), clock.part(3), ["--dfpn", str(POSITIONS), "--cert", "--parts"])
-    found, lines = _verdict(ended), ended.text.splitlines()
+    lines = _solve(problem.text(), clock.part(3), ["--dfpn", str(POSITIONS), "--cert", "--parts"])
+    found = _verdict(lines)
     if found and len(lines) > 1:
         return found, lines[1]
     return verdict(problem, clock), None
@@ -63,9 +63,8 @@ def verdicts(problems: List[Problem], clock: Clock, positions: int) -> List[Verd
     """Who wins each of some easy problems, of which df-pn may visit so many positions. They share a process for each processor."""
 
     def ask(share: List[Problem]) -> List[Verdict]:
-        ended = _solve("\n".join(each.text() for each in share), clock, ["--dfpn", str(min(positions, MOST_POSITIONS))])
-        lines, lacking = ended.text.splitlines(), numbers_without_memory(ended.errors)
-        found = [verdict_of(line.partition(" ")[2], number in lacking) for number, line in enumerate(lines, 1)]
+        lines = _solve("\n".join(each.text() for each in share), clock, ["--dfpn", str(min(positions, MOST_POSITIONS))])
+        found = [verdict_of(line.partition(" ")[2]) for line in lines]
         return found + [OUT_OF_TIME] * (len(share) - len(lines))
 
     found = in_parallel(ask, [problems[at::JOBS] for at in range(min(JOBS, len(problems)))])
@@ -74,13 +73,13 @@ def verdicts(problems: List[Problem], clock: Clock, positions: int) -> List[Verd
 
 def first_turns(problem: Problem, clock: Clock, positions: int) -> Dict[str, str]:
     """Of each legal first turn who wins after it: killed, lives or unsettled, where df-pn may visit so many positions. Empty where time runs out."""
-    lines = _solve(problem.text(), clock, ["--dfpn", str(min(positions, MOST_POSITIONS)), "--turns"]).text.splitlines()
+    lines = _solve(problem.text(), clock, ["--dfpn", str(min(positions, MOST_POSITIONS)), "--turns"])
     return {turn: word for turn, word in (line.split()[:2] for line in lines[1:])}
 
 
 def certificate(problem: Problem, clock: Clock) -> Optional[str]:
     """The certificate of the answer, with shared parts; None where it isn't found in time or is too long to be checked."""
-    lines = _solve(problem.text(), clock, ["--dfpn", str(MOST_POSITIONS), "--cert", "--parts"]).text.splitlines()
+    lines = _solve(problem.text(), clock, ["--dfpn", str(MOST_POSITIONS), "--cert", "--parts"])
     return lines[1] if len(lines) > 1 else None
 
 
@@ -102,14 +101,13 @@ def certified(problem: Problem, found: Verdict, seconds: float) -> str:
     return "too long" if said == "refused 2" else said
 
 
-def _verdict(ended: Ended) -> Optional[Verdict]:
+def _verdict(lines: List[str]) -> Optional[Verdict]:
     """What `solve` says of one problem, where it says it in time."""
-    line = ended.text.partition("\n")[0]
-    return verdict_of(line.partition(" ")[2], bool(numbers_without_memory(ended.errors))) if line else None
+    return verdict_of(lines[0].partition(" ")[2]) if lines else None
 
 
-def _solve(text: str, clock: Clock, options: List[str]) -> Ended:
-    """What `solve` writes for problems while the clock runs."""
+def _solve(text: str, clock: Clock, options: List[str]) -> List[str]:
+    """The lines that `solve` writes for problems while the clock runs."""
     if clock.left() <= 0:
-        return Ended("", "", None)
-    return run("tsumego", ["solve", "--budget", "1", "--progress", *options], write_bytes(text), clock.left())
+        return []
+    return run("tsumego", ["solve", "--budget", "1", *options], write_bytes(text), clock.left()).text.splitlines()

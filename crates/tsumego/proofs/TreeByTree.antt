@@ -9,7 +9,10 @@ use Rattle.std.proofs.lemmas.List.Folds.{list_any-append}
 use Rattle.std.specs.List.{list_any}
 use Rattle.std.specs.Io.KnownBytes.{Appends, Keeps}
 use Rattle.tt_sgf.specs.declared.trees.TheConstants.{MAX_BYTES}
+use Rattle.tt_sgf.specs.declared.faults.SgfFault.{SgfFault}
+use Rattle.tt_sgf.specs.declared.faults.SgfFault.TheVariants.{Syntax, TooLong, NoMemory}
 use Rattle.tt_sgf.specs.declared.nodes.Node.{Node}
+use Rattle.tt_sgf.specs.Faults.{code_of}
 use Rattle.tt_sgf.specs.Grammar.{GameTree, HasNoTree, FirstTreeEndsAt, main_line, HasOpeningParenthesis}
 use Rattle.devices.specs.declared.fault.RunFault.{RunFault}
 use Rattle.devices.specs.declared.fault.RunFault.TheVariants.{Input, Output, Memory}
@@ -21,7 +24,8 @@ use Rattle.tt_text.specs.Trees.{nothing, some_lines, stopped, too_long}
 use Rattle.devices.specs.Writing.{RunWrites, WritesText}
 
 -- one more tree
-pub ReadsOutcomes-more : (allowed : List Node → TreeOutcome → Type 0) (input : List ℕ) (os : List TreeOutcome) (o : TreeOutcome) (rest : List ℕ) (count : ℕ) (t : GameTree) → ReadsOutcomes allowed input os rest
+pub ReadsOutcomes-more : (allowed : List Node → TreeOutcome → Type 0) (input : List ℕ) (os : List TreeOutcome) (o : TreeOutcome) (rest : List ℕ) (count : ℕ) (t : GameTree)
+    → ReadsOutcomes allowed input os rest
     → FirstTreeEndsAt rest count t → allowed (main_line t) o → ReadsOutcomes allowed input (os ++ o ∷ []) (drop count rest)
 ReadsOutcomes-more allowed input [] o rest count t r s ok = (count, t, subst (λ (x : List ℕ). FirstTreeEndsAt x count t) (sym r) s, ok, ap (drop count) r)
 ReadsOutcomes-more allowed input (x ∷ os) o rest count t r s ok = (r.0, r.1, r.2, r.3, ReadsOutcomes-more allowed (drop r.0 input) os o rest count t r.4 s ok)
@@ -94,7 +98,8 @@ module _ {allowed : List Node → TreeOutcome → Type 0} {input rest : List ℕ
   }
 
   -- a part of one more line is a part of the lines
-  cut : (d : Option (List ℕ)) (o : TreeOutcome) (n : ℕ) → Appends b d (take n (outcome_line number o)) → Appends a d (take (length (outcome_lines_from 1 p.os) + n) (outcome_lines_from 1 (p.os ++ o ∷ [])))
+  cut : (d : Option (List ℕ)) (o : TreeOutcome) (n : ℕ) → Appends b d (take n (outcome_line number o))
+      → Appends a d (take (length (outcome_lines_from 1 p.os) + n) (outcome_lines_from 1 (p.os ++ o ∷ [])))
   cut d o n w = subst (Appends a d)
       (sym (ap (take (length (outcome_lines_from 1 p.os) + n)) (lines_more o) ∙ take-append-add (outcome_lines_from 1 p.os) (outcome_line number o) n))
       (Appends-trans a b d _ _ p.written w)
@@ -126,7 +131,8 @@ module _ {allowed : List Node → TreeOutcome → Type 0} {input rest : List ℕ
   )
 
   -- reading stops with the line of a refusal
-  progress_last : (d : Option (List ℕ)) → (number ≡ 1) ⊎ HasOpeningParenthesis rest → (code : ℕ) (r : Result ℕ RunFault) → AreOutcomes allowed input (p.os ++ Refused code ∷ []) → IfOk r (λ status. status ≡ 1)
+  progress_last : (d : Option (List ℕ)) → (number ≡ 1) ⊎ HasOpeningParenthesis rest → (code : ℕ) (r : Result ℕ RunFault) → AreOutcomes allowed input (p.os ++ Refused code ∷ [])
+      → IfOk r (λ status. status ≡ 1)
       → WritesText (outcome_line number (Refused code)) r b d → EndsAs r a d
   progress_last d why code (Ok status) h one w = (
     outcome_lines_from 1 (p.os ++ Refused code ∷ []),
@@ -144,7 +150,7 @@ module _ {allowed : List Node → TreeOutcome → Type 0} {input rest : List ℕ
       (outcome_lines_from 1 (p.os ++ Refused code ∷ []), length (outcome_lines_from 1 p.os) + w.0, all_lines (p.os ++ Refused code ∷ []) h, cut d (Refused code) w.0 w.1)
 
   -- no tree is spelled, at a bracket or before the first tree
-  pub progress_stopped : (d : Option (List ℕ)) (r : Result ℕ RunFault) → (number ≡ 1) ⊎ HasOpeningParenthesis rest → length rest ≤ MAX_BYTES → HasNoTree rest
+  progress_stopped : (d : Option (List ℕ)) (r : Result ℕ RunFault) → (number ≡ 1) ⊎ HasOpeningParenthesis rest → length rest ≤ MAX_BYTES → HasNoTree rest
       → IfOk r (λ status. status ≡ 1) → WritesText (outcome_line number (Refused 1)) r b d → EndsAs r a d
   progress_stopped d r why small none one w = progress_last d why 1 r (stopped p.os rest (small_whole small) p.reads (goes_on why) none) one w
     where
@@ -154,13 +160,21 @@ module _ {allowed : List Node → TreeOutcome → Type 0} {input rest : List ℕ
       goes_on (inr e) = inr e
 
   -- the rest is too long, which can be at the start alone
-  pub progress_long : (d : Option (List ℕ)) → (number ≡ 1) ⊎ HasOpeningParenthesis rest → (r : Result ℕ RunFault) → MAX_BYTES < length rest → number + length rest ≤ length input + 1
+  progress_long : (d : Option (List ℕ)) → (number ≡ 1) ⊎ HasOpeningParenthesis rest → (r : Result ℕ RunFault) → MAX_BYTES < length rest → number + length rest ≤ length input + 1
       → IfOk r (λ status. status ≡ 1) → WritesText (outcome_line number (Refused 2)) r b d → EndsAs r a d
   progress_long d why r long bound one w = progress_last d why 2 r (elim p.small [
     | inl e ↦ subst (λ (x : List TreeOutcome). AreOutcomes allowed input (x ++ Refused 2 ∷ [])) (sym e)
         (too_long (subst (λ (x : List ℕ). MAX_BYTES < length x) (sym (nothing_read p.os e p.reads)) long))
     | inr small ↦ absurd (omega (arith, p.count))
   ]) one w
+
+  -- the next tree can't be read
+  pub progress_refused : (d : Option (List ℕ)) → (number ≡ 1) ⊎ HasOpeningParenthesis rest → (e : SgfFault) → e ≢ NoMemory → (e ≡ Syntax → (length rest ≤ MAX_BYTES) × HasNoTree rest)
+      → (e ≡ TooLong → MAX_BYTES < length rest) → number + length rest ≤ length input + 1 → (r : Result ℕ RunFault) → IfOk r (λ status. status ≡ 1)
+      → WritesText (outcome_line number (Refused (code_of e))) r b d → EndsAs r a d
+  progress_refused d why Syntax known none long bound r one w = let h = none refl in progress_stopped d r why h.0 h.1 one w
+  progress_refused d why TooLong known none long bound r one w = progress_long d why r (long refl) bound one w
+  progress_refused d why NoMemory known none long bound r one w = absurd (known refl)
 
   -- all trees are read
   pub progress_ended : number ≢ 1 → (HasOpeningParenthesis rest → ⊥) → (status : ℕ) → status ≡ (if refused then 1 else 0) → EndsAs (Ok status) a b

@@ -58,10 +58,8 @@ fn answer_tree<X: Threads + Wait + Sync, W: Write, P: Progress>(
     let Ok(outcome) = task.perform(rt, alloc, number, main, bytes, progress) else {
         return Err(RunFault::Memory);
     };
-    match write_outcome_line(alloc, writer, number, &outcome) {
-        Ok(()) => Ok(outcome.is_refused()),
-        Err(fault) => Err(fault),
-    }
+    write_outcome_line(alloc, writer, number, &outcome)?;
+    Ok(outcome.is_refused())
 }
 
 /// Refuses what is left of an input, and answers the status.
@@ -76,10 +74,8 @@ fn write_refusal<W: Write>(
     ensures status { IfOk result (λ status. status ≡ 1) }
     ensures failed { writer.new.failed ≡ is_output_fault result }
 {
-    match write_outcome_line(alloc, writer, number, &TreeOutcome::Refused(code)) {
-        Ok(()) => Ok(1),
-        Err(fault) => Err(fault),
-    }
+    write_outcome_line(alloc, writer, number, &TreeOutcome::Refused(code))?;
+    Ok(1)
 }
 
 /// Answers the trees of an input one after the other.
@@ -103,25 +99,12 @@ fn answer_trees<X: Threads + Wait + Sync, W: Write, P: Progress>(
         match read_tree(alloc, rest) {
             Ok((main, used)) => {
                 rest = &rest[used..];
-                match answer_tree(rt, alloc, task, number, &main, used, writer, progress) {
-                    Ok(bad) => refused |= bad,
-                    Err(fault) => return Err(fault),
-                }
+                let bad = answer_tree(rt, alloc, task, number, &main, used, writer, progress)?;
+                refused |= bad;
                 number += 1;
             }
-            Err(SgfFault::Syntax) => return write_refusal(
-                alloc,
-                writer,
-                number,
-                SgfFault::Syntax.code(),
-            ),
-            Err(SgfFault::TooLong) => return write_refusal(
-                alloc,
-                writer,
-                number,
-                SgfFault::TooLong.code(),
-            ),
             Err(SgfFault::NoMemory) => return Err(RunFault::Memory),
+            Err(fault) => return write_refusal(alloc, writer, number, fault.code()),
         }
     }
     Ok(if refused { 1 } else { 0 })
@@ -145,10 +128,8 @@ fn answer_check<W: Write>(
     let Ok(text) = finding.line(alloc) else {
         return Err(RunFault::Memory);
     };
-    match write_bytes(writer, text.as_bytes()) {
-        Ok(()) => Ok(finding.status()),
-        Err(fault) => Err(fault),
-    }
+    write_bytes(writer, text.as_bytes())?;
+    Ok(finding.status())
 }
 
 /// Whether a certificate may share parts.
@@ -202,10 +183,8 @@ pub fn run_telling<X: Threads + Wait + Sync, R: Read, W: Write, P: Progress>(
 {
     let task = task_of(command);
     let parts = reads_shared_parts(command);
-    match read_input(alloc, reader, MOST_READ) {
-        Ok(input) => answer(rt, alloc, parts, task, input.as_slice(), writer, progress),
-        Err(fault) => Err(fault),
-    }
+    let input = read_input(alloc, reader, MOST_READ)?;
+    answer(rt, alloc, parts, task, input.as_slice(), writer, progress)
 }
 
 /// Runs a command on an input: reads it whole, or 1,048,577 bytes of a longer one, and writes its answer and nothing

@@ -2,7 +2,8 @@
 ghost use Rattle.std.specs.Prelude.{◌≡◌, ◌⊎◌, ◌≤◌, false, [], true, IfErr, IfOk, OnOk, IfSome, map, string_bytes};
 ghost use Rattle.clap.specs.Words.{app_of, subcommand_of, subcommand_rows_of, fault_of, takes, kind_of, new_app, rows_of, rule_of, found_of};
 ghost use Rattle.clap.specs.declared.builder.command.Command.TheViews.{out-Command};
-ghost use Rattle.tsumego.specs.CommandLine.{AsksForCommand, AsksForSolve, HasContradictingFlags, HasFlag, HasNumber, HasOptionalNumber, IsInRange, check_app, flag_arg, number_arg, optional_number_arg, solve_app, tsumego_app};
+ghost use Rattle.tsumego.specs.CommandLine.{AsksForCommand, AsksForSolve, HasContradictingFlags, HasFlag, HasNumber, HasOptionalNumber, IsInRange};
+ghost use Rattle.tsumego.specs.CommandLine.{check_app, flag_arg, number_arg, optional_number_arg, solve_app, tsumego_app};
 
 use crate::request::Command;
 use clap::error::ErrorKind;

@@ -21,6 +21,9 @@ mod request;
 mod task;
 mod tips;
 
+ghost use Rattle.std.specs.Prelude.{IfOk};
+ghost use Rattle.tsumego.specs.CommandLine.{IsInRange};
+
 use answer::{run, run_telling};
 use arguments::{ArgFault, command};
 use devices::Watched;
@@ -32,15 +35,9 @@ use std::process::ExitCode;
 use std::{env, io};
 use tips::{READS_TERMINAL, file_tips, unsettled_tip};
 
-fn command_line_words(rt: &HostRuntime) -> Result<Vec<String>, ArgFault> {
-    let alloc = rt.alloc();
-    match env::args(rt) {
-        Ok(words) => match words.collect(alloc) {
-            Ok(words) => Ok(words),
-            Err(AllocError) => Err(ArgFault(String::new(alloc))),
-        },
-        Err(_) => Err(ArgFault(String::new(alloc))),
-    }
+/// The words of the command line, where they are text and memory for them wasn't refused.
+fn command_line_words(rt: &HostRuntime) -> Option<Vec<String>> {
+    env::args(rt).ok()?.collect(rt.alloc()).ok()
 }
 
 /// Writes the text of a refusal on standard error, which ends its last line itself; an empty line where there is none.
@@ -58,8 +55,8 @@ fn print_fault(rt: &HostRuntime, text: &str) -> io::Result<()> {
 /// What is said behind the refusal of the command line's words.
 fn refused_file_tips(rt: &HostRuntime, text: &str) -> Result<String, AllocError> {
     match command_line_words(rt) {
-        Ok(words) => file_tips(rt.alloc(), words.as_slice(), text),
-        Err(_) => Ok(String::new(rt.alloc())),
+        Some(words) => file_tips(rt.alloc(), words.as_slice(), text),
+        None => Ok(String::new(rt.alloc())),
     }
 }
 
@@ -71,12 +68,18 @@ fn shows_progress(command: &Command, terminal: bool) -> bool {
     }
 }
 
+/// What the words of the command line ask for.
+fn command_of_line(rt: &HostRuntime) -> Result<Command, ArgFault>
+    ensures { IfOk result IsInRange }
+{
+    match command_line_words(rt) {
+        Some(words) => command(rt.alloc(), words.as_slice()),
+        None => Err(ArgFault(String::new(rt.alloc()))),
+    }
+}
+
 fn main(rt: HostRuntime) -> ExitCode {
-    let asked = match command_line_words(&rt) {
-        Ok(words) => command(rt.alloc(), words.as_slice()),
-        Err(fault) => Err(fault),
-    };
-    let command = match asked {
+    let command = match command_of_line(&rt) {
         Ok(command) => command,
         Err(fault) => {
             let _ = print_fault(&rt, fault.0.as_str());

@@ -13,9 +13,6 @@ pub trait Progress: Sync {
     /// those before it are through or under way.
     fn begin_turn(&self, number: usize, job: usize);
 
-    /// df-pn had too little memory for the problem with this number.
-    fn dfpn_lacked_memory(&self, number: usize);
-
     /// The problem that began last has ended, perhaps unsettled.
     fn end_problem(&self, unsettled: bool);
 }
@@ -29,13 +26,11 @@ impl Progress for NoProgress {
 
     fn begin_turn(&self, _number: usize, _job: usize) {}
 
-    fn dfpn_lacked_memory(&self, _number: usize) {}
-
     fn end_problem(&self, _unsettled: bool) {}
 }
 
 /// Shows the problem, and the first turn that was begun last, on one line of standard error, which is wiped in the end. Then it says what
-/// may settle an unsettled problem, if it has a tip. That df-pn had too little memory stands on a line of its own.
+/// may settle an unsettled problem, if it has a tip.
 #[derive(Clone, Copy)]
 pub struct ProgressLine<'a, X> {
     rt: &'a X,
@@ -64,15 +59,6 @@ impl<X: Eprint + Sync> Progress for ProgressLine<'_, X> {
         }
     }
 
-    fn dfpn_lacked_memory(&self, number: usize) {
-        let line = format!(in self.alloc;
-            "\r\u{1b}[Kproblem {number}: df-pn had too little memory"
-        );
-        if let Ok(text) = line {
-            let _ = self.rt.eprintln(text.as_str());
-        }
-    }
-
     fn end_problem(&self, unsettled: bool) {
         let _ = self.rt.eprint("\r\u{1b}[K");
         if unsettled && !self.tip.is_empty() {
@@ -81,7 +67,7 @@ impl<X: Eprint + Sync> Progress for ProgressLine<'_, X> {
     }
 }
 
-/// Tells of the first turns of one problem, and of df-pn's want of memory.
+/// Tells of the first turns of one problem.
 #[derive(Clone, Copy)]
 pub struct ProblemGate<'a, P> {
     progress: &'a P,
@@ -101,8 +87,4 @@ impl<P: Progress> Gate for ProblemGate<'_, P> {
     }
 
     fn end(&self, _job: usize) {}
-
-    fn dfpn_lacked_memory(&self) {
-        self.progress.dfpn_lacked_memory(self.number);
-    }
 }

@@ -1,9 +1,12 @@
 -- Lemmas on where the first tree is refused.
-use Rattle.std.proofs.Common.{◌≡◌, ◌≤◌, ℕ, Bool, true, false, List, Ok, Err, refl, sym, ap, arith, length, subst}
+use Rattle.std.proofs.Common.{◌≡◌, ◌≢◌, ◌≤◌, ◌<◌, ℕ, Bool, true, false, List, Ok, Err, refl, sym, ap, arith, length, subst}
 use Rattle.std.specs.declared.result.Result.{Result}
+use Rattle.tt_sgf.specs.declared.faults.SgfFault.{SgfFault}
+use Rattle.tt_sgf.specs.declared.faults.SgfFault.TheVariants.{Syntax, TooLong, NoMemory}
 use Rattle.tt_sgf.specs.declared.nodes.Node.{Node}
 use Rattle.tt_sgf.specs.declared.trees.TheConstants.{MAX_BYTES}
-use Rattle.tt_sgf.specs.Grammar.{GameTree, GrammarIsUnambiguous, FirstTreeEndsAt, main_line}
+use Rattle.tt_sgf.specs.Faults.{code_of}
+use Rattle.tt_sgf.specs.Grammar.{GameTree, GrammarIsUnambiguous, HasNoTree, FirstTreeEndsAt, main_line}
 use Rattle.tt_game.specs.declared.faults.GameFault.{GameFault}
 use Rattle.tt_game.specs.declared.records.Record.{Record}
 use Rattle.tt_game.specs.Line.{LineWithUndo}
@@ -15,7 +18,7 @@ use Rattle.tt_text.specs.Scoring.{Scores, record_outcome}
 use Rattle.tt_text.specs.Solving.{Solves, SolvesProblemAs}
 use Rattle.tsumego_c.specs.declared.first_refusal.Refusal.{Refusal}
 use Rattle.tsumego_c.specs.First.{first_tree, no_tree, too_long}
-use Rattle.tsumego_c.specs.Refusals.{ExplainsTheLine, IsFirstTreeRefusal, main_line_refusal, refusal_of_result, refused_number, too_long_input, tree_of_input, treeless_input}
+use Rattle.tsumego_c.specs.Refusals.{ExplainsTheLine, IsFirstTreeRefusal, main_line_refusal, refusal_of_input, refusal_of_result, refused_number, too_long_input, tree_of_input, treeless_input}
 
 -- the refusal of the tree that was read
 pub refusal_read : (is_record : Bool) (input : List ℕ) (count : ℕ) (t : GameTree) (nodes : List Node) (r : Refusal) → length input ≤ MAX_BYTES → FirstTreeEndsAt input count t
@@ -23,6 +26,13 @@ pub refusal_read : (is_record : Bool) (input : List ℕ) (count : ℕ) (t : Game
 refusal_read is_record input count t nodes r small s same is =
     subst (λ (x : Refusal). IsFirstTreeRefusal is_record input x) (sym is)
     (subst (λ (ns : List Node). IsFirstTreeRefusal is_record input (main_line_refusal is_record ns)) (sym same) (tree_of_input count t small s))
+
+-- the refusal of an input whose first tree can't be read
+pub input_refused : (is_record : Bool) (input : List ℕ) (e : SgfFault) → e ≢ NoMemory → (e ≡ Syntax → (length input ≤ MAX_BYTES) × HasNoTree input)
+    → (e ≡ TooLong → MAX_BYTES < length input) → IsFirstTreeRefusal is_record input (refusal_of_input (code_of e))
+input_refused is_record input Syntax known none long = let h = none refl in treeless_input h.0 h.1
+input_refused is_record input TooLong known none long = too_long_input (long refl)
+input_refused is_record input NoMemory known none long = absurd (known refl)
 
 module _ (is_record : Bool) (allowed : List Node → TreeOutcome → Type 0) (one : GrammarIsUnambiguous)
     (same : (ns : List Node) (o : TreeOutcome) → allowed ns o → (main_line_refusal is_record ns).number ≡ refused_number o) where

@@ -1,5 +1,5 @@
 //! The options of a call of `solve`.
-ghost use Rattle.std.specs.Prelude.{◌≡◌, ◌≤◌, ◌↔◌, IfSome, IsSome};
+ghost use Rattle.std.specs.Prelude.{◌≡◌, ◌≤◌, ◌↔◌, ℕ, IfSome, IsSome};
 ghost use Rattle.tt_proof.specs.declared.tree.TheConstants.{MOST_DEPTH};
 ghost use Rattle.tt_search.specs.declared.limits.TheConstants.{MOST_EXPANDED};
 ghost use Rattle.tsumego_c.specs.Options.{MeansOptions, AreInRange, cert_kind_numbered, unless_zero};
@@ -28,10 +28,9 @@ pub struct CallOptions {
 }
 
 /// A number that isn't 0.
-fn unless_zero(n: u32, most: u32) -> Option<u32>
-    requires { n ≤ most }
+fn unless_zero(n: u32) -> Option<u32>
     ensures same { result ≡ unless_zero n }
-    ensures range { IfSome result (λ m. (1 ≤ m) × (m ≤ most)) }
+    ensures range { (most : ℕ) → n ≤ most → IfSome result (λ m. (1 ≤ m) × (m ≤ most)) }
 {
     if n == 0 { None } else { Some(n) }
 }
@@ -69,8 +68,8 @@ pub fn options_of(numbers: &CallOptions) -> Option<Options>
     let limits = limits_of(numbers.budget, numbers.depth)?;
     Some(Options {
         limits,
-        total: unless_zero(numbers.total, MOST_TOTAL),
-        dfpn: unless_zero(numbers.dfpn, MOST_POSITIONS),
+        total: unless_zero(numbers.total),
+        dfpn: unless_zero(numbers.dfpn),
         workers: 1,
         cert: cert_kind_numbered(numbers.cert),
         turns: false,

@@ -98,9 +98,8 @@ fn first_tree_refusal(alloc: Global, sgf: &[u8], is_record: bool) -> Result<Refu
 {
     match read_tree(alloc, sgf) {
         Ok((main, _)) => refusal_of_main_line(alloc, &main, is_record),
-        Err(SgfFault::Syntax) => Ok(refusal_of_input(1)),
-        Err(SgfFault::TooLong) => Ok(refusal_of_input(2)),
         Err(SgfFault::NoMemory) => Err(NoMemory),
+        Err(fault) => Ok(refusal_of_input(fault.code())),
     }
 }
 

@@ -18,9 +18,8 @@ fn score_first_tree(alloc: Global, sgf: &[u8]) -> Result<TreeOutcome, NoMemory>
 {
     match read_tree(alloc, sgf) {
         Ok((main, _)) => score(alloc, &main),
-        Err(SgfFault::Syntax) => Ok(TreeOutcome::Refused(1)),
-        Err(SgfFault::TooLong) => Ok(TreeOutcome::Refused(2)),
         Err(SgfFault::NoMemory) => Err(NoMemory),
+        Err(fault) => Ok(TreeOutcome::Refused(fault.code())),
     }
 }
 
@@ -31,9 +30,8 @@ fn solve_first_tree(alloc: Global, sgf: &[u8], options: Options) -> Result<TreeO
 {
     match read_tree(alloc, sgf) {
         Ok((main, used)) => solve_alone(alloc, &main, options, used),
-        Err(SgfFault::Syntax) => Ok(TreeOutcome::Refused(1)),
-        Err(SgfFault::TooLong) => Ok(TreeOutcome::Refused(2)),
         Err(SgfFault::NoMemory) => Err(NoMemory),
+        Err(fault) => Ok(TreeOutcome::Refused(fault.code())),
     }
 }
 

@@ -76,8 +76,8 @@ decided_within line limits total cert (Unsettled reason) h = absurd h
 -- what a stuck turn says
 pub stuck_for : (line : LineWithUndo) (limits : Limits) (total : Option ℕ) (stuck : Stuck) (reason : Reason) → IsUnsettledAnswer line limits total reason stuck
     → IsUnsettledFor line limits total reason
-stuck_for line limits total stuck Budget h = (stuck.turn, h.0, h.2)
-stuck_for line limits total stuck Depth h = (stuck.turn, h.0, h.2)
+stuck_for line limits total stuck Budget h = (stuck.turn, h.0, h.2, h.3)
+stuck_for line limits total stuck Depth h = (stuck.turn, h.0, h.2, h.3)
 stuck_for line limits total stuck Total h = (h.0, h.1, stuck.turn, h.2, stuck.spent.items, h.4, h.5)
 stuck_for line limits total stuck Memory h = tt
 

@@ -1,5 +1,5 @@
 -- What is found of a problem: its value with a first turn and a certificate, or why that isn't known; and the value behind each legal turn.
-use Rattle.std.specs.Prelude.{◌≡◌, ◌≢◌, ◌≤◌, ℕ, Bool, true, false, List, [], ◌∷◌, Option, Some, None, IfSome, Ok, Err, length}
+use Rattle.std.specs.Prelude.{◌≡◌, ◌≢◌, ◌≤◌, ℕ, Bool, true, false, List, [], ◌∷◌, Option, Some, None, Ok, Err}
 use Rattle.std.specs.declared.result.Result.{Result}
 use Rattle.tt_game.specs.declared.frame.Side.{Side}
 use Rattle.tt_game.specs.declared.turns.Turn.{Turn}
@@ -15,7 +15,7 @@ use Rattle.tt_search.specs.declared.limits.Limits.{Limits}
 use Rattle.tt_search.specs.declared.limits.Reason.{Reason}
 use Rattle.tt_search.specs.declared.limits.Reason.TheVariants.{Budget, Depth, Total, Memory}
 use Rattle.tt_search.specs.SearchState.{SearchState}
-use Rattle.tt_share.specs.Answers.{IsTotalSpent, IsStuckAfter}
+use Rattle.tt_share.specs.Answers.{IsSpent, IsStuckAfter, IsWithinTotal}
 use Rattle.tt_solve.specs.declared.options.CertKind.{CertKind}
 use Rattle.tt_solve.specs.declared.options.CertKind.TheVariants.{Unasked, Plain, Shared}
 use Rattle.tt_solve.specs.declared.options.Options.{Options}
@@ -47,13 +47,14 @@ IsCertificateAsked p limits side first Plain (Some bytes) = IsWinningCertificate
 IsCertificateAsked p limits side first Shared (Some bytes) = IsWinningSharedCertificate p.frame p.state side first limits.depth bytes
 IsCertificateAsked p limits side first cert c = ⊥
 
--- behind some legal turn the search is stuck for the reason, and the lesser turns lose; for the total only where there is one, and
--- then the count of this search and those of grown searches behind the other legal turns add up to it; of memory nothing is said
+-- behind some legal turn the search is stuck for the reason, and the lesser turns lose; the count of this search and those of grown
+-- searches behind the other legal turns add up to no more than the total, where there is one; it is stuck for the total only where
+-- they add up to just that; of memory nothing is said
 abbrev pub IsUnsettledFor : LineWithUndo → Limits → Option ℕ → Reason → Type 0
-IsUnsettledFor p limits total Budget = (t : Turn) × (search : SearchState) × IsStuckAfter p limits Budget t search
-IsUnsettledFor p limits total Depth = (t : Turn) × (search : SearchState) × IsStuckAfter p limits Depth t search
+IsUnsettledFor p limits total Budget = (t : Turn) × (search : SearchState) × IsStuckAfter p limits Budget t search × IsWithinTotal p limits total t search
+IsUnsettledFor p limits total Depth = (t : Turn) × (search : SearchState) × IsStuckAfter p limits Depth t search × IsWithinTotal p limits total t search
 IsUnsettledFor p limits total Total = (n : ℕ) × (total ≡ Some n) × (t : Turn) × (search : SearchState) × (spent : List (Turn × ℕ))
-    × IsStuckAfter p limits Total t search × IsTotalSpent p limits n t search spent
+    × IsStuckAfter p limits Total t search × IsSpent p limits n t search spent
 IsUnsettledFor p limits total Memory = Unit {0}
 
 -- the side has the value, and its first turn and its certificate are so
@@ -66,11 +67,6 @@ IsDecided p limits cert (Unsettled reason) = ⊥
 abbrev pub IsSolution : LineWithUndo → Limits → Option ℕ → CertKind → Solution → Type 0
 IsSolution p limits total cert (Settled side first certificate) = IsDecided p limits cert (Settled side first certificate)
 IsSolution p limits total cert (Unsettled reason) = IsUnsettledFor p limits total reason
-
--- its certificate, where it has one, takes at most so many bytes
-abbrev pub HasCertificateWithin : ℕ → Solution → Type 0
-HasCertificateWithin most (Settled side first certificate) = IfSome certificate (λ bytes. length bytes ≤ most)
-HasCertificateWithin most (Unsettled reason) = Unit {0}
 
 -- ---- the positions behind its turns
 
@@ -89,7 +85,7 @@ IsValueOrReason p limits total (Err reason) = IsUnsettledFor p limits total reas
 abbrev pub AreTurnValues : LineWithUndo → Limits → Option ℕ → Option ℕ → List Turn → List (Turn × Result Side Reason) → Type 0
 AreTurnValues p limits total left [] values = (left ≡ total) × (values ≡ [])
 AreTurnValues p limits total left (t ∷ ts) values = (granted : ℕ) × (value : Result Side Reason) × (rest : List (Turn × Result Side Reason))
-    × HoldsByGrants (λ n. IsValueOrReason (problem_after_turn p t) limits n value) total granted
+    × HoldsByGrants (problem_after_turn p t) limits (λ n. IsValueOrReason (problem_after_turn p t) limits n value) total granted
     × (values ≡ (t, value) ∷ rest) × AreTurnValues p limits (total_left total granted) left ts rest
 
 -- nothing, or the values of all legal turns, in rising order, where they are asked for
@@ -99,5 +95,5 @@ AreTurnValuesAsked p limits total true values = (left : Option ℕ) × AreTurnVa
 
 -- the problem is solved, and its turns have what it left of the total; workers and df-pn have no part in it
 abbrev pub IsSolved : Options → LineWithUndo → Solved → Type 0
-IsSolved options p s = (granted : ℕ) × HoldsByGrants (λ n. IsSolution p options.limits n options.cert s.solution) options.total granted
+IsSolved options p s = (granted : ℕ) × HoldsByGrants p options.limits (λ n. IsSolution p options.limits n options.cert s.solution) options.total granted
     × AreTurnValuesAsked p options.limits (total_left options.total granted) options.turns s.turn_values.items

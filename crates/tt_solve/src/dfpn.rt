@@ -2,93 +2,60 @@
 ghost use Rattle.std.specs.Prelude.{◌≡◌, ◌≢◌, ◌≤◌, None, IfOk, IfSome};
 ghost use Rattle.tt_game.specs.Game.{winner_of};
 ghost use Rattle.tt_game.specs.GameLaws.{IsWellFormedState};
+ghost use Rattle.tt_game.specs.Line.{LineWithUndo};
 ghost use Rattle.tt_proof.specs.declared.tree.TheConstants.{MOST_DEPTH};
 ghost use Rattle.tt_proof.specs.ProofClaim.{StandsAt};
 ghost use Rattle.tt_proof.specs.Strategy as strategy;
+ghost use Rattle.tt_search.specs.declared.limits.Limits.{Limits};
 ghost use Rattle.tt_solve.specs.declared.options.CertKind.{CertKind};
-ghost use Rattle.tt_solve.specs.Solutions.{HasCertificateWithin, IsDecided};
+ghost use Rattle.tt_solve.specs.Solutions.{IsDecided};
 
 use crate::certificate_kinds::solution_of_proof;
 use crate::options::{CertKind, Options};
 use crate::solution::Solution;
 use std::alloc::Global;
-use std::thread::Threads;
-use tt_dfpn::{VisitsLeft, find_life_proof, find_proof};
+use tt_dfpn::{VisitsLeft, WinnerSearch, find_life_proof, find_proof};
 use tt_game::Line;
 use tt_parts::write_shared_cert;
 use tt_proof::{LifeProof, Proof};
 use tt_search::Limits;
 use tt_sgf::{ItemList, NoMemory};
-use tt_team::{find_life_proof_by_workers, find_proof_by_workers};
 
-/// What df-pn finds in the caller's thread within so many positions. Its frame is large, and is never made where df-pn isn't asked for.
+/// What df-pn finds by a search within so many positions. Its frame is large, and is never made where df-pn isn't asked for.
 #[inline(never)]
-fn proof_alone(
+fn proof_within<S: WinnerSearch>(
     alloc: Global,
+    search: &S,
     line: &Line,
     depth: u16,
     positions: u32,
 ) -> Result<Option<Proof>, NoMemory>
-    requires { depth ≤ MOST_DEPTH }
+    requires ready { S.ready search.now }
+    requires depth { depth ≤ MOST_DEPTH }
     ensures stands { IfOk result (λ o. IfSome o (λ p. StandsAt p line.now.frame line.now.state)) }
     ensures shallow { IfOk result (λ o. IfSome o (λ p. strategy.depth p.tree ≤ depth)) }
 {
     let mut visits = VisitsLeft { left: positions };
     let mut copy = line.try_clone()?;
-    find_proof(alloc, &mut copy, depth, &mut visits)
+    find_proof(alloc, search, &mut copy, depth, &mut visits)
 }
 
 /// The same, where the tree may end at life.
 #[inline(never)]
-fn life_proof_alone(
+fn life_proof_within<S: WinnerSearch>(
     alloc: Global,
+    search: &S,
     line: &Line,
     depth: u16,
     positions: u32,
 ) -> Result<Option<LifeProof>, NoMemory>
-    requires { depth ≤ MOST_DEPTH }
+    requires ready { S.ready search.now }
+    requires depth { depth ≤ MOST_DEPTH }
     ensures { IfOk result (λ o. IfSome o (λ p. StandsAt p line.now.frame line.now.state)) }
 {
     let mut visits = VisitsLeft { left: positions };
     let mut copy = line.try_clone()?;
-    find_life_proof(alloc, &mut copy, depth, &mut visits)
-}
-
-/// What df-pn finds by so many workers within so many positions.
-#[inline(never)]
-fn proof_by_workers<X: Threads + Sync>(
-    rt: &X,
-    alloc: Global,
-    line: &Line,
-    depth: u16,
-    workers: usize,
-    positions: u32,
-) -> Result<Option<Proof>, NoMemory>
-    requires { depth ≤ MOST_DEPTH }
-    ensures stands { IfOk result (λ o. IfSome o (λ p. StandsAt p line.now.frame line.now.state)) }
-    ensures shallow { IfOk result (λ o. IfSome o (λ p. strategy.depth p.tree ≤ depth)) }
-{
-    let mut visits = VisitsLeft { left: positions };
-    let mut copy = line.try_clone()?;
-    find_proof_by_workers(rt, alloc, &mut copy, depth, workers, &mut visits)
-}
-
-/// The same, where the tree may end at life.
-#[inline(never)]
-fn life_proof_by_workers<X: Threads + Sync>(
-    rt: &X,
-    alloc: Global,
-    line: &Line,
-    depth: u16,
-    workers: usize,
-    positions: u32,
-) -> Result<Option<LifeProof>, NoMemory>
-    requires { depth ≤ MOST_DEPTH }
-    ensures { IfOk result (λ o. IfSome o (λ p. StandsAt p line.now.frame line.now.state)) }
-{
-    let mut visits = VisitsLeft { left: positions };
-    let mut copy = line.try_clone()?;
-    find_life_proof_by_workers(rt, alloc, &mut copy, depth, workers, &mut visits)
+    find_life_proof(alloc, search, &mut copy, depth, &mut visits)
 }
 
 /// The solution by a proof that df-pn finds and that ends at wins, where its certificate takes at most so many bytes.
@@ -103,8 +70,7 @@ fn plain_solution(
     requires state { IsWellFormedState line.now.frame line.now.state }
     requires stands { IfSome proof (λ p. StandsAt p line.now.frame line.now.state) }
     requires shallow { IfSome proof (λ p. strategy.depth p.tree ≤ options.limits.depth) }
-    ensures decides { IfOk result (λ o. IfSome o (IsDecided line.now options.limits options.cert)) }
-    ensures short { IfOk result (λ o. IfSome o (HasCertificateWithin most_bytes)) }
+    ensures { IfOk result (λ o. IfSome o (IsDecided line.now options.limits options.cert)) }
 {
     let Some(proof) = proof else {
         return Ok(None);
@@ -122,12 +88,9 @@ fn plain_solution(
 }
 
 /// The solution that a proof at the line is whose tree may end at life, without a certificate.
-fn bare_solution(line: &Line, limits: &Limits, proof: &LifeProof) -> Solution
-    requires open { winner_of line.now.frame line.now.state ≡ None }
-    requires state { IsWellFormedState line.now.frame line.now.state }
-    requires stands { StandsAt proof.now line.now.frame line.now.state }
-    ensures decides { IsDecided line.now limits.now CertKind.Unasked result }
-    ensures short { HasCertificateWithin 0 result }
+fn bare_solution(proof: &LifeProof) -> Solution
+    ensures { (line : LineWithUndo) (limits : Limits) → winner_of line.frame line.state ≡ None → IsWellFormedState line.frame line.state
+        → StandsAt proof.now line.frame line.state → IsDecided line limits CertKind.Unasked result }
 {
     let side = proof.side();
     let first = proof.first();
@@ -149,8 +112,7 @@ fn shared_solution(
     requires open { winner_of line.now.frame line.now.state ≡ None }
     requires state { IsWellFormedState line.now.frame line.now.state }
     requires stands { StandsAt proof.now line.now.frame line.now.state }
-    ensures decides { IfOk result (λ o. IfSome o (IsDecided line.now limits.now CertKind.Shared)) }
-    ensures short { IfOk result (λ o. IfSome o (HasCertificateWithin most_bytes)) }
+    ensures { IfOk result (λ o. IfSome o (IsDecided line.now limits.now CertKind.Shared)) }
 {
     let side = proof.side();
     let tree = proof.tree();
@@ -179,69 +141,42 @@ fn life_solution(
     requires state { IsWellFormedState line.now.frame line.now.state }
     requires kind { options.cert ≢ CertKind.Plain }
     requires stands { IfSome proof (λ p. StandsAt p line.now.frame line.now.state) }
-    ensures decides { IfOk result (λ o. IfSome o (IsDecided line.now options.limits options.cert)) }
-    ensures short { IfOk result (λ o. IfSome o (HasCertificateWithin most_bytes)) }
+    ensures { IfOk result (λ o. IfSome o (IsDecided line.now options.limits options.cert)) }
 {
     let limits = options.limits;
     let Some(proof) = proof else {
         return Ok(None);
     };
     if options.cert == CertKind::Unasked {
-        Ok(Some(bare_solution(line, &limits, &proof)))
+        Ok(Some(bare_solution(&proof)))
     } else {
         shared_solution(alloc, line, &limits, &proof, most_bytes)
     }
 }
 
-/// The solution that df-pn finds in the caller's thread, where it is asked for: by a tree that may end at life, unless a plain certificate
-/// is asked for. None where it finds nothing, or where the certificate takes more than so many bytes.
-pub(crate) fn dfpn_solution(
+/// The solution that df-pn finds by a search, where it is asked for: by a tree that may end at life, unless a plain certificate is asked
+/// for. None where it finds nothing, or where the certificate takes more than so many bytes.
+pub(crate) fn dfpn_solution<S: WinnerSearch>(
     alloc: Global,
+    search: &S,
     line: &Line,
     options: Options,
     most_bytes: usize,
 ) -> Result<Option<Solution>, NoMemory>
+    requires ready { S.ready search.now }
     requires open { winner_of line.now.frame line.now.state ≡ None }
     requires state { IsWellFormedState line.now.frame line.now.state }
-    ensures decides { IfOk result (λ o. IfSome o (IsDecided line.now options.limits options.cert)) }
-    ensures short { IfOk result (λ o. IfSome o (HasCertificateWithin most_bytes)) }
+    ensures { IfOk result (λ o. IfSome o (IsDecided line.now options.limits options.cert)) }
 {
     let Some(positions) = options.dfpn else {
         return Ok(None);
     };
     let depth = options.limits.depth();
     if options.cert == CertKind::Plain {
-        let proof = proof_alone(alloc, line, depth, positions)?;
+        let proof = proof_within(alloc, search, line, depth, positions)?;
         plain_solution(alloc, line, options, proof, most_bytes)
     } else {
-        let proof = life_proof_alone(alloc, line, depth, positions)?;
-        life_solution(alloc, line, options, proof, most_bytes)
-    }
-}
-
-/// The same by workers.
-pub(crate) fn dfpn_solution_by_workers<X: Threads + Sync>(
-    rt: &X,
-    alloc: Global,
-    line: &Line,
-    options: Options,
-    most_bytes: usize,
-) -> Result<Option<Solution>, NoMemory>
-    requires open { winner_of line.now.frame line.now.state ≡ None }
-    requires state { IsWellFormedState line.now.frame line.now.state }
-    ensures decides { IfOk result (λ o. IfSome o (IsDecided line.now options.limits options.cert)) }
-    ensures short { IfOk result (λ o. IfSome o (HasCertificateWithin most_bytes)) }
-{
-    let Some(positions) = options.dfpn else {
-        return Ok(None);
-    };
-    let depth = options.limits.depth();
-    let workers = options.workers;
-    if options.cert == CertKind::Plain {
-        let proof = proof_by_workers(rt, alloc, line, depth, workers, positions)?;
-        plain_solution(alloc, line, options, proof, most_bytes)
-    } else {
-        let proof = life_proof_by_workers(rt, alloc, line, depth, workers, positions)?;
+        let proof = life_proof_within(alloc, search, line, depth, positions)?;
         life_solution(alloc, line, options, proof, most_bytes)
     }
 }

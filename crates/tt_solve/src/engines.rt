@@ -12,6 +12,7 @@ use tt_game::Line;
 use tt_search::PrivateStore;
 use tt_sgf::NoMemory;
 use tt_share::{Answer, CertLog, Gate, solve_counting_grants, solve_one_within_total};
+use tt_team::Workers;
 
 /// The answer of a search in the caller's thread, over a store of its own.
 pub(crate) fn search_alone(alloc: Global, line: &Line, options: Options) -> Answer
@@ -25,21 +26,21 @@ pub(crate) fn search_alone(alloc: Global, line: &Line, options: Options) -> Answ
 /// The answer of a search by workers, over a log of their own; and how many expansions were granted of the total.
 #[tactic(auto, using(crate::proofs::Totals::counted))]
 pub(crate) fn search_by_workers<X: Threads + Wait + Sync, G: Gate>(
-    rt: &X,
-    alloc: Global,
+    workers: &Workers<'_, X>,
     line: &Line,
     options: Options,
     total: Option<u32>,
     gate: &G,
 ) -> Result<(Answer, u64), NoMemory>
     requires { winner_of line.now.frame line.now.state ≡ None }
-    ensures { IfOk result (λ r. HoldsByGrants (λ t. IsAnswer line.now options.limits t r.0) total r.1) }
+    ensures { IfOk result (λ r. HoldsByGrants line.now options.limits (λ t. IsAnswer line.now options.limits t r.0) total r.1) }
 {
-    let log = CertLog::new(alloc)?;
+    let log = CertLog::new(workers.alloc)?;
     let limits = options.limits;
-    let workers = options.workers;
+    let (rt, alloc) = (workers.rt, workers.alloc);
+    let count = options.workers;
     let (answer, granted) = solve_counting_grants(
-        rt, alloc, line, &limits, total, workers, &log, gate,
+        rt, alloc, line, &limits, total, count, &log, gate,
     );
     Ok((answer, granted))
 }

@@ -1,6 +1,6 @@
 //! What solving a problem gives.
-ghost use Rattle.std.specs.Prelude.{◌≡◌, true};
-ghost use Rattle.tt_solve.specs.Solutions.{HasCertificateWithin, value_of};
+ghost use Rattle.std.specs.Prelude.{◌≡◌};
+ghost use Rattle.tt_solve.specs.Solutions.{value_of};
 
 use tt_game::{Side, Turn};
 use tt_search::Reason;
@@ -31,9 +31,7 @@ impl Solution {
     }
 
     /// Whether its certificate, where it has one, takes at most so many bytes.
-    pub(crate) fn has_certificate_within(&self, most_bytes: usize) -> bool
-        ensures { result ≡ true → HasCertificateWithin most_bytes self.now }
-    {
+    pub(crate) fn has_certificate_within(&self, most_bytes: usize) -> bool {
         match self {
             Solution::Settled {
                 certificate: Some(bytes),

@@ -9,23 +9,26 @@ ghost use Rattle.tt_solve.specs.Solutions.{AreTurnValues, AreTurnValuesAsked, Is
 ghost use Rattle.tt_solve.specs.Totals.{HasGrants, HoldsLeaving, total_left};
 
 use crate::certificate_kinds::solution_of_proof;
-use crate::dfpn::{dfpn_solution, dfpn_solution_by_workers};
+use crate::dfpn::dfpn_solution;
 use crate::engines::{search_alone, search_by_workers};
 use crate::options::Options;
 use crate::solution::{Solution, Solved};
 use std::alloc::Global;
 use std::sync::Wait;
 use std::thread::Threads;
+use tt_dfpn::OneFinder;
 use tt_game::{Line, Side, Turn};
 use tt_search::Reason;
 use tt_sgf::{MAX_BYTES, NoMemory};
 use tt_share::{Answer, Gate, NoGate};
+use tt_team::Workers;
 
-/// The solution that an answer is.
+/// The solution that an answer is. Where df-pn lacked memory, that is why an unsettled problem is so.
 fn solution_of_answer(
     alloc: Global,
     line: &Line,
     options: Options,
+    dfpn_lacked_memory: bool,
     answer: &Answer,
 ) -> Result<Solution, NoMemory>
     requires open { winner_of line.now.frame line.now.state ≡ None }
@@ -35,6 +38,7 @@ fn solution_of_answer(
 {
     match answer {
         Answer::Settled { proof, .. } => solution_of_proof(alloc, line, options, proof),
+        Answer::Unsettled(_) if dfpn_lacked_memory => Ok(Solution::Unsettled(Reason::Memory)),
         Answer::Unsettled(stuck) => Ok(Solution::Unsettled(stuck.reason)),
     }
 }
@@ -51,10 +55,9 @@ fn total_left(total: Option<u32>, granted: u64) -> Option<u32>
 }
 
 /// Solves the problem at a line: by df-pn, where it is asked for and its certificate takes at most so many bytes, or else by
-/// workers; and what is left of the total. Where df-pn has no memory the gate hears of it, and the workers begin.
+/// workers; and what is left of the total.
 fn solve_line<X: Threads + Wait + Sync, G: Gate>(
-    rt: &X,
-    alloc: Global,
+    workers: &Workers<'_, X>,
     line: &Line,
     options: Options,
     total: Option<u32>,
@@ -63,33 +66,32 @@ fn solve_line<X: Threads + Wait + Sync, G: Gate>(
 ) -> Result<(Solution, Option<u32>), NoMemory>
     requires open { winner_of line.now.frame line.now.state ≡ None }
     requires state { IsWellFormedState line.now.frame line.now.state }
-    ensures { IfOk result (λ r. HoldsLeaving (λ t. IsSolution line.now options.limits t options.cert r.0) total r.1) }
+    ensures { IfOk result (λ r. HoldsLeaving line.now options.limits (λ t. IsSolution line.now options.limits t options.cert r.0) total r.1) }
 {
-    match dfpn_solution_by_workers(rt, alloc, line, options, most_bytes) {
+    let lacked_memory = match dfpn_solution(workers.alloc, workers, line, options, most_bytes) {
         Ok(Some(solution)) => return Ok((solution, total)),
-        Ok(None) => {}
-        Err(NoMemory) => gate.dfpn_lacked_memory(),
-    }
-    let (answer, granted) = search_by_workers(rt, alloc, line, options, total, gate)?;
-    let solution = solution_of_answer(alloc, line, options, &answer)?;
+        Ok(None) => false,
+        Err(NoMemory) => true,
+    };
+    let (answer, granted) = search_by_workers(workers, line, options, total, gate)?;
+    let solution = solution_of_answer(workers.alloc, line, options, lacked_memory, &answer)?;
     Ok((solution, total_left(total, granted)))
 }
 
 /// Which side wins at a line, or why that isn't known; and what is left of the total.
 fn value_at<X: Threads + Wait + Sync>(
-    rt: &X,
-    alloc: Global,
+    workers: &Workers<'_, X>,
     line: &Line,
     options: Options,
     total: Option<u32>,
 ) -> (Result<Side, Reason>, Option<u32>)
     requires { IsWellFormedState line.now.frame line.now.state }
-    ensures { HoldsLeaving (λ t. IsValueOrReason line.now options.limits t result.0) total result.1 }
+    ensures { HoldsLeaving line.now options.limits (λ t. IsValueOrReason line.now options.limits t result.0) total result.1 }
 {
     if let Some(side) = line.winner() {
         return (Ok(side), total);
     }
-    match solve_line(rt, alloc, line, options, total, 0, &NoGate) {
+    match solve_line(workers, line, options, total, 0, &NoGate) {
         Ok((solution, left)) => (solution.value(), left),
         Err(NoMemory) => (Err(Reason::Memory), total),
     }
@@ -97,8 +99,7 @@ fn value_at<X: Threads + Wait + Sync>(
 
 /// Which side wins behind a legal turn, or why that isn't known; and what is left of the total.
 fn value_after_turn<X: Threads + Wait + Sync>(
-    rt: &X,
-    alloc: Global,
+    workers: &Workers<'_, X>,
     line: &Line,
     options: Options,
     total: Option<u32>,
@@ -106,18 +107,17 @@ fn value_after_turn<X: Threads + Wait + Sync>(
 ) -> (Result<Side, Reason>, Option<u32>)
     requires state { IsWellFormedState line.now.frame line.now.state }
     requires legal { IsLegal line.now.frame line.now.state turn }
-    ensures { HoldsLeaving (λ t. IsValueOrReason (problem_after_turn line.now turn) options.limits t result.0) total result.1 }
+    ensures { HoldsLeaving (problem_after_turn line.now turn) options.limits (λ t. IsValueOrReason (problem_after_turn line.now turn) options.limits t result.0) total result.1 }
 {
     match line.after(turn) {
-        Ok(next) => value_at(rt, alloc, &next, options, total),
+        Ok(next) => value_at(workers, &next, options, total),
         Err(NoMemory) => (Err(Reason::Memory), total),
     }
 }
 
 /// The values behind the legal turns of the problem at a line. Each turn has what those before it left of the total.
 fn values_of_turns<X: Threads + Wait + Sync>(
-    rt: &X,
-    alloc: Global,
+    workers: &Workers<'_, X>,
     line: &Line,
     options: Options,
     total: Option<u32>,
@@ -126,10 +126,10 @@ fn values_of_turns<X: Threads + Wait + Sync>(
     ensures { IfOk result (λ values. (left : Option ℕ) × AreTurnValues line.now options.limits total left (legal_turns line.now.frame line.now.state) values.items) }
 {
     let turns = line.turns();
-    let mut values = Vec::new(alloc);
+    let mut values = Vec::new(workers.alloc);
     let mut left = total;
     for turn in turns.as_slice() {
-        let (value, rest) = value_after_turn(rt, alloc, line, options, left, *turn);
+        let (value, rest) = value_after_turn(workers, line, options, left, *turn);
         values.push((*turn, value))?;
         left = rest;
     }
@@ -138,8 +138,7 @@ fn values_of_turns<X: Threads + Wait + Sync>(
 
 /// The same, nothing where it isn't asked for.
 fn values_asked<X: Threads + Wait + Sync>(
-    rt: &X,
-    alloc: Global,
+    workers: &Workers<'_, X>,
     line: &Line,
     options: Options,
     total: Option<u32>,
@@ -148,9 +147,9 @@ fn values_asked<X: Threads + Wait + Sync>(
     ensures { IfOk result (λ values. AreTurnValuesAsked line.now options.limits total options.turns values.items) }
 {
     if options.turns {
-        values_of_turns(rt, alloc, line, options, total)
+        values_of_turns(workers, line, options, total)
     } else {
-        Ok(Vec::new(alloc))
+        Ok(Vec::new(workers.alloc))
     }
 }
 
@@ -176,8 +175,13 @@ pub fn solve<X: Threads + Wait + Sync, G: Gate>(
     ensures { IfOk result (IsSolved options line.now) }
 {
     let most_bytes = most_certificate_bytes(bytes);
-    let (solution, left) = solve_line(rt, alloc, line, options, options.total, most_bytes, gate)?;
-    let turn_values = values_asked(rt, alloc, line, options, left)?;
+    let workers = Workers {
+        rt,
+        alloc,
+        count: options.workers,
+    };
+    let (solution, left) = solve_line(&workers, line, options, options.total, most_bytes, gate)?;
+    let turn_values = values_asked(&workers, line, options, left)?;
     Ok(Solved {
         solution,
         turn_values,
@@ -197,11 +201,13 @@ fn solution_alone(
     ensures { IfOk result (IsSolution line.now options.limits options.total options.cert) }
 {
     let most_bytes = most_certificate_bytes(bytes);
-    if let Ok(Some(solution)) = dfpn_solution(alloc, line, options, most_bytes) {
-        return Ok(solution);
-    }
+    let lacked_memory = match dfpn_solution(alloc, &OneFinder, line, options, most_bytes) {
+        Ok(Some(solution)) => return Ok(solution),
+        Ok(None) => false,
+        Err(NoMemory) => true,
+    };
     let answer = search_alone(alloc, line, options);
-    solution_of_answer(alloc, line, options, &answer)
+    solution_of_answer(alloc, line, options, lacked_memory, &answer)
 }
 
 /// What `solve` gives where nothing is asked of turns, without a thread.

@@ -65,7 +65,8 @@ says p limits total cert side rest (Settled winner first c) is e =
     let size = p.frame.size in
     let lines = certificate_line c in
     let parts : decided_line size winner first ++ lines ≡ verdict_word winner ++ (first_turn_text size first ++ newline ∷ lines) =
-    append_assoc (verdict_word winner) (first_turn_text size first ++ newline ∷ []) lines ∙ ap (λ (x : List ℕ). verdict_word winner ++ x) (append_assoc (first_turn_text size first) (newline ∷ []) lines) in
+    append_assoc (verdict_word winner) (first_turn_text size first ++ newline ∷ []) lines
+    ∙ ap (λ (x : List ℕ). verdict_word winner ++ x) (append_assoc (first_turn_text size first) (newline ∷ []) lines) in
     let same = verdict_word_is_prefix_free winner side (first_turn_text size first ++ newline ∷ lines) rest (sym parts ∙ e) in
     record {
       first = first;

@@ -3,6 +3,7 @@ ghost use Rattle.std.specs.Prelude.{◌≡◌, IfOk, drop, string_bytes};
 ghost use Rattle.tt_game.specs.Problems.{problem_of};
 ghost use Rattle.tt_text.specs.Checking.{Finds, FindsPlain, FindsPlainOrShared, FindsOnProblem, FindsShared, check_line, check_status};
 
+use crate::reasons::UNFIT_PART;
 use std::alloc::{AllocError, Global};
 use tt_game::{GameFault, Line, problem};
 use tt_parts::{read_shared_cert, replay_shared_cert};
@@ -49,14 +50,12 @@ fn check_plain(alloc: Global, line: &mut Line, certificate: &[u8]) -> Result<Che
 {
     let size = line.frame().size;
     match read_cert(alloc, certificate, size) {
-        Ok((side, tree)) => match replay(&tree, side, line) {
-            Ok(true) => Ok(CheckOutcome::Valid),
-            Ok(false) => Ok(CheckOutcome::Invalid),
-            Err(NoMemory) => Err(NoMemory),
+        Ok((side, tree)) => match replay(&tree, side, line)? {
+            true => Ok(CheckOutcome::Valid),
+            false => Ok(CheckOutcome::Invalid),
         },
-        Err(CertFault::Syntax) => Ok(CheckOutcome::Refused(CertFault::Syntax.code())),
-        Err(CertFault::TooDeep) => Ok(CheckOutcome::Refused(CertFault::TooDeep.code())),
         Err(CertFault::NoMemory) => Err(NoMemory),
+        Err(fault) => Ok(CheckOutcome::Refused(fault.code())),
     }
 }
 
@@ -70,15 +69,13 @@ fn check_shared(
 {
     let size = line.frame().size;
     match read_shared_cert(alloc, certificate, size) {
-        Ok((side, outline)) => match replay_shared_cert(alloc, &outline, side, line) {
-            Ok(Some(true)) => Ok(CheckOutcome::Valid),
-            Ok(Some(false)) => Ok(CheckOutcome::Invalid),
-            Ok(None) => Ok(CheckOutcome::Refused(32)),
-            Err(NoMemory) => Err(NoMemory),
+        Ok((side, outline)) => match replay_shared_cert(alloc, &outline, side, line)? {
+            Some(true) => Ok(CheckOutcome::Valid),
+            Some(false) => Ok(CheckOutcome::Invalid),
+            None => Ok(CheckOutcome::Refused(UNFIT_PART)),
         },
-        Err(CertFault::Syntax) => Ok(CheckOutcome::Refused(30)),
-        Err(CertFault::TooDeep) => Ok(CheckOutcome::Refused(31)),
         Err(CertFault::NoMemory) => Err(NoMemory),
+        Err(fault) => Ok(CheckOutcome::Refused(fault.code())),
     }
 }
 
@@ -121,8 +118,7 @@ pub fn check_input(alloc: Global, parts: bool, input: &[u8]) -> Result<CheckOutc
 {
     match read_tree(alloc, input) {
         Ok((main, used)) => check_on_problem(alloc, parts, &main, trim(&input[used..])),
-        Err(SgfFault::Syntax) => Ok(CheckOutcome::Refused(SgfFault::Syntax.code())),
-        Err(SgfFault::TooLong) => Ok(CheckOutcome::Refused(SgfFault::TooLong.code())),
         Err(SgfFault::NoMemory) => Err(NoMemory),
+        Err(fault) => Ok(CheckOutcome::Refused(fault.code())),
     }
 }

@@ -4,16 +4,19 @@ use tt_game::reason_of_code;
 use tt_proof::CertFault;
 use tt_sgf::SgfFault;
 
+/// The number of the refusal of a certificate with a shared part that doesn't fit.
+pub(crate) const UNFIT_PART: u8 = 32;
+
 /// Why an input, a main line or a certificate is refused with this number, in English words. No newline ends them. Empty where no
 /// refusal has the number.
 pub fn reason_of_refusal(number: u8) -> &'static [u8] {
     match number {
         1 => SgfFault::Syntax.reason(),
         2 => SgfFault::TooLong.reason(),
-        10..=23 => reason_of_code(number),
+        10..=29 => reason_of_code(number),
         30 => CertFault::Syntax.reason(),
         31 => CertFault::TooDeep.reason(),
-        32 => b"a shared part doesn't fit where its name stands",
+        UNFIT_PART => b"a shared part doesn't fit where its name stands",
         _ => b"",
     }
 }

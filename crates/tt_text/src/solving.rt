@@ -2,6 +2,7 @@
 ghost use Rattle.std.specs.Prelude.{◌≡◌, IfOk, None, Ok, false};
 ghost use Rattle.tt_game.specs.Game.{winner_of};
 ghost use Rattle.tt_game.specs.GameLaws.{IsWellFormedState};
+ghost use Rattle.tt_solve.specs.declared.options.Options.{Options};
 ghost use Rattle.tt_solve.specs.Solutions.{IsSolved};
 ghost use Rattle.tt_text.specs.Solving.{Solves, SolvesProblemAs};
 
@@ -16,14 +17,9 @@ use tt_share::Gate;
 use tt_solve::{Options, Solved};
 
 /// What is said of a solved problem.
-fn answered(
-    alloc: Global,
-    line: &Line,
-    options: Options,
-    solved: &Solved,
-) -> Result<TreeOutcome, NoMemory>
-    requires { IsSolved options line.now solved.now }
-    ensures { IfOk result (SolvesProblemAs options (Ok line.now)) }
+fn answered(alloc: Global, line: &Line, solved: &Solved) -> Result<TreeOutcome, NoMemory>
+    requires { (options : Options) × IsSolved options line.now solved.now }
+    ensures { (options : Options) → IsSolved options line.now solved.now → IfOk result (SolvesProblemAs options (Ok line.now)) }
 {
     let text = answer_text(alloc, line.frame().size, solved)?;
     Ok(TreeOutcome::Answered(ItemList::from_vec(text)))
@@ -43,7 +39,7 @@ fn answer<X: Threads + Wait + Sync, G: Gate>(
     ensures { IfOk result (SolvesProblemAs options (Ok line.now)) }
 {
     let solved = tt_solve::solve(rt, alloc, line, options, bytes, gate)?;
-    answered(alloc, line, options, &solved)
+    answered(alloc, line, &solved)
 }
 
 /// The same where nothing is asked of turns, without a thread.
@@ -59,7 +55,7 @@ fn answer_alone(
     ensures { IfOk result (SolvesProblemAs options (Ok line.now)) }
 {
     let solved = tt_solve::solve_alone(alloc, line, options, bytes)?;
-    answered(alloc, line, options, &solved)
+    answered(alloc, line, &solved)
 }
 
 /// What is said of the problem that a main line is, or its refusal. The problem's text has so many bytes. The gate hears of the

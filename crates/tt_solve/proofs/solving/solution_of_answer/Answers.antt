@@ -26,7 +26,7 @@ pub returns-in-Settled : goal.returns-in-Settled
 returns-in-Settled c = λ total is.
     IfOk-weaker c.solution_of_proof.result _ _ (λ s h. decided_within c.args.line.now c.args.options.limits total c.args.options.cert s h) c.solution_of_proof.ensures
 
-pub returns-in-Unsettled : goal.returns-in-Unsettled
-returns-in-Unsettled c = λ total is.
-    let stuck = subst (λ (a : Answer). IsAnswer c.args.line.now c.args.options.limits total a) c.in-Unsettled.is is in
-    stuck_for c.args.line.now c.args.options.limits total c.in-Unsettled.stuck c.in-Unsettled.stuck.reason stuck
+pub returns-in-Unsettled-2 : goal.returns-in-Unsettled-2
+returns-in-Unsettled-2 c = λ total is.
+    let stuck = subst (λ (a : Answer). IsAnswer c.args.line.now c.args.options.limits total a) c.in-Unsettled-2.is is in
+    stuck_for c.args.line.now c.args.options.limits total c.in-Unsettled-2.stuck c.in-Unsettled-2.stuck.reason stuck
