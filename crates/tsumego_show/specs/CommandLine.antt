@@ -1,5 +1,5 @@
 -- What the words behind the program's name ask for.
-use Rattle.std.specs.Prelude.{ℕ, ◌-◌, ◌&&◌, ◌||◌, ◌==◌, nat_le, pos, Bool, true, false, List, [], ◌∷◌, codes, drop, unwrap_or, Option, Some, None, is_some, if◌then◌else◌}
+use Rattle.std.specs.Prelude.{ℕ, ◌+◌, ◌-◌, ◌&&◌, ◌||◌, ◌==◌, nat_le, pos, Bool, true, false, List, [], ◌∷◌, codes, drop, unwrap_or, Option, Some, None, is_some, option_map, if◌then◌else◌}
 use lib.Pointwise.{pointwise}
 use Rattle.std.specs.Char.{to_ascii_uppercase}
 use Rattle.clap.specs.Words.{App, Row, Rule, Text, all_of, first_of, new_app, new_rule, with_rule}
@@ -15,36 +15,21 @@ use Rattle.tsumego_show.specs.declared.mode.PointName.TheVariants.{FromAbove, Fr
 
 -- ---- points
 
-abbrev pub lower_s : ℕ
-lower_s = 115
-
-abbrev pub upper_H : ℕ
-upper_H = 72
-
-abbrev pub upper_J : ℕ
-upper_J = 74
-
-abbrev pub upper_T : ℕ
-upper_T = 84
-
--- the column that a capital letter names in editors, who leave out I
+-- the column that a capital letter names in editors: A to H, and J to T, for they leave out I
 abbrev pub column_of_editor_letter : ℕ → Option ℕ
 column_of_editor_letter b =
-    if nat_le upper_A b && nat_le b upper_H then Some (b - upper_A) else (if nat_le upper_J b && nat_le b upper_T then Some (b - upper_A - 1) else None)
+    if nat_le upper_A b && nat_le b (upper_A + 7) then Some (b - upper_A)
+    else (if nat_le (upper_A + 9) b && nat_le b (upper_A + 19) then Some (b - upper_A - 1) else None)
 
--- the column or row that a letter names in SGF
+-- the column or row that a letter names in SGF: a to s
 abbrev pub coordinate_of_sgf_letter : ℕ → Option ℕ
-coordinate_of_sgf_letter b = if nat_le lower_a b && nat_le b lower_s then Some (b - lower_a) else None
+coordinate_of_sgf_letter b = if nat_le lower_a b && nat_le b (lower_a + 18) then Some (b - lower_a) else None
 
 -- the row of SGF, where one letter names it
 abbrev pub sgf_row : List ℕ → Option ℕ
 sgf_row [] = None
 sgf_row (b ∷ []) = coordinate_of_sgf_letter b
 sgf_row (b ∷ c ∷ bs) = None
-
-abbrev pub sgf_point_name : Option ℕ → ℕ → Option PointName
-sgf_point_name None row = None
-sgf_point_name (Some column) row = Some (FromAbove column row)
 
 -- the number of a row is 1 to 19
 abbrev pub editor_point_name : Option ℕ → Option ℕ → Option PointName
@@ -54,7 +39,7 @@ editor_point_name (Some column) (Some row) = if nat_le 1 row && nat_le row 19 th
 
 abbrev pub sgf_or_editor_point_name : ℕ → List ℕ → Option ℕ → Option PointName
 sgf_or_editor_point_name b bs None = editor_point_name (column_of_editor_letter (to_ascii_uppercase b)) (number_of bs)
-sgf_or_editor_point_name b bs (Some row) = sgf_point_name (coordinate_of_sgf_letter b) row
+sgf_or_editor_point_name b bs (Some row) = option_map (λ column. FromAbove column row) (coordinate_of_sgf_letter b)
 
 -- the point that a word names: `cb` as SGF does, `C18` or `c18` as editors do
 abbrev pub point_name_of_word : List ℕ → Option PointName
@@ -108,10 +93,6 @@ abbrev pub files_behind_point : Option PointName → List Text → List Text
 files_behind_point None words = words
 files_behind_point (Some name) words = drop 1 words
 
--- marks for the stone in a place, or for any; stones that close its wall may be added, or not
-abbrev pub marks_for : Bool → Option PointName → Mode
-marks_for closes name = Marks (record { name = name; closes = closes })
-
 -- variations to 1 to 512 turns
 abbrev pub variations_to : Option ℕ → Option Mode
 variations_to None = None
@@ -124,7 +105,7 @@ sgf_mode (Some w) = variations_to (number_of w)
 -- one kind of text, with what goes with it: by `--svg`, `--sgf`, `--mark`, `--close`, the depth and the point
 abbrev pub mode_asked : Bool → Bool → Bool → Bool → Option Text → Option PointName → Option Mode
 mode_asked svg sgf mark close depth point =
-    if mark then (if svg || (sgf || is_some depth) then None else Some (marks_for close point))
+    if mark then (if svg || (sgf || is_some depth) then None else Some (Marks (record { name = point; closes = close })))
     else (if close then None
     else (if sgf then (if svg then None else sgf_mode depth)
     else (if is_some depth then None else Some (if svg then Diagram else Picture))))

@@ -1,6 +1,6 @@
--- Which trees of an input are refused, and the exit status. Pictures, diagrams, variations, marks and words are tested, and nothing is
--- said of them here.
-use Rattle.std.specs.Prelude.{◌≡◌, ◌⊎◌, ◌↔◌, ◌+◌, ◌<◌, ◌≤◌, ℕ, Bool, IsTrue, true, false, ◌||◌, List, length, drop, Ok, Err, if◌then◌else◌}
+-- What is shown of an input, tree by tree: which trees are refused, what is written, and the exit status. What pictures, diagrams and
+-- words look like is tested, and nothing is said of it here.
+use Rattle.std.specs.Prelude.{◌≡◌, ◌⊎◌, ◌↔◌, ◌+◌, ◌++◌, ◌<◌, ◌≤◌, ℕ, Bool, IsTrue, true, false, ◌||◌, List, [], length, drop, Ok, Err, if◌then◌else◌}
 use Rattle.std.specs.declared.result.Result.{Result}
 use Rattle.tt_sgf.specs.declared.trees.TheConstants.{MAX_BYTES}
 use Rattle.tt_sgf.specs.Grammar.{GameTree, HasNoTree, HasOpeningParenthesis, FirstTreeEndsAt, main_line}
@@ -10,6 +10,7 @@ use Rattle.tt_game.specs.Problems.{problem_of}
 use Rattle.tsumego_show.specs.declared.mode.Mode.{Mode}
 use Rattle.tsumego_show.specs.declared.mode.Mode.TheVariants.{Picture, Diagram, Marks, Variations}
 use Rattle.tsumego_show.specs.declared.mode.WantedMarks.{WantedMarks}
+use Rattle.tsumego_show.specs.Written.{IsWrittenOn, IsWrittenOnNoTree}
 
 -- an input is one problem, where this is its first tree and none may follow
 abbrev pub IsOnlyTree : ℕ → List ℕ → Type 0
@@ -26,23 +27,29 @@ IsTreeRefused (Variations depth) k (Ok p) behind refused = refused ≡ false
 IsTreeRefused (Variations depth) k (Err e) behind refused = refused ≡ true
 IsTreeRefused (Marks wanted) k r behind refused = Unit {0}
 
--- Whether something is refused in bytes at the end of an input, whose first tree has number k: in a tree or in what follows it; or no
--- tree is left, and none was wanted; or none is spelled where one is wanted: at a `(`, or where no tree was read yet.
-pub data IsRestRefused (mode : Mode) : ℕ → List ℕ → Bool → Type 0 where
-  tree : (k : ℕ) (bytes : List ℕ) (count : ℕ) (t : GameTree) (bad refused : Bool) → FirstTreeEndsAt bytes count t
-      → IsTreeRefused mode k (problem_of (main_line t)) (drop count bytes) bad → IsRestRefused mode (k + 1) (drop count bytes) refused
-      → IsRestRefused mode k bytes (bad || refused)
-  ended : (k : ℕ) (bytes : List ℕ) → 1 < k → (HasOpeningParenthesis bytes → ⊥) → IsRestRefused mode k bytes false
-  stopped : (k : ℕ) (bytes : List ℕ) → (k ≡ 1) ⊎ HasOpeningParenthesis bytes → HasNoTree bytes → IsRestRefused mode k bytes true
+-- What is written on bytes at the end of an input, whose first tree has number k, and whether something in them is refused: tree by tree
+-- what is written on each; or no tree is left, and none was wanted; or none is spelled where one is wanted: at a `(`, or where no tree was
+-- read yet.
+pub data IsRestShown (mode : Mode) : ℕ → List ℕ → Bool → List ℕ → Type 0 where
+  tree : (k : ℕ) (bytes : List ℕ) (count : ℕ) (t : GameTree) (bad refused : Bool) (part text : List ℕ) → FirstTreeEndsAt bytes count t
+      → IsTreeRefused mode k (problem_of (main_line t)) (drop count bytes) bad → IsWrittenOn mode (main_line t) (problem_of (main_line t)) bad part
+      → IsRestShown mode (k + 1) (drop count bytes) refused text → IsRestShown mode k bytes (bad || refused) (part ++ text)
+  ended : (k : ℕ) (bytes : List ℕ) → 1 < k → (HasOpeningParenthesis bytes → ⊥) → IsRestShown mode k bytes false []
+  stopped : (k : ℕ) (bytes text : List ℕ) → (k ≡ 1) ⊎ HasOpeningParenthesis bytes → HasNoTree bytes → IsWrittenOnNoTree mode text
+      → IsRestShown mode k bytes true text
 
--- whether something is refused in an input: it is too long, or something is in its trees from number 1 on
-pub data IsInputRefused (mode : Mode) (input : List ℕ) : Bool → Type 0 where
-  too_long : MAX_BYTES < length input → IsInputRefused mode input true
-  trees : (refused : Bool) → length input ≤ MAX_BYTES → IsRestRefused mode 1 input refused → IsInputRefused mode input refused
+-- what is written on an input, and whether something in it is refused: it is too long, or so it is with its trees from number 1 on
+pub data IsInputShown (mode : Mode) (input : List ℕ) : Bool → List ℕ → Type 0 where
+  too_long : (text : List ℕ) → MAX_BYTES < length input → IsWrittenOnNoTree mode text → IsInputShown mode input true text
+  trees : (refused : Bool) (text : List ℕ) → length input ≤ MAX_BYTES → IsRestShown mode 1 input refused text → IsInputShown mode input refused text
 
--- the exit status for an input: 1 where something is refused
+-- the text for an input, with the exit status: 1 where something is refused
+abbrev pub IsTextWithStatus : Mode → List ℕ → List ℕ → ℕ → Type 0
+IsTextWithStatus mode input text status = (refused : Bool) × IsInputShown mode input refused text × (status ≡ (if refused then 1 else 0))
+
+-- the exit status for an input
 abbrev pub HasStatus : Mode → List ℕ → ℕ → Type 0
-HasStatus mode input status = (refused : Bool) × IsInputRefused mode input refused × (status ≡ (if refused then 1 else 0))
+HasStatus mode input status = (text : List ℕ) × IsTextWithStatus mode input text status
 
 -- the mode isn't that of marks
 abbrev pub WantsNoMarks : Mode → Type 0

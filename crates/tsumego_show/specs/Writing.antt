@@ -1,11 +1,13 @@
 -- What a run writes.
-use Rattle.std.specs.Prelude.{◌≡◌, ℕ, List, [], Option}
+use Rattle.std.specs.Prelude.{◌≡◌, ◌⊎◌, ℕ, List, [], Option}
 use Rattle.std.specs.declared.result.Result.{Result}
 use Rattle.devices.specs.declared.fault.RunFault.{RunFault}
 use Rattle.devices.specs.Writing.{RunWrites}
 use Rattle.tsumego_show.specs.declared.mode.Mode.{Mode}
-use Rattle.tsumego_show.specs.Shown.{HasStatus}
+use Rattle.tsumego_show.specs.Shown.{IsTextWithStatus}
 
--- a text, with the status for the input, or a beginning of it; and where memory was refused nothing
+-- The text for the input, with its status, or a beginning of it; where memory was refused nothing, and nothing with status 2 where a game
+-- tree would read as another problem.
 abbrev pub WritesShown : Mode → List ℕ → Result ℕ RunFault → Option (List ℕ) → Option (List ℕ) → Type 0
-WritesShown mode input = RunWrites (λ text status. HasStatus mode input status) (λ text. (status : ℕ) × HasStatus mode input status) (λ text. text ≡ [])
+WritesShown mode input = RunWrites (λ text status. IsTextWithStatus mode input text status ⊎ ((text ≡ []) × (status ≡ 2)))
+    (λ text. (status : ℕ) × IsTextWithStatus mode input text status) (λ text. text ≡ [])

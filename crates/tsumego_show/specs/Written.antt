@@ -1,5 +1,5 @@
 -- What the game trees that are written are when they are read.
-use Rattle.std.specs.Prelude.{◌≡◌, ◌⊎◌, ◌<◌, ◌≤◌, ◌+◌, ◌-◌, ◌*◌, ℕ, Bool, true, false, List, length, Ok, Err, Option, None, Some}
+use Rattle.std.specs.Prelude.{◌≡◌, ◌⊎◌, ◌<◌, ◌≤◌, ◌+◌, ◌-◌, ◌*◌, ℕ, Bool, true, false, List, [], length, Ok, Err, Option, None, Some}
 use Rattle.std.specs.declared.result.Result.{Result}
 use Rattle.std.specs.FinSet as set
 use Rattle.tt_sgf.specs.declared.nodes.Node.{Node}
@@ -10,7 +10,7 @@ use Rattle.tt_board.specs.declared.Colour.{Colour}
 use Rattle.tt_board.specs.Play.{other}
 use Rattle.tt_board.specs.Position.{Colouring}
 use Rattle.tt_board.specs.Reach.{entry_at}
-use Rattle.tt_board.specs.Stones.{PointNumberSet}
+use Rattle.tt_board.specs.Stones.{IsSetOnBoard, PointNumberSet}
 use Rattle.tt_game.specs.declared.faults.GameFault.{GameFault}
 use Rattle.tt_game.specs.declared.frame.Frame.{Frame}
 use Rattle.tt_game.specs.declared.frame.Side.{Side}
@@ -18,7 +18,7 @@ use Rattle.tt_game.specs.Games.{GameState}
 use Rattle.tt_game.specs.Line.{LineWithUndo}
 use Rattle.tt_game.specs.Problems.{game_of, posed_problem, problem_of, side_of}
 use Rattle.tt_marks.specs.Closings.{ClosesWall, with_stones}
-use Rattle.tt_marks.specs.Walls.{IsClosed, IsRegion, IsWholeWall}
+use Rattle.tt_marks.specs.Walls.{IsClosed, IsInner, IsRegion, IsWholeWall}
 use Rattle.tsumego_show.specs.declared.mode.Mode.{Mode}
 use Rattle.tsumego_show.specs.declared.mode.Mode.TheVariants.{Picture, Diagram, Marks, Variations}
 use Rattle.tsumego_show.specs.declared.mode.PointName.{PointName}
@@ -33,16 +33,20 @@ IsProblemText text q = (count : ℕ) × (t : GameTree) × FirstTreeEndsAt text c
 abbrev pub IsTextOf : List ℕ → LineWithUndo → Type 0
 IsTextOf text p = length text ≤ MAX_BYTES → (q : LineWithUndo) × IsProblemText text q × (q.frame ≡ p.frame) × (q.state ≡ p.state)
 
--- a text, if it isn't too long to be read, is a problem with this frame, these stones and this side to move
+-- A text, if it isn't too long to be read, is a problem with this frame, these stones and this side to move. Nothing stood before, as behind
+-- any setup.
 abbrev pub IsSetupText : List ℕ → Frame → Colouring → Side → Type 0
-IsSetupText text f stones side = length text ≤ MAX_BYTES → (q : LineWithUndo) × IsProblemText text q × (q.frame ≡ f) × (q.state.present ≡ stones) × (q.state.to_move ≡ side)
+IsSetupText text f stones side = length text ≤ MAX_BYTES → (q : LineWithUndo) × IsProblemText text q × (q.frame ≡ f)
+    × (q.state ≡ record { earlier = []; present = stones; to_move = side; passes = 0 })
 
 -- a triangle on the stone of colour k on q and squares on these points mark its group: they are the region within the whole wall, closed
 pub record IsMarkOf (s : Size) (c : Colouring) (q : ℕ) (k : Colour) (squares : PointNumberSet) : Type 0 where
   pub stands : entry_at c q ≡ Some k
   pub wall : PointNumberSet
+  pub wall_on_board : IsSetOnBoard s wall
   pub whole : IsWholeWall s c k q (set.contains wall)
   pub within : IsRegion s c k q (set.contains wall) (set.contains squares)
+  pub on_board : IsSetOnBoard s squares
   pub closed : IsClosed wall squares
 
 -- the one target of marks
@@ -59,9 +63,15 @@ abbrev pub IsMeant : Size → Option PointName → ℕ → Type 0
 IsMeant s None q = Unit {0}
 IsMeant s (Some name) q = HasName s name q
 
+-- where nobody names a stone, no more empty points are in the squares than outside
+abbrev pub IsInnerUnlessNamed : Option PointName → Size → Colouring → PointNumberSet → Type 0
+IsInnerUnlessNamed None s c squares = IsInner s c squares
+IsInnerUnlessNamed (Some name) s c squares = Unit {0}
+
 -- a text is the game with a triangle on q and with squares that mark the group of its stone, all else as it was
-abbrev pub IsEnclosedText : List ℕ → GameState → ℕ → Type 0
-IsEnclosedText text g q = (k : Colour) × (squares : PointNumberSet) × IsMarkOf g.size g.present q k squares × IsTextOf text (posed_problem g squares (target q) k)
+abbrev pub IsEnclosedText : Option PointName → List ℕ → GameState → ℕ → Type 0
+IsEnclosedText name text g q = (k : Colour) × (squares : PointNumberSet) × IsMarkOf g.size g.present q k squares × IsInnerUnlessNamed name g.size g.present squares
+    × IsTextOf text (posed_problem g squares (target q) k)
 
 -- a text is the game with more stones, which close the wall around the group of the stone on q, with such marks too, and who moves stays
 abbrev pub IsClosedText : List ℕ → GameState → ℕ → Type 0
@@ -70,7 +80,14 @@ IsClosedText text g q = (k : Colour) × (squares : PointNumberSet) × (stones : 
 
 -- a text is the game with marks for the stone that is meant; only where that is wanted with stones that close its wall
 abbrev pub IsMarkedText : WantedMarks → List ℕ → GameState → Type 0
-IsMarkedText wanted text g = (q : ℕ) × IsMeant g.size wanted.name q × (IsEnclosedText text g q ⊎ ((wanted.closes ≡ true) × IsClosedText text g q))
+IsMarkedText wanted text g = (q : ℕ) × IsMeant g.size wanted.name q × (IsEnclosedText wanted.name text g q ⊎ ((wanted.closes ≡ true) × IsClosedText text g q))
+
+-- what is written where no tree is spelled: a picture's words are for people, and else nothing is
+abbrev pub IsWrittenOnNoTree : Mode → List ℕ → Type 0
+IsWrittenOnNoTree Picture text = Unit {0}
+IsWrittenOnNoTree Diagram text = text ≡ []
+IsWrittenOnNoTree (Variations depth) text = text ≡ []
+IsWrittenOnNoTree (Marks wanted) text = text ≡ []
 
 -- What is written on a tree with these nodes, which is a problem or refused: variations begin with the problem, and problems keep their
 -- marks. Another game gets marks where it asks, if the tree isn't refused.

@@ -4,12 +4,12 @@ use crate::endings::{has_ended, put_ending};
 use crate::main_lines::{main_line, make_turns};
 use crate::picture::{colour_name, side_colour};
 use crate::points::{PointForm, put_point};
-use crate::writing::written;
+use crate::shown::ShowFault;
 use std::alloc::Global;
 use std::io::Write;
 use tt_game::{Line, Side, Turn};
 use tt_proof::Tree;
-use tt_sgf::{NoMemory, PointOrPass, Size, has_tree, point, trim};
+use tt_sgf::{PointOrPass, Size, has_tree, point, trim};
 
 /// What stands behind a problem: strategies in which the side to move plays first, and the first turns that win or fail by them, or by
 /// the lines of `solve --turns`, each once.
@@ -21,50 +21,33 @@ pub struct Answers {
     is_text: bool,
 }
 
-/// How a line begins that says who wins after a pass.
-const PASS_WORD: &[u8] = b"pass ";
-
-/// The turn that a point or a pass is.
-fn turn_of(place: PointOrPass) -> Turn {
-    match place {
-        PointOrPass::On(point) => Turn::Play(point),
-        PointOrPass::Pass => Turn::Pass,
+/// The turn at the beginning of a line, and the words behind it.
+fn turn_and_words(line: &[u8], size: Size) -> Option<(Turn, &[u8])> {
+    let (turn, words) = match line.strip_prefix(b"pass ") {
+        Some(words) => (Turn::Pass, words),
+        None => match point(line.get(..2)?, size)? {
+            PointOrPass::On(point) => (Turn::Play(point), line.get(2..)?),
+            PointOrPass::Pass => return None,
+        },
+    };
+    let words = trim(words);
+    if words.is_empty() {
+        None
+    } else {
+        Some((turn, words))
     }
-}
-
-/// The turn at the beginning of a line.
-fn turn_at(line: &[u8], size: Size) -> Option<Turn> {
-    if line.starts_with(PASS_WORD) {
-        return Some(Turn::Pass);
-    }
-    if line.len() < 3 {
-        return None;
-    }
-    let place = point(&line[..2], size)?;
-    Some(turn_of(place))
-}
-
-/// The words behind the turn at the beginning of a line.
-fn words_behind_turn(line: &[u8]) -> &[u8] {
-    let begin = if line.starts_with(PASS_WORD) { 5 } else { 2 };
-    if line.len() < begin {
-        return line;
-    }
-    trim(&line[begin..])
 }
 
 impl Answers {
-    fn add_first_turn(&mut self, turn: Turn, wins: bool) -> Result<(), NoMemory> {
-        for (known, _) in self.first_turns.as_slice() {
-            if *known == turn {
-                return Ok(());
-            }
+    fn add_first_turn(&mut self, turn: Turn, wins: bool) -> Result<(), ShowFault> {
+        if !self.first_turns.iter().any(|known| known.0 == turn) {
+            self.first_turns.push((turn, wins))?;
         }
-        Ok(self.first_turns.push((turn, wins))?)
+        Ok(())
     }
 
     /// Adds a strategy that begins with a turn of the side to move: its own, or one that it answers.
-    fn add_strategy(&mut self, mover: Side, side: Side, tree: Tree) -> Result<(), NoMemory> {
+    fn add_strategy(&mut self, mover: Side, side: Side, tree: Tree) -> Result<(), ShowFault> {
         if (mover == side) != tree.first().is_some() {
             return Ok(());
         }
@@ -81,16 +64,15 @@ impl Answers {
     }
 
     /// Adds what a line says, without blanks in front and behind.
-    fn add_line(&mut self, alloc: Global, problem: &Line, line: &[u8]) -> Result<(), NoMemory> {
+    fn add_line(&mut self, alloc: Global, problem: &Line, line: &[u8]) -> Result<(), ShowFault> {
         let size = problem.frame().size;
         let mover = problem.to_move();
         if let Some((side, tree)) = read_strategy(alloc, line, size)? {
             return self.add_strategy(mover, side, tree);
         }
-        let Some(turn) = turn_at(line, size) else {
+        let Some((turn, words)) = turn_and_words(line, size) else {
             return Ok(());
         };
-        let words = words_behind_turn(line);
         if words == mover.verdict_word() {
             return self.add_first_turn(turn, true);
         }
@@ -109,34 +91,33 @@ impl Answers {
     /// Who wins, where that is known.
     fn winner(&self, mover: Side) -> Option<Side> {
         if let Some((side, _)) = self.strategies.first() {
-            return Some(*side);
+            Some(*side)
+        } else if self.first_turns.iter().any(|first| first.1) {
+            Some(mover)
+        } else if self.first_turns.is_empty() || self.is_open {
+            None
+        } else {
+            Some(mover.opponent())
         }
-        for (_, wins) in self.first_turns.as_slice() {
-            if *wins {
-                return Some(mover);
-            }
-        }
-        if self.first_turns.is_empty() || self.is_open {
-            return None;
-        }
-        Some(mover.opponent())
     }
 
     /// Writes who moves, and who wins, where that is known, behind the text.
-    pub fn put_verdict(&self, out: &mut Vec<u8>, line: &Line) -> Result<(), NoMemory> {
+    pub fn put_verdict(&self, out: &mut Vec<u8>, line: &Line) -> Result<(), ShowFault> {
         let mover = line.to_move();
         let name = colour_name(side_colour(line, mover));
-        written(write!(out, "{name} to play"))?;
+        write!(out, "{name} to play")?;
         let Some(winner) = self.winner(mover) else {
             return Ok(());
         };
         let colour = colour_name(side_colour(line, winner));
-        match (mover, winner) {
-            (Side::Attacker, Side::Attacker) => Ok(out.extend_from_slice(b" and kill")?),
-            (Side::Defender, Side::Defender) => Ok(out.extend_from_slice(b" and live")?),
-            (_, Side::Defender) => written(write!(out, ": {colour} lives")),
-            (_, Side::Attacker) => written(write!(out, ": {colour} kills")),
+        let verb = match winner {
+            Side::Attacker => "kill",
+            Side::Defender => "live",
+        };
+        if winner == mover {
+            return Ok(write!(out, " and {verb}")?);
         }
+        Ok(write!(out, ": {colour} {verb}s")?)
     }
 
     /// Writes a line of the first turns that win, or that fail, behind the text, where there are such.
@@ -146,7 +127,7 @@ impl Answers {
         size: Size,
         winning: bool,
         words: &[u8],
-    ) -> Result<(), NoMemory> {
+    ) -> Result<(), ShowFault> {
         let start = out.len();
         for (turn, wins) in self.first_turns.as_slice() {
             if *wins == winning {
@@ -160,7 +141,7 @@ impl Answers {
     }
 
     /// Writes the answer in words behind the text: who moves, who wins, which first turns win, and which fail.
-    pub fn put_words(&self, out: &mut Vec<u8>, line: &Line) -> Result<(), NoMemory> {
+    pub fn put_words(&self, out: &mut Vec<u8>, line: &Line) -> Result<(), ShowFault> {
         self.put_verdict(out, line)?;
         out.push(b'.')?;
         let size = line.frame().size;
@@ -170,11 +151,11 @@ impl Answers {
 }
 
 /// Writes a blank and the name of a turn, as editors have it, behind the text.
-fn put_turn_name(out: &mut Vec<u8>, size: Size, turn: Turn) -> Result<(), NoMemory> {
+fn put_turn_name(out: &mut Vec<u8>, size: Size, turn: Turn) -> Result<(), ShowFault> {
     match turn {
         Turn::Play(point) => {
             if size.holds(point) {
-                put_point(out, size, usize::from(point.number()), PointForm::Editor)?;
+                put_point(out, size, point, PointForm::Editor)?;
             }
             Ok(())
         }
@@ -183,7 +164,7 @@ fn put_turn_name(out: &mut Vec<u8>, size: Size, turn: Turn) -> Result<(), NoMemo
 }
 
 /// The answer that stands behind a problem, line by line; none where a tree may follow.
-pub fn read_answers(alloc: Global, problem: &Line, behind: &[u8]) -> Result<Answers, NoMemory> {
+pub fn read_answers(alloc: Global, problem: &Line, behind: &[u8]) -> Result<Answers, ShowFault> {
     let mut found = Answers {
         strategies: Vec::new(alloc),
         first_turns: Vec::new(alloc),
@@ -193,14 +174,9 @@ pub fn read_answers(alloc: Global, problem: &Line, behind: &[u8]) -> Result<Answ
     if has_tree(behind) {
         return Ok(found);
     }
-    let mut start = 0;
-    for end in 0..behind.len() {
-        if behind[end] == b'\n' {
-            found.add_line(alloc, problem, trim(&behind[start..end]))?;
-            start = end + 1;
-        }
+    for line in behind.split(|byte| *byte == b'\n') {
+        found.add_line(alloc, problem, trim(line))?;
     }
-    found.add_line(alloc, problem, trim(&behind[start..]))?;
     found.is_text = !trim(behind).is_empty();
     Ok(found)
 }
@@ -211,7 +187,7 @@ fn put_main_line(
     out: &mut Vec<u8>,
     line: &Line,
     tree: &Tree,
-) -> Result<(), NoMemory> {
+) -> Result<(), ShowFault> {
     let turns = main_line(alloc, line, tree)?;
     if !turns.is_empty() {
         out.extend_from_slice(b"Main line:")?;
@@ -229,14 +205,13 @@ fn put_main_line(
     Ok(())
 }
 
-/// Writes the lines on what stands behind a problem behind the text: the answer in words, and the main line of each strategy. `NoMemory`
-/// where memory was refused; a part may stand there then.
+/// Writes the lines on what stands behind a problem behind the text: the answer in words, and the main line of each strategy.
 pub fn put_answer_lines(
     alloc: Global,
     out: &mut Vec<u8>,
     line: &Line,
     behind: &[u8],
-) -> Result<(), NoMemory> {
+) -> Result<(), ShowFault> {
     let found = read_answers(alloc, line, behind)?;
     if found.is_vain() {
         return put_no_certificate(alloc, out, behind, line.frame().size);

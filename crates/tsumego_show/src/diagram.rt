@@ -6,14 +6,14 @@ use crate::answers::read_answers;
 use crate::endings::{has_ended, put_ending};
 use crate::main_lines::{main_line, make_turns};
 use crate::picture::{editor_column_letter, point_of_coordinates, side_colour, unmarked_frame};
+use crate::shown::ShowFault;
 use crate::windows::{Window, window_of};
-use crate::writing::written;
 use std::alloc::Global;
 use std::io::Write;
 use tt_board::{Board, Colour};
 use tt_game::{Frame, Line, Turn};
 use tt_proof::Tree;
-use tt_sgf::{NoMemory, Point, PointSet, Size};
+use tt_sgf::{Point, PointSet, Size};
 
 /// The most plays that are numbered on one board.
 const MOST_NUMBERS: usize = 9;
@@ -31,24 +31,16 @@ struct Numbers<'a> {
     mover: Colour,
 }
 
-/// Whether the region is drawn: it isn't the whole board.
-fn has_squares(frame: &Frame) -> bool {
-    usize::from(frame.region.count()) != frame.size.point_count()
-}
-
 /// The number of the play on a point, and who makes it.
 fn number_on(numbers: Numbers, point: Point) -> Option<(usize, Colour)> {
-    for i in 0..numbers.plays.len() {
-        if numbers.plays[i] == Turn::Play(point) {
-            let colour = if i % 2 == 0 {
-                numbers.mover
-            } else {
-                numbers.mover.other()
-            };
-            return Some((numbers.first.saturating_add(i), colour));
-        }
-    }
-    None
+    let play = Turn::Play(point);
+    let i = numbers.plays.iter().position(|turn| *turn == play)?;
+    let colour = if i % 2 == 0 {
+        numbers.mover
+    } else {
+        numbers.mover.other()
+    };
+    Some((numbers.first.saturating_add(i), colour))
 }
 
 /// Writes a stone of this colour, where there is one, and a triangle or a square on it behind the text.
@@ -57,23 +49,23 @@ fn put_marked_point(
     colour: Option<Colour>,
     is_target: bool,
     is_square: bool,
-) -> Result<(), NoMemory> {
+) -> Result<(), ShowFault> {
     if let Some(stone) = colour {
         let fill = fill_colour(stone);
-        written(write!(out, "<circle r='11' stroke='black' fill='{fill}'/>"))?;
+        write!(out, "<circle r='11' stroke='black' fill='{fill}'/>")?;
     }
     let stroke = fill_colour(colour.unwrap_or(Colour::White).other());
     if is_target {
-        written(write!(
+        write!(
             out,
             "<path d='M0 -7l6 11h-12z' stroke-width='1.5' fill='none' stroke='{stroke}'/>"
-        ))?;
+        )?;
     } else if is_square {
         let fill = if colour.is_none() { "white" } else { "none" };
-        written(write!(
+        write!(
             out,
             "<rect x='-4' y='-4' width='8' height='8' fill='{fill}' stroke='{stroke}'/>"
-        ))?;
+        )?;
     }
     Ok(())
 }
@@ -85,20 +77,21 @@ fn put_point(
     board: &Board,
     numbers: Numbers,
     point: Point,
-) -> Result<(), NoMemory>
+) -> Result<(), ShowFault>
     requires { point < point_count board.now.size }
 {
-    let has_square = numbers.plays.is_empty() && has_squares(frame) && frame.region.has(point);
+    let is_whole_board = usize::from(frame.region.count()) == frame.size.point_count();
+    let has_square = numbers.plays.is_empty() && !is_whole_board && frame.region.has(point);
     put_marked_point(out, board.at(point), frame.targets.has(point), has_square)?;
     let Some((number, colour)) = number_on(numbers, point) else {
         return Ok(());
     };
     put_marked_point(out, Some(colour), false, false)?;
     let fill = fill_colour(colour.other());
-    written(write!(
+    Ok(write!(
         out,
         "<text y='5' font-size='14' fill='{fill}'>{number}</text>"
-    ))
+    )?)
 }
 
 /// The word for a colour.
@@ -116,44 +109,44 @@ fn overhang(goes_on: bool) -> usize
     if goes_on { 12 } else { 0 }
 }
 
-/// How many lines lie from one on, in front of another.
-fn span(from: u16, end: u16) -> usize
-    ensures { result ≤ 65535 }
+/// Where a line lies in a picture that begins with another: 24 a cell, behind a margin of 36.
+fn place(first: u16, at: u16) -> usize
+    ensures { (36 ≤ result) × (result ≤ 1600000) }
 {
-    usize::from(end.saturating_sub(from))
+    24 * usize::from(at.saturating_sub(first)) + 36
 }
 
 /// Writes the lines and letters of the columns behind the text.
-fn put_columns(out: &mut Vec<u8>, size: Size, w: Window) -> Result<(), NoMemory>
+fn put_columns(out: &mut Vec<u8>, size: Size, w: Window) -> Result<(), ShowFault>
     requires { w.right ≤ size.columns }
 {
     let top = 36 - overhang(0 < w.top);
-    let bottom = 24 * span(w.top, w.bottom) + 12 + overhang(w.bottom < size.rows());
+    let bottom = place(w.top, w.bottom) - 24 + overhang(w.bottom < size.rows());
     for column in w.left..w.right {
-        let x = 24 * span(w.left, column) + 36;
+        let x = place(w.left, column);
         let letter = char::from(editor_column_letter(column));
-        written(writeln!(
+        writeln!(
             out,
             "<path d='M{x} {top}V{bottom}' stroke='black'/>\n<text x='{x}' y='17'>{letter}</text>"
-        ))?;
+        )?;
     }
     Ok(())
 }
 
 /// Writes the lines and numbers of the rows behind the text.
-fn put_rows(out: &mut Vec<u8>, size: Size, w: Window) -> Result<(), NoMemory>
+fn put_rows(out: &mut Vec<u8>, size: Size, w: Window) -> Result<(), ShowFault>
     requires { w.bottom ≤ size.rows }
 {
     let left = 36 - overhang(0 < w.left);
-    let right = 24 * span(w.left, w.right) + 12 + overhang(w.right < size.columns());
+    let right = place(w.left, w.right) - 24 + overhang(w.right < size.columns());
     for row in w.top..w.bottom {
-        let y = 24 * span(w.top, row) + 36;
+        let y = place(w.top, row);
         let below = y + 4;
         let number = size.rows() - row;
-        written(writeln!(
+        writeln!(
             out,
             "<path d='M{left} {y}H{right}' stroke='black'/>\n<text x='12' y='{below}'>{number}</text>"
-        ))?;
+        )?;
     }
     Ok(())
 }
@@ -165,28 +158,21 @@ fn put_points(
     board: &Board,
     numbers: Numbers,
     w: Window,
-) -> Result<(), NoMemory>
+) -> Result<(), ShowFault>
     requires { (w.right ≤ board.now.size.columns) × (w.bottom ≤ board.now.size.rows) }
 {
     let size = board.size();
     for row in w.top..w.bottom {
         for column in w.left..w.right {
-            let x = 24 * span(w.left, column) + 36;
-            let y = 24 * span(w.top, row) + 36;
-            written(write!(out, "<g transform='translate({x} {y})'>"))?;
+            let x = place(w.left, column);
+            let y = place(w.top, row);
+            write!(out, "<g transform='translate({x} {y})'>")?;
             let point = point_of_coordinates(size, column, row);
             put_point(out, frame, board, numbers, point)?;
             out.extend_from_slice(b"</g>\n")?;
         }
     }
     Ok(())
-}
-
-/// How high a board is drawn.
-fn board_height(w: Window) -> usize
-    ensures { result ≤ 1600000 }
-{
-    24 * span(w.top, w.bottom) + 36
 }
 
 /// Writes a board with numbers, below so many others, behind the text.
@@ -196,10 +182,10 @@ fn put_numbered_board(
     board: &Board,
     numbers: Numbers,
     above: usize,
-) -> Result<(), NoMemory> {
+) -> Result<(), ShowFault> {
     let w = window_of(frame, board.size());
-    let y = board_height(w).saturating_mul(above);
-    written(writeln!(out, "<g transform='translate(0 {y})'>"))?;
+    let y = place(w.top, w.bottom).saturating_mul(above);
+    writeln!(out, "<g transform='translate(0 {y})'>")?;
     put_columns(out, board.size(), w)?;
     put_rows(out, board.size(), w)?;
     put_points(out, frame, board, numbers, w)?;
@@ -207,7 +193,7 @@ fn put_numbered_board(
 }
 
 /// Writes a board without numbers behind the text.
-fn put_bare_board(out: &mut Vec<u8>, frame: &Frame, board: &Board) -> Result<(), NoMemory> {
+fn put_bare_board(out: &mut Vec<u8>, frame: &Frame, board: &Board) -> Result<(), ShowFault> {
     let numbers = Numbers {
         plays: &[],
         first: 1,
@@ -218,43 +204,31 @@ fn put_bare_board(out: &mut Vec<u8>, frame: &Frame, board: &Board) -> Result<(),
 
 /// How many lines words have, and how many bytes the longest.
 fn extent(words: &[u8]) -> (usize, usize) {
-    let mut lines: usize = 1;
-    let mut length: usize = 0;
+    let mut lines: usize = 0;
     let mut longest = 0;
-    for byte in words {
-        if *byte == b'\n' {
-            lines = lines.saturating_add(1);
-            length = 0;
-        } else {
-            length = length.saturating_add(1);
-            longest = length.max(longest);
-        }
+    for line in words.split(|byte| *byte == b'\n') {
+        lines = lines.saturating_add(1);
+        longest = line.len().max(longest);
     }
     (lines, longest)
 }
 
-/// Writes the beginning of a line of words behind the text.
-fn put_line_start(out: &mut Vec<u8>, y: usize) -> Result<(), NoMemory> {
-    written(write!(out, "<text x='12' y='{y}' text-anchor='start'>"))
-}
-
 /// Writes lines of words behind the text, the first one at y.
-fn put_words(out: &mut Vec<u8>, words: &[u8], y: usize) -> Result<(), NoMemory> {
-    let mut below = y;
-    put_line_start(out, below)?;
-    for byte in words {
-        match *byte {
-            b'\n' => {
-                out.extend_from_slice(b"</text>\n")?;
-                below = below.saturating_add(LINE_HEIGHT);
-                put_line_start(out, below)?;
+fn put_words(out: &mut Vec<u8>, words: &[u8], y: usize) -> Result<(), ShowFault> {
+    let mut y = y;
+    for line in words.split(|byte| *byte == b'\n') {
+        write!(out, "<text x='12' y='{y}' text-anchor='start'>")?;
+        for byte in line {
+            match *byte {
+                b'<' => out.extend_from_slice(b"&lt;")?,
+                b'&' => out.extend_from_slice(b"&amp;")?,
+                other => out.push(other)?,
             }
-            b'<' => out.extend_from_slice(b"&lt;")?,
-            b'&' => out.extend_from_slice(b"&amp;")?,
-            other => out.push(other)?,
         }
+        out.extend_from_slice(b"</text>\n")?;
+        y = y.saturating_add(LINE_HEIGHT);
     }
-    Ok(out.extend_from_slice(b"</text>\n")?)
+    Ok(())
 }
 
 /// Writes an SVG document of so many boards of a frame, which are written already, with words below, behind the text.
@@ -264,19 +238,21 @@ fn put_document(
     boards: &[u8],
     count: usize,
     words: &[u8],
-) -> Result<(), NoMemory> {
+) -> Result<(), ShowFault> {
     let w = window_of(frame, frame.size);
     let (lines, longest) = extent(words);
     let width = longest
         .saturating_mul(LETTER_WIDTH)
         .saturating_add(24)
-        .max(24 * span(w.left, w.right) + 36);
-    let y = board_height(w).saturating_mul(count).saturating_add(12);
+        .max(place(w.left, w.right));
+    let y = place(w.top, w.bottom)
+        .saturating_mul(count)
+        .saturating_add(12);
     let height = lines.saturating_mul(LINE_HEIGHT).saturating_add(y);
-    written(writeln!(
+    writeln!(
         out,
         "<svg xmlns='http://www.w3.org/2000/svg' width='{width}' height='{height}' font-family='sans-serif' font-size='11' text-anchor='middle'>\n<rect width='{width}' height='{height}' fill='white'/>"
-    ))?;
+    )?;
     out.extend_from_slice(boards)?;
     put_words(out, words, y)?;
     Ok(out.extend_from_slice(b"</svg>\n")?)
@@ -308,7 +284,7 @@ fn put_main_line(
     words: &mut Vec<u8>,
     line: &Line,
     tree: &Tree,
-) -> Result<usize, NoMemory> {
+) -> Result<usize, ShowFault> {
     let turns = main_line(alloc, line, tree)?;
     let mut at = line.try_clone()?;
     let mut first: usize = 1;
@@ -344,7 +320,7 @@ pub fn put_unmarked_svg(
     out: &mut Vec<u8>,
     board: &Board,
     words: &[u8],
-) -> Result<(), NoMemory> {
+) -> Result<(), ShowFault> {
     let frame = unmarked_frame(board.size());
     let mut drawn = Vec::new(alloc);
     put_bare_board(&mut drawn, &frame, board)?;
@@ -354,13 +330,13 @@ pub fn put_unmarked_svg(
 /// Writes the diagram of the problem at a line, and of the strategy that stands behind it, as SVG behind the text: what matters of the
 /// board, with the coordinates of editors, the targets marked, and the region or the plays of the main line up to a pass, as stones with
 /// numbers; a new board stands below after nine plays, and where the next one is on a point that had a stone or a number; below them who
-/// moves, who wins, where that is said, and how the line ends. `NoMemory` where memory was refused; a part may stand there then.
+/// moves, who wins, where that is said, and how the line ends.
 pub fn put_svg(
     alloc: Global,
     out: &mut Vec<u8>,
     line: &Line,
     behind: &[u8],
-) -> Result<(), NoMemory> {
+) -> Result<(), ShowFault> {
     let found = read_answers(alloc, line, behind)?;
     let frame = line.frame();
     let mut words = Vec::new(alloc);

@@ -1,12 +1,11 @@
 //! Hints on what is likely wrong in a problem.
 
 use crate::points::{point_numbered, put_points_line_if_any};
-use crate::writing::written;
+use crate::shown::ShowFault;
 use std::io::Write;
-use tt_board::{Board, Colour};
 use tt_game::{Line, has_move, has_value, sets_up};
-use tt_marks::{adjacent_points, chains, empties, stones_in_danger, stones_of_colour};
-use tt_sgf::{NoMemory, Node, Point, PointSet};
+use tt_marks::{chains, empties, points_beside, stones_in_danger, stones_of_colour};
+use tt_sgf::{Node, PointSet};
 
 /// The most points of a board that may well be a region as a whole.
 const MOST_SMALL_BOARD_POINTS: usize = 10;
@@ -24,7 +23,7 @@ fn empties_around_region(line: &Line) -> PointSet {
     let inside = frame.region.and(&all_empties).or(&its_chains);
     all_empties
         .minus(&frame.region)
-        .and(&adjacent_points(frame.size, &inside))
+        .and(&points_beside(frame.size, &inside))
 }
 
 /// The attacker's stones outside the region, whose chains have all their liberties in it.
@@ -33,63 +32,40 @@ fn capturable_attackers(line: &Line) -> PointSet {
     stones_in_danger(line.present(), frame.defender.other(), &frame.region).minus(&frame.region)
 }
 
-/// These stones of a colour, with the chain of a stone where it has two liberties in common with them: then no play cuts it off.
-fn with_chain_if_joined(
-    board: &Board,
-    colour: Colour,
-    stones: &PointSet,
-    stone: Point,
-) -> PointSet {
-    let size = board.size();
-    let chain = chains(board, colour, &PointSet::empty().with(stone));
-    let liberties = empties(board).and(&adjacent_points(size, stones));
-    if 1 < liberties.and(&adjacent_points(size, &chain)).count() {
-        return stones.or(&chain);
-    }
-    stones.copy()
-}
-
-/// These stones of a colour, with the chains among others that no play cuts off from them.
-fn with_joined_chains(
-    board: &Board,
-    colour: Colour,
-    stones: PointSet,
-    others: &PointSet,
-) -> PointSet {
-    let size = board.size();
-    let mut joined = stones;
-    for _time in 0..MOST_JOINED {
-        let mut more = joined.copy();
-        for number in 0..size.point_count() {
-            let stone = point_numbered(size, number);
-            if others.has(stone) && !more.has(stone) {
-                more = with_chain_if_joined(board, colour, &more, stone);
-            }
-        }
-        if more.same(&joined) {
-            return joined;
-        }
-        joined = more;
-    }
-    joined
-}
-
-/// The defender's stones in or beside the region that a play may cut off from the targets.
+/// The defender's stones in or beside the region that a play may cut off from the targets: their chains haven't two liberties in common
+/// with those of the targets, or with chains that hang together with these.
 fn other_defender_stones(line: &Line) -> PointSet {
     let frame = line.frame();
     let board = line.present();
-    let near = frame.region.or(&adjacent_points(frame.size, &frame.region));
+    let size = frame.size;
+    let near = frame.region.or(&points_beside(size, &frame.region));
     let others = stones_of_colour(board, frame.defender).and(&near);
-    let own = chains(board, frame.defender, &frame.targets);
-    others.minus(&with_joined_chains(board, frame.defender, own, &others))
+    let mut joined = chains(board, frame.defender, &frame.targets);
+    for _time in 0..MOST_JOINED {
+        let before = joined.copy();
+        for number in 0..size.point_count() {
+            let stone = point_numbered(size, number);
+            if !others.has(stone) || joined.has(stone) {
+                continue;
+            }
+            let chain = chains(board, frame.defender, &PointSet::empty().with(stone));
+            let liberties = empties(board).and(&points_beside(size, &joined));
+            if 1 < liberties.and(&points_beside(size, &chain)).count() {
+                joined = joined.or(&chain);
+            }
+        }
+        if joined.same(&before) {
+            break;
+        }
+    }
+    others.minus(&joined)
 }
 
 /// Writes the hints on the problem at a line behind the text: the empty points outside the region that are beside an empty
 /// point of it, or beside a chain of the defender that has a target or a stone in it; the attacker's stones outside the region
 /// whose chains have all their liberties in it; the defender's stones in or beside the region that a play may cut off from the targets;
 /// and that the region is all of a board of more than 10 points.
-/// `NoMemory` where memory was refused; a part may stand there then.
-pub fn put_hints(out: &mut Vec<u8>, line: &Line) -> Result<(), NoMemory> {
+pub fn put_hints(out: &mut Vec<u8>, line: &Line) -> Result<(), ShowFault> {
     let size = line.frame().size;
     put_points_line_if_any(
         out,
@@ -133,9 +109,8 @@ fn is_side_to_move_given(nodes: &[Node]) -> bool {
     said
 }
 
-/// Writes the line on a main line in which nobody says who moves behind the text. `NoMemory` where memory was refused; a part may
-/// stand there then.
-pub fn put_missing_mover_line(out: &mut Vec<u8>, nodes: &[Node]) -> Result<(), NoMemory> {
+/// Writes the line on a main line in which nobody says who moves behind the text.
+pub fn put_missing_mover_line(out: &mut Vec<u8>, nodes: &[Node]) -> Result<(), ShowFault> {
     if !is_side_to_move_given(nodes) {
         out.extend_from_slice(b"hint: the setup has no PL, so Black is to move\n")?;
     }
@@ -157,40 +132,28 @@ fn is_opener_unclosed(opener: &[u8], value: &[u8]) -> bool {
 
 /// Whether such bytes stand in a comment of these nodes.
 fn is_some_comment_unclosed(nodes: &[Node], opener: &[u8]) -> bool {
-    for node in nodes {
-        for property in node.props.as_slice() {
-            if property.ident.as_slice() == b"C".as_slice() {
-                for value in property.values.as_slice() {
-                    if is_opener_unclosed(opener, value.as_slice()) {
-                        return true;
-                    }
-                }
-            }
-        }
-    }
-    false
-}
-
-/// Writes the line on such a comment of these nodes, with what it holds in words, behind the text.
-fn put_unclosed_comment_line(
-    out: &mut Vec<u8>,
-    nodes: &[Node],
-    opener: &str,
-    words: &str,
-) -> Result<(), NoMemory> {
-    if is_some_comment_unclosed(nodes, opener.as_bytes()) {
-        return written(writeln!(out, "hint: a comment holds {words}: is its ] missing?"));
-    }
-    Ok(())
+    nodes.iter().any(|node| {
+        node.props.as_slice().iter().any(|property| {
+            property.ident.as_slice() == b"C".as_slice()
+                && property
+                    .values
+                    .as_slice()
+                    .iter()
+                    .any(|value| is_opener_unclosed(opener, value.as_slice()))
+        })
+    })
 }
 
 /// Writes a line for each property and for the tree that a comment of a main line seems to have swallowed, since its `]` is missing,
-/// behind the text. No line has a `(`, at which a reader would begin. `NoMemory` where memory was refused; a part may stand there then.
-pub fn put_unclosed_comment_lines(out: &mut Vec<u8>, nodes: &[Node]) -> Result<(), NoMemory> {
+/// behind the text. No line has a `(`, at which a reader would begin.
+pub fn put_unclosed_comment_lines(out: &mut Vec<u8>, nodes: &[Node]) -> Result<(), ShowFault> {
     for opener in &[
-        "PL[", "TR[", "SQ[", "AB[", "AW[", "SZ[", "GN[", "GM[", "KM[",
+        "PL[", "TR[", "SQ[", "AB[", "AW[", "SZ[", "GN[", "GM[", "KM[", "(;",
     ] {
-        put_unclosed_comment_line(out, nodes, opener, opener)?;
+        if is_some_comment_unclosed(nodes, opener.as_bytes()) {
+            let words = if *opener == "(;" { "a tree" } else { *opener };
+            writeln!(out, "hint: a comment holds {words}: is its ] missing?")?;
+        }
     }
-    put_unclosed_comment_line(out, nodes, "(;", "a tree")
+    Ok(())
 }

@@ -13,7 +13,7 @@
 //! | `diagram`, `windows` | the diagram (SVG), and the points it shows |
 //! | `marking`, `unmarked` | `--mark`: the tree with marks, and with stones that close the wall; why a tree has none, and how its wall may be closed |
 //! | `reading_back` | sees that the game trees which are written read as the problems that are meant |
-//! | `tree_bytes`, `points`, `writing` | the bytes of a tree, points by number, writing to memory |
+//! | `tree_bytes`, `points` | the bytes of a tree, points by number |
 //! | `laws` | an input has one status, unless marks are wanted |
 #![tactic(auto)]
 
@@ -39,15 +39,13 @@ mod tree_bytes;
 mod unmarked;
 mod variations;
 mod windows;
-mod writing;
 
 use arguments::{Told, asked_by_words};
-use devices::{RunFault, Watched, read_input};
+use devices::Watched;
 use mode::{Asked, Mode};
-use running::{MOST_READ, run, write_text_for_input};
-use std::alloc::AllocError;
+use running::{MOST_READ, run};
 use std::fs::File;
-use std::io::{IsTerminal, Write};
+use std::io::{IsTerminal, Read, Write};
 use std::process::ExitCode;
 use std::{env, io};
 
@@ -67,18 +65,11 @@ fn command_line_words(rt: &HostRuntime) -> Option<Vec<String>> {
 
 /// Says what is said in place of a text, and answers the status: help and version on standard output.
 fn tell(rt: &HostRuntime, told: &Told) -> u8 {
+    let text = told.text.as_str();
     if told.status == 0 {
-        return if rt.print(told.text.as_str()).is_ok() {
-            0
-        } else {
-            2
-        };
+        return if rt.print(text).is_ok() { 0 } else { 2 };
     }
-    let _ = if told.text.is_empty() {
-        rt.eprintln("")
-    } else {
-        rt.eprint(told.text.as_str())
-    };
+    let _ = rt.eprint(if text.is_empty() { "\n" } else { text });
     told.status
 }
 
@@ -93,18 +84,10 @@ fn tell_unread(rt: &HostRuntime, mode: Mode, file: &str, error: &io::Error) {
 }
 
 /// Reads a file, up to as many bytes as tell that it is too long, and adds its bytes.
-fn read_file(rt: &HostRuntime, file: &str, bytes: &mut Vec<u8>) -> Result<(), io::Error> {
-    let opened: File = File::open(rt, file)?;
-    let mut reader = Watched::new(opened);
-    let more = match read_input(rt.alloc(), &mut reader, MOST_READ) {
-        Ok(more) => more,
-        Err(RunFault::Memory) => return Err(io::Error::from(io::ErrorKind::OutOfMemory)),
-        Err(_) => return Err(io::Error::from(io::ErrorKind::Other)),
-    };
-    match bytes.extend_from_slice(more.as_slice()) {
-        Ok(()) => Ok(()),
-        Err(AllocError) => Err(io::Error::from(io::ErrorKind::OutOfMemory)),
-    }
+fn read_file(rt: &HostRuntime, file: &str, bytes: &mut Vec<u8>) -> io::Result<usize> {
+    File::open(rt, file)?
+        .take(MOST_READ as u64)
+        .read_to_end(bytes)
 }
 
 /// The bytes of the files, one behind the other; none where one wasn't read, which is said.
@@ -119,16 +102,15 @@ fn bytes_of_files(rt: &HostRuntime, asked: &Asked) -> Option<Vec<u8>> {
     Some(bytes)
 }
 
-/// Says what is to be said besides a text, or why there is none, and answers the status.
-fn end(rt: &HostRuntime, ran: Result<u8, RunFault>, said: &[u8]) -> u8 {
-    match ran {
+/// Writes what is asked for of an input on standard output, and what else is to be said on standard error. Answers the status.
+fn show_input<R: Read + Drop>(rt: &HostRuntime, mode: Mode, input: R) -> u8 {
+    let mut reader = Watched::new(input);
+    let mut writer = Watched::new(rt.stdout());
+    let mut said = Vec::new(rt.alloc());
+    match run(rt.alloc(), mode, &mut reader, &mut writer, &mut said) {
         Ok(status) => {
-            let _ = rt.stderr().write_all(said);
+            let _ = rt.stderr().write_all(said.as_slice());
             status
-        }
-        Err(RunFault::Memory) if !said.is_empty() => {
-            let _ = rt.stderr().write_all(said);
-            2
         }
         Err(fault) => {
             let _ = eprintln!(rt; "tsumego-show: {fault}");
@@ -137,41 +119,27 @@ fn end(rt: &HostRuntime, ran: Result<u8, RunFault>, said: &[u8]) -> u8 {
     }
 }
 
-/// Writes what is asked for on standard output, and what else is to be said on standard error. Answers the status.
+/// Shows the files, or standard input where none is asked for. Answers the status.
 fn show_asked(rt: &HostRuntime, asked: &Asked) -> u8 {
-    let mut writer = Watched::new(rt.stdout());
-    let mut said = Vec::new(rt.alloc());
-    if !asked.files.is_empty() {
-        let Some(bytes) = bytes_of_files(rt, asked) else {
-            return 2;
-        };
-        let ran = write_text_for_input(
-            rt.alloc(),
-            asked.mode,
-            bytes.as_slice(),
-            &mut writer,
-            &mut said,
-        );
-        return end(rt, ran, said.as_slice());
+    if asked.files.is_empty() {
+        if rt.stdin().is_terminal() {
+            let _ = rt.eprintln(READS_TERMINAL);
+        }
+        return show_input(rt, asked.mode, rt.stdin());
     }
-    if rt.stdin().is_terminal() {
-        let _ = rt.eprintln(READS_TERMINAL);
+    match bytes_of_files(rt, asked) {
+        Some(bytes) => show_input(rt, asked.mode, bytes.as_slice()),
+        None => 2,
     }
-    let mut reader = Watched::new(rt.stdin());
-    let ran = run(rt.alloc(), asked.mode, &mut reader, &mut writer, &mut said);
-    end(rt, ran, said.as_slice())
 }
 
 fn main(rt: HostRuntime) -> ExitCode {
-    let status = match command_line_words(&rt) {
-        Some(words) => match asked_by_words(rt.alloc(), words.as_slice()) {
-            Ok(asked) => show_asked(&rt, &asked),
-            Err(told) => tell(&rt, &told),
-        },
-        None => {
-            let _ = rt.eprintln("");
-            2
-        }
+    let Some(words) = command_line_words(&rt) else {
+        let _ = rt.eprintln("");
+        return ExitCode::from(2);
     };
-    ExitCode::from(status)
+    ExitCode::from(match asked_by_words(rt.alloc(), words.as_slice()) {
+        Ok(asked) => show_asked(&rt, &asked),
+        Err(told) => tell(&rt, &told),
+    })
 }

@@ -4,11 +4,12 @@ ghost use Rattle.tt_game.specs.Game.{IsLegal};
 
 use crate::depths::shown_depth;
 use crate::picture::side_colour;
+use crate::shown::ShowFault;
 use std::alloc::Global;
 use tt_board::Board;
 use tt_game::{Line, Turn};
 use tt_proof::{MOST_DEPTH, Tree};
-use tt_sgf::{NoMemory, Point, PointSet};
+use tt_sgf::{Point, PointSet};
 
 /// The most turns among which the next ones of a main line are looked for.
 const MOST_SEARCHED_TURNS: usize = 50_000;
@@ -26,7 +27,7 @@ pub fn is_legal(line: &Line, turn: &Turn) -> bool
 }
 
 /// Makes these turns, up to one that isn't legal.
-pub fn make_turns(line: &mut Line, turns: &[Turn]) -> Result<(), NoMemory> {
+pub fn make_turns(line: &mut Line, turns: &[Turn]) -> Result<(), ShowFault> {
     for turn in turns {
         if !is_legal(line, turn) {
             return Ok(());
@@ -77,22 +78,12 @@ fn weakness(line: &Line, turns: &[Turn]) -> usize {
     }
 }
 
-/// Whether no stone stood on a point so far.
-fn is_fresh(line: &Line, point: Point) -> bool {
-    for board in line.history() {
-        if has_stone(board, point) {
-            return false;
-        }
-    }
-    true
-}
-
 /// On how many points these turns are played where no stone stood so far.
 fn fresh_point_count(line: &Line, turns: &[Turn]) -> u16 {
     let mut points = PointSet::empty();
     for turn in turns {
         if let Turn::Play(point) = *turn {
-            if is_fresh(line, point) {
+            if !line.history().iter().any(|board| has_stone(board, point)) {
                 points = points.with(point);
             }
         }
@@ -113,22 +104,6 @@ fn is_better(line: &Line, one: &[Turn], other: &[Turn]) -> bool {
     one.len() < other.len()
 }
 
-/// A turn that was made, and the main line behind it.
-#[cycle(resist)]
-fn made_turn_and_rest(
-    alloc: Global,
-    turn: Turn,
-    behind: &Tree,
-    line: &mut Line,
-    left: usize,
-) -> Result<Vec<Turn>, NoMemory>
-    ensures { line.new ≡ line.old }
-{
-    let mut turns = best(alloc, behind, line, left)?;
-    turns.insert(0, turn)?;
-    Ok(turns)
-}
-
 /// A turn and the main line behind it, where it is legal.
 #[cycle(resist)]
 fn turn_and_rest(
@@ -137,16 +112,18 @@ fn turn_and_rest(
     behind: &Tree,
     line: &mut Line,
     left: usize,
-) -> Result<Vec<Turn>, NoMemory>
+) -> Result<Vec<Turn>, ShowFault>
     ensures { line.new ≡ line.old }
 {
     if !is_legal(line, turn) {
         return Ok(Vec::new(alloc));
     }
     line.push_legal(*turn)?;
-    let turns = made_turn_and_rest(alloc, *turn, behind, line, left);
+    let rest = best(alloc, behind, line, left);
     line.pop();
-    turns
+    let mut turns = rest?;
+    turns.insert(0, *turn)?;
+    Ok(turns)
 }
 
 /// The best resistance among the turns of the other side, the first where they are alike.
@@ -156,7 +133,7 @@ fn best_reply(
     list: &[(Turn, Tree)],
     line: &mut Line,
     left: usize,
-) -> Result<Vec<Turn>, NoMemory>
+) -> Result<Vec<Turn>, ShowFault>
     ensures { line.new ≡ line.old }
 {
     let mut found = Vec::new(alloc);
@@ -171,7 +148,7 @@ fn best_reply(
 
 /// The main line behind a position, to so many turns.
 #[cycle(resist)]
-fn best(alloc: Global, tree: &Tree, line: &mut Line, left: usize) -> Result<Vec<Turn>, NoMemory>
+fn best(alloc: Global, tree: &Tree, line: &mut Line, left: usize) -> Result<Vec<Turn>, ShowFault>
     ensures { line.new ≡ line.old }
 {
     if left == 0 {
@@ -184,32 +161,19 @@ fn best(alloc: Global, tree: &Tree, line: &mut Line, left: usize) -> Result<Vec<
     }
 }
 
-/// The tree behind a turn of a list.
-fn tree_in_list(list: &[(Turn, Tree)], turn: Turn) -> Option<&Tree> {
-    for (other, behind) in list {
-        if *other == turn {
-            return Some(behind);
-        }
-    }
-    None
-}
-
 /// The tree behind a turn of a strategy.
 fn tree_behind(tree: &Tree, turn: Turn) -> Option<&Tree> {
     match tree {
-        Tree::Done => None,
-        Tree::Pick(own, child) => {
-            let behind: &Tree = child;
-            if *own == turn { Some(behind) } else { None }
-        }
-        Tree::Reply(list) => tree_in_list(list, turn),
+        Tree::Pick(own, child) if *own == turn => Some(child),
+        Tree::Reply(list) => Some(&list.iter().find(|entry| entry.0 == turn)?.1),
+        _ => None,
     }
 }
 
 /// The main line of a strategy. Where its other side moves, this is a play that isn't taken at once, or else a throw-in, a pass, a suicide;
 /// of several the one behind which most points are played that were empty so far, and the fewest turns. In a large strategy this is looked
 /// for not to the end, and then anew.
-pub fn main_line(alloc: Global, line: &Line, tree: &Tree) -> Result<Vec<Turn>, NoMemory> {
+pub fn main_line(alloc: Global, line: &Line, tree: &Tree) -> Result<Vec<Turn>, ShowFault> {
     let mut at = line.try_clone()?;
     let mut rest = tree;
     let mut turns = Vec::new(alloc);

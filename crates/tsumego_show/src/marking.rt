@@ -1,11 +1,10 @@
 //! Writes problems with the marks that are proposed for them.
-ghost use Rattle.std.specs.Prelude.{◌≡◌, ◌<◌, IfOk, IfSome, Ok, Some, false, true};
-ghost use Rattle.std.specs.FinSet as set;
+ghost use Rattle.std.specs.Prelude.{◌≡◌, ◌<◌, IfOk, IfSome, Ok, false, true};
 ghost use Rattle.tt_sgf.specs.Sizes.{point_count};
 ghost use Rattle.tt_game.specs.Games.{GameState};
 ghost use Rattle.tt_game.specs.Problems.{game_of, posed_problem};
-ghost use Rattle.tt_marks.specs.Closings.{AreClosings, ClosesWall};
-ghost use Rattle.tsumego_show.specs.Written.{IsClosedText, IsEnclosedText, IsMarkOf, IsMarkedText, IsMeant, IsTextOf};
+ghost use Rattle.tt_marks.specs.Closings.{ClosesWall};
+ghost use Rattle.tsumego_show.specs.Written.{IsClosedText, IsMarkedText, IsMeant, IsTextOf, target};
 
 use crate::hints::{put_hints, put_missing_mover_line, put_unclosed_comment_lines};
 use crate::mode::WantedMarks;
@@ -19,67 +18,24 @@ use crate::unmarked::{
     put_wall_in_danger_line, put_ways, put_why_no_group_enclosed, put_why_unmarked_at_point,
 };
 use crate::variations::colour_letter;
-use crate::writing::written;
 use std::alloc::Global;
 use std::io::Write;
 use tt_board::{Board, Colour};
 use tt_game::{Game, GameFault, Line, game_before_solution, has_value, node_count_before_solution};
 use tt_marks::{Closing, board_with_stones, closings, group, is_inner, proposed_stone, region};
-use tt_sgf::{NoMemory, Node, Point, PointSet, Size};
+use tt_sgf::{Node, Point, PointSet, Size};
 
-/// A group that gets marks: one of its stones, its colour and the squares.
-#[derive(Drop)]
-struct MarkedGroup {
-    stone: Point,
+/// The first stones of the enclosed chains that are neither that of a stone of this colour nor in its squares.
+fn other_enclosed_chains(
+    board: &Board,
     colour: Colour,
-    squares: PointSet,
-}
-
-/// A group whose wall stones close: one of its stones, its colour, and the ways to close it, the best first.
-#[derive(Drop)]
-struct OpenGroup {
     stone: Point,
-    colour: Colour,
-    ways: Vec<Closing>,
-}
-
-/// The group of the stone on a point, where its region is closed.
-fn closed_group(board: &Board, stone: Point) -> Option<MarkedGroup>
+    squares: &PointSet,
+) -> PointSet
     requires { stone < point_count board.now.size }
-    ensures { IfSome result (λ m. (m.stone ≡ stone) × (m.stone < point_count board.now.size)
-        × IsMarkOf board.now.size board.now.points m.stone m.colour m.squares) }
-{
-    let colour = board.at(stone)?;
-    let found = region(board, colour, stone);
-    if !found.is_closed() {
-        return None;
-    }
-    Some(MarkedGroup {
-        stone,
-        colour,
-        squares: found.points,
-    })
-}
-
-/// The group of the stone on a point, where its region is closed and, where nobody named the stone, an inner one.
-fn enclosed_group(board: &Board, is_named: bool, stone: &Option<Point>) -> Option<MarkedGroup>
-    requires { IfSome stone.now (λ p. p < point_count board.now.size) }
-    ensures { IfSome result (λ m. (stone.now ≡ Some m.stone) × (m.stone < point_count board.now.size)
-        × IsMarkOf board.now.size board.now.points m.stone m.colour m.squares) }
-{
-    let marked = closed_group(board, (*stone)?)?;
-    if !is_named && !is_inner(board, &marked.squares) {
-        return None;
-    }
-    Some(marked)
-}
-
-/// The first stones of the enclosed chains that are neither that of a mark nor in its squares.
-fn other_enclosed_chains(board: &Board, marked: &MarkedGroup) -> PointSet
-    requires { marked.now.stone < point_count board.now.size }
 {
     let size = board.size();
-    let mut known = group(board, marked.colour, marked.stone).or(&marked.squares);
+    let mut known = group(board, colour, stone).or(squares);
     let mut made = PointSet::empty();
     for number in 0..size.point_count() {
         let point = point_numbered(size, number);
@@ -88,7 +44,8 @@ fn other_enclosed_chains(board: &Board, marked: &MarkedGroup) -> PointSet
         }
         if let Some(colour) = board.at(point) {
             known = known.or(&group(board, colour, point));
-            if enclosed_group(board, false, &Some(point)).is_some() {
+            let found = region(board, colour, point);
+            if found.is_closed() && is_inner(board, &found.points) {
                 made = made.with(point);
             }
         }
@@ -96,26 +53,17 @@ fn other_enclosed_chains(board: &Board, marked: &MarkedGroup) -> PointSet
     made
 }
 
-/// Writes the property of this name with the points of a set behind the text.
-fn put_points_property(
-    out: &mut Vec<u8>,
-    size: Size,
-    name: &str,
-    points: &PointSet,
-) -> Result<(), NoMemory> {
-    out.extend_from_slice(name.as_bytes())?;
-    put_points(out, size, points, PointForm::Value)
-}
-
 /// Writes TR and SQ of a problem behind the text.
-fn put_marks(out: &mut Vec<u8>, line: &Line) -> Result<(), NoMemory> {
+fn put_marks(out: &mut Vec<u8>, line: &Line) -> Result<(), ShowFault> {
     let frame = line.frame();
-    put_points_property(out, frame.size, "TR", &frame.targets)?;
-    put_points_property(out, frame.size, "SQ", &frame.region)
+    out.extend_from_slice(b"TR")?;
+    put_points(out, frame.size, &frame.targets, PointForm::Value)?;
+    out.extend_from_slice(b"SQ")?;
+    put_points(out, frame.size, &frame.region, PointForm::Value)
 }
 
 /// Writes a tree with the marks of a problem at the head of the node where it asks behind the text.
-fn put_tree_with_marks(out: &mut Vec<u8>, line: &Line, tree: &GivenTree) -> Result<(), NoMemory> {
+fn put_tree_with_marks(out: &mut Vec<u8>, line: &Line, tree: &GivenTree) -> Result<(), ShowFault> {
     let at = semicolon_end(tree.bytes, node_count_before_solution(tree.nodes()));
     out.extend_from_slice(&tree.bytes[..at])?;
     put_marks(out, line)?;
@@ -132,21 +80,19 @@ fn put_tree_with_stones(
     added: &PointSet,
     mover: Colour,
     tree: &GivenTree,
-) -> Result<(), NoMemory> {
+) -> Result<(), ShowFault> {
     let size = line.frame().size;
     let colour = line.frame().defender.other();
     let at = node_end(tree.bytes, node_count_before_solution(tree.nodes()));
     out.extend_from_slice(&tree.bytes[..at])?;
-    let name = match colour {
-        Colour::Black => ";AB",
-        Colour::White => ";AW",
-    };
-    put_points_property(out, size, name, added)?;
+    let letter = colour_letter(colour);
+    write!(out, ";A{letter}")?;
+    put_points(out, size, added, PointForm::Value)?;
     let letter = colour_letter(mover);
-    written(write!(out, "PL[{letter}]"))?;
+    write!(out, "PL[{letter}]")?;
     put_marks(out, line)?;
     let name = colour_name(colour);
-    written(write!(out, "C[{name} stones added to close the wall:"))?;
+    write!(out, "C[{name} stones added to close the wall:")?;
     put_points(out, size, added, PointForm::Editor)?;
     out.push(b']')?;
     out.extend_from_slice(&tree.bytes[at..])?;
@@ -160,62 +106,65 @@ fn nodes_before_solution(nodes: &[Node]) -> &[Node] {
 
 /// Whether a main line has triangles up to where it asks.
 fn has_triangles(nodes: &[Node]) -> bool {
-    for node in nodes_before_solution(nodes) {
-        if has_value(node.props.as_slice(), b"TR") {
-            return true;
-        }
-    }
-    false
+    nodes_before_solution(nodes)
+        .iter()
+        .any(|node| has_value(node.props.as_slice(), b"TR"))
 }
 
 /// Whether the node that is to get the marks has squares.
 fn is_last_problem_node_squared(nodes: &[Node]) -> bool {
-    match nodes_before_solution(nodes).last() {
-        Some(node) => has_value(node.props.as_slice(), b"SQ"),
-        None => false,
-    }
+    nodes_before_solution(nodes)
+        .last()
+        .is_some_and(|node| has_value(node.props.as_slice(), b"SQ"))
 }
 
-/// The game with a mark.
-#[tactic(auto, using(crate::proofs::Sets::one_counts, crate::proofs::Sets::one_lies))]
-fn problem_of_group(game: Game, marked: MarkedGroup) -> Result<Line, NoMemory>
-    requires { marked.stone < point_count game.size }
-    ensures { IfOk result (λ l. l ≡ posed_problem game marked.squares (set.insert set.empty marked.stone) marked.colour) }
-{
-    let targets = PointSet::empty().with(marked.stone);
-    game.into_problem(marked.squares, targets, marked.colour)
-}
-
-/// Writes that other groups of a board than that of a mark are enclosed too, where they are, behind the text.
+/// Writes that other groups of a board than that of a stone of this colour are enclosed too, where they are, behind the text.
 fn put_other_groups_hint(
     hints: &mut Vec<u8>,
     board: &Board,
-    marked: &MarkedGroup,
-) -> Result<(), NoMemory>
-    requires { marked.now.stone < point_count board.now.size }
+    colour: Colour,
+    stone: Point,
+    squares: &PointSet,
+) -> Result<(), ShowFault>
+    requires { stone < point_count board.now.size }
 {
     put_points_line_if_any(
         hints,
         board.size(),
         b"hint: other groups are enclosed too: name a stone of the one that is meant:",
-        &other_enclosed_chains(board, marked),
+        &other_enclosed_chains(board, colour, stone, squares),
     )
 }
 
-/// Writes the hints on a game with a mark, and its tree with the mark.
+/// The game with a triangle and squares for a group of this colour.
+#[tactic(auto, using(crate::proofs::Sets::one_counts, crate::proofs::Sets::one_lies))]
+fn marked_problem(
+    game: Game,
+    colour: Colour,
+    stone: Point,
+    squares: PointSet,
+) -> Result<Line, ShowFault>
+    requires { stone < point_count game.size }
+    ensures { IfOk result (λ l. l ≡ posed_problem game squares (target stone) colour) }
+{
+    Ok(game.into_problem(squares, PointSet::empty().with(stone), colour)?)
+}
+
+/// Writes the hints on a game with marks for a group of this colour, and its tree with the marks.
 fn put_enclosed_group(
     alloc: Global,
     out: &mut Vec<u8>,
     hints: &mut Vec<u8>,
     tree: &GivenTree,
     game: Game,
-    marked: MarkedGroup,
+    colour: Colour,
+    stone: Point,
+    squares: PointSet,
 ) -> Result<(), ShowFault>
-    requires on_board { marked.stone < point_count game.size }
-    requires mark { IsMarkOf game.size game.present marked.stone marked.colour marked.squares }
-    ensures { IfOk result (λ _. IsEnclosedText out.new.items game marked.stone) }
+    requires { stone < point_count game.size }
+    ensures { IfOk result (λ _. IsTextOf out.new.items (posed_problem game squares (target stone) colour)) }
 {
-    let line = problem_of_group(game, marked)?;
+    let line = marked_problem(game, colour, stone, squares)?;
     put_hints(hints, &line)?;
     put_tree_with_marks(out, &line, tree)?;
     check_problem(alloc, out.as_slice(), &line)
@@ -228,9 +177,9 @@ fn put_closing_hint(
     colour: Colour,
     best: &Closing,
     others: &[Closing],
-) -> Result<(), NoMemory> {
+) -> Result<(), ShowFault> {
     let name = colour_name(colour.other());
-    written(write!(hints, "hint: {name} stones added to close the wall:"))?;
+    write!(hints, "hint: {name} stones added to close the wall:")?;
     put_points(hints, board.size(), &best.stones, PointForm::Both)?;
     if others.is_empty() {
         return Ok(hints.push(b'\n')?);
@@ -239,93 +188,83 @@ fn put_closing_hint(
     put_ways(hints, board.size(), others, b",")
 }
 
-/// Writes a tree with these stones, which close the wall around a group, and the mark in a node of its own.
+/// Writes a tree with stones that close the wall around a group of this colour, and the marks in a node of its own.
 fn put_closed_group(
     alloc: Global,
     out: &mut Vec<u8>,
     tree: &GivenTree,
     game: Game,
-    marked: MarkedGroup,
-    added: &PointSet,
+    colour: Colour,
+    stone: Point,
+    closing: &Closing,
 ) -> Result<(), ShowFault>
-    requires on_board { marked.stone < point_count game.size }
-    requires closes { ClosesWall game.size game.present marked.colour marked.stone added.now marked.squares }
-    ensures { IfOk result (λ _. IsClosedText out.new.items game marked.stone) }
+    requires on_board { stone < point_count game.size }
+    requires closes { ClosesWall game.size game.present colour stone closing.now.stones closing.now.region }
+    ensures { IfOk result (λ _. IsClosedText out.new.items game stone) }
 {
-    let Some(board) = board_with_stones(game.present(), marked.colour.other(), added) else {
+    let added = &closing.stones;
+    let Some(board) = board_with_stones(game.present(), colour.other(), added) else {
         return Err(ShowFault::OtherProblem);
     };
     let mover = game.to_move();
-    let line = problem_of_group(game, marked)?;
+    let line = marked_problem(game, colour, stone, closing.region.copy())?;
     put_tree_with_stones(out, &line, added, mover, tree)?;
     check_setup(alloc, out.as_slice(), line.frame(), &board, line.to_move())
 }
 
-/// Writes the hint on how a wall is closed, and the tree with the best of its ways.
-fn put_open_group(
-    alloc: Global,
-    out: &mut Vec<u8>,
-    hints: &mut Vec<u8>,
-    tree: &GivenTree,
-    game: Game,
-    unclosed: &OpenGroup,
-) -> Result<(), ShowFault>
-    requires on_board { unclosed.now.stone < point_count game.size }
-    requires close { AreClosings game.size game.present unclosed.now.colour unclosed.now.stone unclosed.now.ways.items }
-    ensures { IfOk result (λ _. IsClosedText out.new.items game unclosed.now.stone) }
-{
-    let Some((best, others)) = unclosed.ways.as_slice().split_first() else {
-        return Err(ShowFault::OtherProblem);
-    };
-    put_closing_hint(hints, game.present(), unclosed.colour, best, others)?;
-    let marked = MarkedGroup {
-        stone: unclosed.stone,
-        colour: unclosed.colour,
-        squares: best.region.copy(),
-    };
-    put_closed_group(alloc, out, tree, game, marked, &best.stones)
-}
-
 /// The stone in a place where the board has it, or a stone of the group that seems to be meant.
-fn stone_meant(alloc: Global, board: &Board, wanted: WantedMarks) -> Result<Option<Point>, NoMemory>
+fn stone_meant(
+    alloc: Global,
+    board: &Board,
+    wanted: WantedMarks,
+) -> Result<Option<Point>, ShowFault>
     ensures on_board { IfOk result (λ found. IfSome found (λ p. p < point_count board.now.size)) }
     ensures meant { IfOk result (λ found. IfSome found (IsMeant board.now.size wanted.name)) }
 {
     match wanted.name {
         Some(name) => Ok(point_of_name(board.size(), name)),
-        None => proposed_stone(alloc, board),
+        None => Ok(proposed_stone(alloc, board)?),
     }
 }
 
-/// The group of the stone on a point, where stones that close its wall are wanted and were found.
-fn open_group(
+/// Writes a tree with the marks for the group of the stone on a point, where its region is closed and, where nobody named the stone, an
+/// inner one; or with the best stones that close its wall, where they are wanted and were found. Says whether it did.
+fn put_proposal(
     alloc: Global,
-    board: &Board,
+    out: &mut Vec<u8>,
+    hints: &mut Vec<u8>,
     wanted: WantedMarks,
-    stone: &Option<Point>,
-) -> Result<Option<OpenGroup>, NoMemory>
-    requires { IfSome stone.now (λ p. p < point_count board.now.size) }
-    ensures { IfOk result (λ found. IfSome found (λ o. (stone.now ≡ Some o.stone) × (wanted.closes ≡ true)
-        × (o.stone < point_count board.now.size) × AreClosings board.now.size board.now.points o.colour o.stone o.ways.items)) }
+    tree: &GivenTree,
+    game: Game,
+    stone: Point,
+) -> Result<bool, ShowFault>
+    requires on_board { stone < point_count game.size }
+    requires meant { IsMeant game.size wanted.name stone }
+    ensures { IfOk result (λ made. made ≡ true → IsMarkedText wanted out.new.items game) }
 {
-    if !wanted.closes {
-        return Ok(None);
-    }
-    let Some(stone) = *stone else {
-        return Ok(None);
-    };
+    let board = game.present();
     let Some(colour) = board.at(stone) else {
-        return Ok(None);
+        return Ok(false);
     };
-    let ways = closings(alloc, board, colour, stone)?;
-    if ways.is_empty() {
-        return Ok(None);
+    let found = region(board, colour, stone);
+    let is_named = wanted.name.is_some();
+    if found.is_closed() && (is_named || is_inner(board, &found.points)) {
+        if !is_named {
+            put_other_groups_hint(hints, board, colour, stone, &found.points)?;
+        }
+        put_enclosed_group(alloc, out, hints, tree, game, colour, stone, found.points)?;
+        return Ok(true);
     }
-    Ok(Some(OpenGroup {
-        stone,
-        colour,
-        ways,
-    }))
+    if !wanted.closes {
+        return Ok(false);
+    }
+    let ways = closings(alloc, board, colour, stone)?;
+    let Some((best, others)) = ways.as_slice().split_first() else {
+        return Ok(false);
+    };
+    put_closing_hint(hints, board, colour, best, others)?;
+    put_closed_group(alloc, out, tree, game, colour, stone, best)?;
+    Ok(true)
 }
 
 /// Writes that a tree has no marks, why for a stone, and the tree as it was.
@@ -336,26 +275,16 @@ fn put_reason(
     board: &Board,
     stone: &Option<Point>,
     is_named: bool,
-) -> Result<(), NoMemory>
+) -> Result<(), ShowFault>
     requires { IfSome stone.now (λ p. p < point_count board.now.size) }
 {
     put_refusal_line(&mut shown.said, tree.number, GameFault::NoTarget.code())?;
-    shown.said.extend_from_slice(b"why: ")?;
     if is_named {
         put_why_unmarked_at_point(alloc, &mut shown.said, board, stone)?;
     } else {
         put_why_no_group_enclosed(alloc, &mut shown.said, board, stone)?;
     }
     put_wall_in_danger_line(&mut shown.said, board, stone)?;
-    put_tree_as_given(&mut shown.text, tree)
-}
-
-/// Writes that a tree has squares already, and the tree as it was.
-fn put_squared(shown: &mut Shown, tree: &GivenTree) -> Result<(), NoMemory> {
-    put_refusal_line(&mut shown.said, tree.number, GameFault::NoTarget.code())?;
-    shown.said.extend_from_slice(
-        b"why: squares stand there already: put a triangle on a stone of the group, or take SQ out\n",
-    )?;
     put_tree_as_given(&mut shown.text, tree)
 }
 
@@ -372,24 +301,21 @@ fn put_proposal_or_reason(
     ensures { IfOk result (λ refused. refused ≡ false → IsMarkedText wanted shown.new.text.items game) }
 {
     if is_last_problem_node_squared(tree.nodes()) {
-        put_squared(shown, tree)?;
+        put_refusal_line(&mut shown.said, tree.number, GameFault::NoTarget.code())?;
+        shown.said.extend_from_slice(
+            b"squares stand there already: put a triangle on a stone of the group, or take SQ out\n",
+        )?;
+        put_tree_as_given(&mut shown.text, tree)?;
         return Ok(true);
     }
-    let is_named = wanted.name.is_some();
-    let board = game.present();
-    let stone = stone_meant(alloc, board, wanted)?;
-    if let Some(marked) = enclosed_group(board, is_named, &stone) {
-        if !is_named {
-            put_other_groups_hint(hints, board, &marked)?;
+    let board = game.present().copy();
+    let stone = stone_meant(alloc, &board, wanted)?;
+    if let Some(stone) = stone {
+        if put_proposal(alloc, &mut shown.text, hints, wanted, tree, game, stone)? {
+            return Ok(false);
         }
-        put_enclosed_group(alloc, &mut shown.text, hints, tree, game, marked)?;
-        return Ok(false);
     }
-    if let Some(unclosed) = open_group(alloc, board, wanted, &stone)? {
-        put_open_group(alloc, &mut shown.text, hints, tree, game, &unclosed)?;
-        return Ok(false);
-    }
-    put_reason(alloc, shown, tree, board, &stone, is_named)?;
+    put_reason(alloc, shown, tree, &board, &stone, wanted.name.is_some())?;
     Ok(true)
 }
 
@@ -399,9 +325,9 @@ fn put_hints_on_marks(
     number: usize,
     hints: &[u8],
     refused: bool,
-) -> Result<(), NoMemory> {
+) -> Result<(), ShowFault> {
     if !refused && !hints.is_empty() {
-        written(writeln!(said, "{number} marked"))?;
+        writeln!(said, "{number} marked")?;
     }
     Ok(said.extend_from_slice(hints)?)
 }
@@ -452,38 +378,42 @@ pub fn put_tree_marked_or_kept(
 }
 
 /// The number of the first node with triangles, counted from 1, where it has no squares.
-pub fn unsquared_triangle_node(nodes: &[Node]) -> Option<usize> {
+fn unsquared_triangle_node(nodes: &[Node]) -> Option<usize> {
     for i in 0..nodes.len() {
-        if has_value(nodes[i].props.as_slice(), b"TR") {
-            if has_value(nodes[i].props.as_slice(), b"SQ") {
-                return None;
-            }
-            return Some(i + 1);
+        let properties = nodes[i].props.as_slice();
+        if has_value(properties, b"TR") {
+            return if has_value(properties, b"SQ") {
+                None
+            } else {
+                Some(i + 1)
+            };
         }
     }
     None
 }
 
-/// Writes the line on the marks of a tree that is a problem, and the tree as it was.
+/// Writes the line on the marks of a tree that is a problem, and the tree as it was. Says whether its triangles have no squares.
 pub fn put_kept_problem(
     alloc: Global,
     shown: &mut Shown,
     tree: &GivenTree,
     line: &Line,
-) -> Result<(), ShowFault>
+) -> Result<bool, ShowFault>
     ensures { IfOk result (λ _. IsTextOf shown.new.text.items line.now) }
 {
     let number = tree.number;
-    match unsquared_triangle_node(tree.nodes()) {
-        Some(node) => written(writeln!(
+    let unsquared = unsquared_triangle_node(tree.nodes());
+    match unsquared {
+        Some(node) => writeln!(
             shown.said,
             "{number} not marked: a triangle stands in node {node}, without squares: put SQ there, or take TR out"
-        ))?,
-        None => written(writeln!(
+        )?,
+        None => writeln!(
             shown.said,
             "{number} keeps its marks: take TR and SQ out to have others proposed"
-        ))?,
+        )?,
     }
     put_tree_as_given(&mut shown.text, tree)?;
-    check_problem(alloc, shown.text.as_slice(), line)
+    check_problem(alloc, shown.text.as_slice(), line)?;
+    Ok(unsquared.is_some())
 }

@@ -2,11 +2,16 @@
 ghost use Rattle.std.specs.Prelude.{◌≡◌, ◌+◌, ◌*◌, ◌<◌};
 ghost use Rattle.tt_sgf.specs.Sizes.{point_count};
 
-use crate::writing::written;
+use crate::shown::ShowFault;
 use std::io::Write;
 use tt_board::{Board, Colour};
 use tt_game::{Frame, Line, Side};
-use tt_sgf::{NoMemory, Point, PointSet, Size};
+use tt_sgf::{Point, PointSet, Size};
+
+/// The letters of columns as SGF and as editors have them, who leave out I.
+const SGF_LETTERS: &[u8; 19] = b"abcdefghijklmnopqrs";
+
+const EDITOR_LETTERS: &[u8; 19] = b"ABCDEFGHJKLMNOPQRST";
 
 /// What is shown of a point.
 fn point_symbol(frame: &Frame, board: &Board, point: Point) -> u8
@@ -15,15 +20,9 @@ fn point_symbol(frame: &Frame, board: &Board, point: Point) -> u8
     let in_region = frame.region.has(point);
     let symbol = match board.at(point) {
         None => return if in_region { b'+' } else { b'.' },
-        Some(colour) => {
-            if frame.targets.has(point) {
-                b'T'
-            } else if colour == Colour::Black {
-                b'X'
-            } else {
-                b'O'
-            }
-        }
+        Some(_) if frame.targets.has(point) => b'T',
+        Some(Colour::Black) => b'X',
+        Some(Colour::White) => b'O',
     };
     if in_region {
         symbol.to_ascii_lowercase()
@@ -45,33 +44,25 @@ pub fn point_of_coordinates(size: Size, column: u16, row: u16) -> Point
     point
 }
 
-/// The letter of a column as editors have it, who leave out I.
+/// The letter of a column as editors have it.
 pub fn editor_column_letter(column: u16) -> u8
     requires { column < 19 }
 {
-    if column < 8 {
-        b'A' + column as u8
-    } else {
-        b'A' + column as u8 + 1
-    }
+    EDITOR_LETTERS[usize::from(column)]
 }
 
-/// Writes the line of the columns' letters, as editors or as SGF have them, behind the text.
-fn put_column_letters(out: &mut Vec<u8>, size: Size, for_editors: bool) -> Result<(), NoMemory> {
+/// Writes the line of the columns' letters behind the text.
+fn put_column_letters(out: &mut Vec<u8>, size: Size, letters: &[u8; 19]) -> Result<(), ShowFault> {
     out.push(b' ')?;
-    for column in 0..size.columns() {
+    for letter in letters.iter().take(usize::from(size.columns())) {
         out.push(b' ')?;
-        out.push(if for_editors {
-            editor_column_letter(column)
-        } else {
-            b'a' + column as u8
-        })?;
+        out.push(*letter)?;
     }
     Ok(out.push(b'\n')?)
 }
 
 /// Writes a row of the board behind the text.
-fn put_row(out: &mut Vec<u8>, frame: &Frame, board: &Board, row: u16) -> Result<(), NoMemory>
+fn put_row(out: &mut Vec<u8>, frame: &Frame, board: &Board, row: u16) -> Result<(), ShowFault>
     requires { row < board.now.size.rows }
 {
     let size = board.size();
@@ -81,16 +72,16 @@ fn put_row(out: &mut Vec<u8>, frame: &Frame, board: &Board, row: u16) -> Result<
         out.push(point_symbol(frame, board, point_of_coordinates(size, column, row)))?;
     }
     let number = size.rows() - row;
-    written(writeln!(out, " {number}"))
+    Ok(writeln!(out, " {number}")?)
 }
 
 /// Writes a board with the marks of a frame behind the text.
-pub fn put_board(out: &mut Vec<u8>, frame: &Frame, board: &Board) -> Result<(), NoMemory> {
-    put_column_letters(out, board.size(), false)?;
+pub fn put_board(out: &mut Vec<u8>, frame: &Frame, board: &Board) -> Result<(), ShowFault> {
+    put_column_letters(out, board.size(), SGF_LETTERS)?;
     for row in 0..board.size().rows() {
         put_row(out, frame, board, row)?;
     }
-    put_column_letters(out, board.size(), true)
+    put_column_letters(out, board.size(), EDITOR_LETTERS)
 }
 
 /// The frame of a board without marks.
@@ -120,22 +111,22 @@ pub fn side_colour(line: &Line, side: Side) -> Colour {
 }
 
 /// Writes how many positions came before the present one, where any did, behind the text.
-fn put_earlier_position_count(out: &mut Vec<u8>, line: &Line) -> Result<(), NoMemory> {
+fn put_earlier_position_count(out: &mut Vec<u8>, line: &Line) -> Result<(), ShowFault> {
     match line.history().len().saturating_sub(1) {
         0 => Ok(()),
         1 => Ok(out.extend_from_slice(b", after 1 earlier position")?),
-        count => written(write!(out, ", after {count} earlier positions")),
+        count => Ok(write!(out, ", after {count} earlier positions")?),
     }
 }
 
 /// Writes the picture of the problem at a line behind the text: who moves, how many positions came before, and the board with
 /// the letters of SGF above and on the left, and the coordinates of editors below and on the right. T is a target, X and O are
 /// stones of Black and White, small letters are stones on a point of the region, + is an empty point of the region and .
-/// another one. `NoMemory` where memory was refused; a part may stand there then.
-pub fn put_picture(out: &mut Vec<u8>, line: &Line) -> Result<(), NoMemory> {
+/// another one.
+pub fn put_picture(out: &mut Vec<u8>, line: &Line) -> Result<(), ShowFault> {
     let mover = colour_name(side_colour(line, line.to_move()));
     let defender = colour_name(line.frame().defender);
-    written(write!(out, "{mover} to move, T is {defender}"))?;
+    write!(out, "{mover} to move, T is {defender}")?;
     put_earlier_position_count(out, line)?;
     out.push(b'\n')?;
     put_board(out, line.frame(), line.present())

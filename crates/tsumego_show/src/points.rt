@@ -5,11 +5,11 @@ ghost use Rattle.tsumego_show.specs.Written.{HasName};
 
 use crate::mode::PointName;
 use crate::picture::{editor_column_letter, point_of_coordinates};
-use crate::writing::written;
+use crate::shown::ShowFault;
 use std::io::Write;
 use tt_game::Turn;
 use tt_proof::put_turn;
-use tt_sgf::{NoMemory, Point, PointSet, Size};
+use tt_sgf::{Point, PointSet, Size};
 
 /// How points are written: as editors name them, by both names, as `C18=cb`, each with a blank in front; or as values of SGF.
 #[derive(Clone, Copy, PartialEq, Eq)]
@@ -53,21 +53,20 @@ pub fn point_of_name(size: Size, name: PointName) -> Option<Point>
 pub fn put_point(
     out: &mut Vec<u8>,
     size: Size,
-    number: usize,
+    point: Point,
     form: PointForm,
-) -> Result<(), NoMemory>
-    requires { number < point_count size }
+) -> Result<(), ShowFault>
+    requires { point < point_count size }
 {
-    let turn = Turn::Play(point_numbered(size, number));
+    let turn = Turn::Play(point);
     if form == PointForm::Value {
         out.push(b'[')?;
         put_turn(out, turn, size)?;
         return Ok(out.push(b']')?);
     }
-    let columns = usize::from(size.columns());
-    let letter = char::from(editor_column_letter((number % columns) as u16));
-    let row = usize::from(size.rows()) - number / columns;
-    written(write!(out, " {letter}{row}"))?;
+    let letter = char::from(editor_column_letter(point.number() % size.columns()));
+    let row = size.rows() - point.number() / size.columns();
+    write!(out, " {letter}{row}")?;
     if form == PointForm::Both {
         out.push(b'=')?;
         put_turn(out, turn, size)?;
@@ -81,10 +80,11 @@ pub fn put_points(
     size: Size,
     points: &PointSet,
     form: PointForm,
-) -> Result<(), NoMemory> {
+) -> Result<(), ShowFault> {
     for number in 0..size.point_count() {
-        if points.has(point_numbered(size, number)) {
-            put_point(out, size, number, form)?;
+        let point = point_numbered(size, number);
+        if points.has(point) {
+            put_point(out, size, point, form)?;
         }
     }
     Ok(())
@@ -96,7 +96,7 @@ pub fn put_points_line_if_any(
     size: Size,
     words: &[u8],
     points: &PointSet,
-) -> Result<(), NoMemory> {
+) -> Result<(), ShowFault> {
     if points.count() == 0 {
         return Ok(());
     }

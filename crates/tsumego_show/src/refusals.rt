@@ -3,18 +3,18 @@ ghost use Rattle.std.specs.Prelude.{◌≤◌, length};
 
 use crate::hints::put_unclosed_comment_lines;
 use crate::points::put_points_line_if_any;
+use crate::shown::ShowFault;
 use crate::tree_bytes::from_first_parenthesis;
-use crate::writing::written;
 use std::io::Write;
 use tt_game::{GameFault, said_size};
-use tt_sgf::{NoMemory, Node, PointSet, SgfFault, stopping_byte};
+use tt_sgf::{Node, PointSet, SgfFault, stopping_byte};
 
 /// The longest value that is written as it is.
 const MOST_VALUE_BYTES: usize = 20;
 
-/// Writes the line of a refusal behind the text.
-pub fn put_refusal_line(out: &mut Vec<u8>, number: usize, code: u8) -> Result<(), NoMemory> {
-    written(writeln!(out, "{number} refused {code}"))
+/// Writes the line of a refusal, and the beginning of that on its reason, behind the text.
+pub fn put_refusal_line(out: &mut Vec<u8>, number: usize, code: u8) -> Result<(), ShowFault> {
+    Ok(write!(out, "{number} refused {code}\nwhy: ")?)
 }
 
 /// Whether a value is written as it is: it is short, and all its bytes are from * to ~.
@@ -29,7 +29,7 @@ fn put_unreadable_value(
     node: &Node,
     property: usize,
     value: usize,
-) -> Result<(), NoMemory> {
+) -> Result<(), ShowFault> {
     let Some(property) = node.props.as_slice().get(property) else {
         return Ok(());
     };
@@ -45,7 +45,7 @@ fn put_unreadable_value(
 }
 
 /// Writes the value or the point to look at behind the text, where there is one.
-fn put_look_at_line(out: &mut Vec<u8>, nodes: &[Node], fault: &GameFault) -> Result<(), NoMemory> {
+fn put_look_at_line(out: &mut Vec<u8>, nodes: &[Node], fault: &GameFault) -> Result<(), ShowFault> {
     if let (Some(number), Some((property, value))) = (fault.node(), fault.value()) {
         if let Some(node) = nodes.get(number.saturating_sub(1)) {
             put_unreadable_value(out, node, property, value)?;
@@ -60,11 +60,16 @@ fn put_look_at_line(out: &mut Vec<u8>, nodes: &[Node], fault: &GameFault) -> Res
     Ok(())
 }
 
-/// Writes why a main line is refused, at which node, how to go on, and what to look at, behind the text.
-fn put_why_refused(out: &mut Vec<u8>, nodes: &[Node], fault: &GameFault) -> Result<(), NoMemory> {
-    out.extend_from_slice(b"why: ")?;
+/// Writes that the main line of these nodes is refused, at which node and why, how to go on and what to look at, behind the text.
+pub fn put_refusal_and_why(
+    out: &mut Vec<u8>,
+    number: usize,
+    nodes: &[Node],
+    fault: &GameFault,
+) -> Result<(), ShowFault> {
+    put_refusal_line(out, number, fault.code())?;
     if let Some(number) = fault.node() {
-        written(write!(out, "node {number}: "))?;
+        write!(out, "node {number}: ")?;
     }
     out.extend_from_slice(fault.reason())?;
     if matches!(fault, GameFault::NoTarget) {
@@ -75,34 +80,32 @@ fn put_why_refused(out: &mut Vec<u8>, nodes: &[Node], fault: &GameFault) -> Resu
     put_look_at_line(out, nodes, fault)
 }
 
-/// Writes that the main line of these nodes is refused, at which node and why, how to go on and what to look at, behind the text.
-pub fn put_refusal_and_why(
-    out: &mut Vec<u8>,
-    number: usize,
-    nodes: &[Node],
-    fault: &GameFault,
-) -> Result<(), NoMemory> {
-    put_refusal_line(out, number, fault.code())?;
-    put_why_refused(out, nodes, fault)
-}
-
-/// How many newlines are there.
-fn newline_count(bytes: &[u8]) -> usize {
-    bytes.iter().filter(|byte| **byte == b'\n').count()
-}
-
 /// Writes the byte of this index and its line behind the text. Bytes and lines count from 1.
-fn put_byte_and_line(out: &mut Vec<u8>, input: &[u8], index: usize) -> Result<(), NoMemory> {
+fn put_byte_and_line(out: &mut Vec<u8>, input: &[u8], index: usize) -> Result<(), ShowFault> {
     let front = &input[..index.min(input.len())];
     let byte = front.len().saturating_add(1);
-    let line = newline_count(front).saturating_add(1);
-    written(write!(out, "byte {byte} in line {line}"))
+    let newlines = front.iter().filter(|byte| **byte == b'\n').count();
+    let line = newlines.saturating_add(1);
+    Ok(write!(out, "byte {byte} in line {line}")?)
 }
 
-/// Writes at which byte the reading of the rest of an input stops and where its tree begins, behind the text, if one begins.
-fn put_stopping_byte(out: &mut Vec<u8>, input: &[u8], rest: &[u8]) -> Result<(), NoMemory>
+/// Writes the refusal of an input that has no game tree, and why, behind the text.
+pub fn put_unread(out: &mut Vec<u8>, number: usize, fault: SgfFault) -> Result<(), ShowFault> {
+    put_refusal_line(out, number, fault.code())?;
+    out.extend_from_slice(fault.reason())?;
+    Ok(out.push(b'\n')?)
+}
+
+/// Writes that no game tree can be read in the rest of an input, and where it stops and its tree begins, if one does, behind the text.
+pub fn put_no_tree(
+    out: &mut Vec<u8>,
+    number: usize,
+    input: &[u8],
+    rest: &[u8],
+) -> Result<(), ShowFault>
     requires { length rest.now ≤ length input.now }
 {
+    put_unread(out, number, SgfFault::Syntax)?;
     let opened = from_first_parenthesis(rest);
     if opened.is_empty() {
         return Ok(());
@@ -113,30 +116,4 @@ fn put_stopping_byte(out: &mut Vec<u8>, input: &[u8], rest: &[u8]) -> Result<(),
     out.extend_from_slice(b", of the tree from ")?;
     put_byte_and_line(out, input, start)?;
     Ok(out.extend_from_slice(b" on; later trees weren't read\n")?)
-}
-
-/// Writes that no game tree can be read in the rest of an input, and where it stops, behind the text.
-pub fn put_no_tree(
-    out: &mut Vec<u8>,
-    number: usize,
-    input: &[u8],
-    rest: &[u8],
-) -> Result<(), NoMemory>
-    requires { length rest.now ≤ length input.now }
-{
-    put_unread(out, number, SgfFault::Syntax)?;
-    put_stopping_byte(out, input, rest)
-}
-
-/// Writes the refusal of an input that has no game tree, and why, behind the text.
-fn put_unread(out: &mut Vec<u8>, number: usize, fault: SgfFault) -> Result<(), NoMemory> {
-    put_refusal_line(out, number, fault.code())?;
-    out.extend_from_slice(b"why: ")?;
-    out.extend_from_slice(fault.reason())?;
-    Ok(out.push(b'\n')?)
-}
-
-/// Writes that an input is too long behind the text.
-pub fn put_too_long(out: &mut Vec<u8>, number: usize) -> Result<(), NoMemory> {
-    put_unread(out, number, SgfFault::TooLong)
 }

@@ -1,9 +1,8 @@
 //! Reads an input and writes its text.
-ghost use Rattle.std.specs.Prelude.{◌≡◌, IfOk, false};
+ghost use Rattle.std.specs.Prelude.{◌≡◌, false};
 ghost use Rattle.devices.specs.Faults.{is_input_fault, is_output_fault};
 ghost use Rattle.devices.specs.Watching.{TakesAtMost};
 ghost use Rattle.devices.specs.Writing.{HoldsForInput};
-ghost use Rattle.tsumego_show.specs.Shown.{HasStatus};
 ghost use Rattle.tsumego_show.specs.Writing.{WritesShown};
 
 use crate::mode::Mode;
@@ -21,55 +20,8 @@ pub const MOST_READ: usize = MAX_BYTES + 1;
 const OTHER_PROBLEM: &[u8] =
     b"tsumego-show: a game tree would read as another problem once it is written, so nothing was: please tell those who made this program\n";
 
-/// The text for an input, and its exit status; `said` gets what is said beside. Where a game tree would read as another problem there is
-/// no text, as for want of memory.
-fn text_and_status(
-    alloc: Global,
-    mode: Mode,
-    input: &[u8],
-    said: &mut Vec<u8>,
-) -> Result<(Vec<u8>, u8), RunFault>
-    ensures { IfOk result (λ r. HasStatus mode input.now r.1) }
-{
-    match show(alloc, mode, input) {
-        Ok(shown) => {
-            let status = shown.status();
-            *said = shown.said;
-            Ok((shown.text, status))
-        }
-        Err(ShowFault::NoMemory) => Err(RunFault::Memory),
-        Err(ShowFault::OtherProblem) => {
-            let _ = said.extend_from_slice(OTHER_PROBLEM);
-            Err(RunFault::Memory)
-        }
-    }
-}
-
-/// Writes the text for an input, and answers its exit status; `said` gets what is said beside. Nothing is written, as for want of memory,
-/// where a game tree would read as another problem.
-pub fn write_text_for_input<W: Write>(
-    alloc: Global,
-    mode: Mode,
-    input: &[u8],
-    writer: &mut Watched<W>,
-    said: &mut Vec<u8>,
-) -> Result<u8, RunFault>
-    requires { writer.old.failed ≡ false }
-    ensures written { WritesShown mode input.now result (W.contents writer.old.device) (W.contents writer.new.device) }
-    ensures reading { is_input_fault result ≡ false }
-    ensures failed { writer.new.failed ≡ is_output_fault result }
-{
-    let Ok((text, status)) = text_and_status(alloc, mode, input, said) else {
-        return Err(RunFault::Memory);
-    };
-    match write_bytes(writer, text.as_slice()) {
-        Ok(()) => Ok(status),
-        Err(fault) => Err(fault),
-    }
-}
-
-/// Reads an input whole, or 1,048,577 bytes of a longer one, and writes its text and nothing else. The status is 1 where
-/// something was refused, else 0.
+/// Reads an input whole, or 1,048,577 bytes of a longer one, and writes its text and nothing else; `said` gets what is said beside. The
+/// status is 1 where something was refused, else 0; and 2 where a game tree would read as another problem: then nothing is written.
 ///
 /// Neither reader nor writer has failed before. `Input` comes exactly where a read failed, and then nothing is written;
 /// `Output` exactly where a write failed or took no byte, and then a beginning of the text is written; after `Memory`
@@ -89,8 +41,18 @@ pub fn run<R: Read, W: Write>(
     ensures input { reader.new.failed ≡ is_input_fault result }
     ensures output { writer.new.failed ≡ is_output_fault result }
 {
-    match read_input(alloc, reader, MOST_READ) {
-        Ok(input) => write_text_for_input(alloc, mode, input.as_slice(), writer, said),
-        Err(fault) => Err(fault),
+    let input = read_input(alloc, reader, MOST_READ)?;
+    match show(alloc, mode, input.as_slice()) {
+        Ok(shown) => {
+            let status = shown.status();
+            *said = shown.said;
+            write_bytes(writer, shown.text.as_slice())?;
+            Ok(status)
+        }
+        Err(ShowFault::NoMemory) => Err(RunFault::Memory),
+        Err(ShowFault::OtherProblem) => {
+            let _ = said.extend_from_slice(OTHER_PROBLEM);
+            Ok(2)
+        }
     }
 }

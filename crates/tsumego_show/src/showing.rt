@@ -2,24 +2,23 @@
 ghost use Rattle.std.specs.Prelude.{◌≡◌, ◌↔◌, Bool, IsTrue, Err, IfOk, Ok};
 ghost use Rattle.tt_game.specs.Line.{LineWithUndo};
 ghost use Rattle.tt_game.specs.Problems.{problem_of};
-ghost use Rattle.tsumego_show.specs.Shown.{IsInputRefused, IsOnlyTree, IsTreeRefused};
+ghost use Rattle.tsumego_show.specs.Shown.{IsInputShown, IsOnlyTree, IsTreeRefused};
 ghost use Rattle.tsumego_show.specs.Written.{IsWrittenOn};
 
 use crate::answers::put_answer_lines;
 use crate::diagram::{put_svg, put_unmarked_svg};
 use crate::hints::{put_hints, put_missing_mover_line, put_unclosed_comment_lines};
-use crate::marking::{put_kept_problem, put_tree_marked_or_kept, unsquared_triangle_node};
+use crate::marking::{put_kept_problem, put_tree_marked_or_kept};
 use crate::mode::Mode;
 use crate::picture::{put_board, put_picture, unmarked_frame};
-use crate::refusals::{put_no_tree, put_refusal_and_why, put_too_long};
+use crate::refusals::{put_no_tree, put_refusal_and_why, put_unread};
 use crate::shown::{ShowFault, Shown};
 use crate::tree_bytes::{GivenTree, from_first_parenthesis, put_tree_as_given};
 use crate::variations::put_sgf;
-use crate::writing::written;
 use std::alloc::Global;
 use std::io::Write;
 use tt_game::{GameFault, Line, game_before_solution, problem};
-use tt_sgf::{ItemList, MainLine, NoMemory, SgfFault, has_tree, read_tree};
+use tt_sgf::{ItemList, MainLine, SgfFault, has_tree, read_tree};
 
 /// Writes the picture of the problem of a tree, and the strategy behind it, behind the text.
 fn put_problem_and_strategy(
@@ -27,9 +26,9 @@ fn put_problem_and_strategy(
     out: &mut Vec<u8>,
     tree: &GivenTree,
     line: &Line,
-) -> Result<(), NoMemory> {
+) -> Result<(), ShowFault> {
     let number = tree.number;
-    written(write!(out, "{number} "))?;
+    write!(out, "{number} ")?;
     put_picture(out, line)?;
     put_missing_mover_line(out, tree.nodes())?;
     put_unclosed_comment_lines(out, tree.nodes())?;
@@ -44,45 +43,45 @@ fn is_only(tree: &GivenTree) -> bool
     tree.number == 1 && !has_tree(tree.behind)
 }
 
-/// Writes the diagram of the problem of a tree, with the strategy behind it; or that it isn't drawn.
+/// Writes the diagram of the problem of a tree, with the strategy behind it; or that it isn't drawn. Says whether it is refused.
 fn put_diagram(
     alloc: Global,
     shown: &mut Shown,
     tree: &GivenTree,
     line: &Line,
-) -> Result<(), NoMemory> {
-    if !is_only(tree) {
-        let number = tree.number;
-        return written(writeln!(
-            shown.said,
-            "{number} not drawn: give each problem a file of its own"
-        ));
+) -> Result<bool, ShowFault>
+    ensures { IfOk result (λ refused. IsTrue refused ↔ (IsOnlyTree tree.now.number tree.now.behind.now → ⊥)) }
+{
+    if is_only(tree) {
+        put_svg(alloc, &mut shown.text, line, tree.behind)?;
+        return Ok(false);
     }
-    put_svg(alloc, &mut shown.text, line, tree.behind)
+    let number = tree.number;
+    writeln!(
+        shown.said,
+        "{number} not drawn: give each problem a file of its own"
+    )?;
+    Ok(true)
 }
 
-/// Writes the text on the problem of a tree.
+/// Writes the text on the problem of a tree, and says whether it is refused.
 fn put_problem(
     alloc: Global,
     shown: &mut Shown,
     mode: Mode,
     tree: &GivenTree,
     line: &Line,
-) -> Result<(), ShowFault>
-    ensures { (refused : Bool) → IfOk result (λ _. IsWrittenOn mode tree.now.main.nodes (Ok line.now) refused shown.new.text.items) }
+) -> Result<bool, ShowFault>
+    ensures refused { (p : LineWithUndo) → IfOk result (IsTreeRefused mode tree.now.number (Ok p) tree.now.behind.now) }
+    ensures written { IfOk result (λ refused. IsWrittenOn mode tree.now.main.nodes (Ok line.now) refused shown.new.text.items) }
 {
     match mode {
-        Mode::Picture => {
-            put_problem_and_strategy(alloc, &mut shown.text, tree, line)?;
-            Ok(())
-        }
-        Mode::Diagram => {
-            put_diagram(alloc, shown, tree, line)?;
-            Ok(())
-        }
-        Mode::Variations(depth) => put_sgf(alloc, &mut shown.text, tree, line, depth),
-        Mode::Marks(_) => put_kept_problem(alloc, shown, tree, line),
+        Mode::Picture => put_problem_and_strategy(alloc, &mut shown.text, tree, line)?,
+        Mode::Diagram => return put_diagram(alloc, shown, tree, line),
+        Mode::Variations(depth) => put_sgf(alloc, &mut shown.text, tree, line, depth)?,
+        Mode::Marks(_) => return put_kept_problem(alloc, shown, tree, line),
     }
+    Ok(false)
 }
 
 /// The main line in front of the node at fault; with it, where only its targets are, and all of it where no node has TR.
@@ -111,7 +110,7 @@ fn put_refused_board(
     mode: Mode,
     main: MainLine,
     fault: &GameFault,
-) -> Result<(), NoMemory> {
+) -> Result<(), ShowFault> {
     let front = line_before_fault(main, fault);
     if front.nodes.as_slice().is_empty() {
         return Ok(());
@@ -124,7 +123,7 @@ fn put_refused_board(
                 _ => put_board(&mut shown.text, &unmarked_frame(board.size()), board),
             }
         }
-        Err(GameFault::NoMemory) => Err(NoMemory),
+        Err(GameFault::NoMemory) => Err(ShowFault::NoMemory),
         Err(_) => Ok(()),
     }
 }
@@ -136,8 +135,10 @@ fn put_refused(
     mode: Mode,
     tree: GivenTree,
     fault: &GameFault,
-) -> Result<(), NoMemory> {
-    put_refusal_and_why(shown.words(mode), tree.number, tree.nodes(), fault)?;
+) -> Result<(), ShowFault> {
+    let mut words = Vec::new(alloc);
+    put_refusal_and_why(&mut words, tree.number, tree.nodes(), fault)?;
+    shown.add_words(mode, words.as_slice())?;
     match mode {
         Mode::Diagram if !is_only(&tree) => Ok(()),
         Mode::Picture | Mode::Diagram => put_refused_board(alloc, shown, mode, tree.main, fault),
@@ -163,17 +164,6 @@ fn put_non_problem(
     Ok(true)
 }
 
-/// Whether a problem isn't drawn, since there are several, or not marked, since it has triangles without squares.
-fn is_problem_refused(mode: Mode, tree: &GivenTree) -> bool
-    ensures { (p : LineWithUndo) → IsTreeRefused mode tree.now.number (Ok p) tree.now.behind.now result }
-{
-    match mode {
-        Mode::Diagram => !is_only(tree),
-        Mode::Marks(_) => unsquared_triangle_node(tree.nodes()).is_some(),
-        Mode::Picture | Mode::Variations(_) => false,
-    }
-}
-
 /// What is shown of a tree.
 pub fn show_tree(alloc: Global, mode: Mode, tree: GivenTree) -> Result<Shown, ShowFault>
     ensures refused { IfOk result (λ r. IsTreeRefused mode tree.entry.number (problem_of tree.entry.main.nodes) tree.entry.behind.now r.refused) }
@@ -182,8 +172,7 @@ pub fn show_tree(alloc: Global, mode: Mode, tree: GivenTree) -> Result<Shown, Sh
     let mut shown = Shown::nothing(alloc);
     match problem(alloc, &tree.main) {
         Ok(line) => {
-            put_problem(alloc, &mut shown, mode, &tree, &line)?;
-            shown.refused = is_problem_refused(mode, &tree);
+            shown.refused = put_problem(alloc, &mut shown, mode, &tree, &line)?;
         }
         Err(GameFault::NoMemory) => return Err(ShowFault::NoMemory),
         Err(fault) => {
@@ -195,7 +184,7 @@ pub fn show_tree(alloc: Global, mode: Mode, tree: GivenTree) -> Result<Shown, Sh
 
 /// What is shown of an input, tree by tree.
 pub fn show(alloc: Global, mode: Mode, input: &[u8]) -> Result<Shown, ShowFault>
-    ensures { IfOk result (λ r. IsInputRefused mode input.now r.refused) }
+    ensures { IfOk result (λ r. IsInputShown mode input.now r.refused r.text.items) }
 {
     let mut all = Shown::nothing(alloc);
     let mut number = 1;
@@ -219,12 +208,16 @@ pub fn show(alloc: Global, mode: Mode, input: &[u8]) -> Result<Shown, ShowFault>
                 number += 1;
             }
             Err(SgfFault::Syntax) => {
-                put_no_tree(all.words(mode), number, input, rest)?;
+                let mut words = Vec::new(alloc);
+                put_no_tree(&mut words, number, input, rest)?;
+                all.add_words(mode, words.as_slice())?;
                 all.refused = true;
                 return Ok(all);
             }
             Err(SgfFault::TooLong) => {
-                put_too_long(all.words(mode), number)?;
+                let mut words = Vec::new(alloc);
+                put_unread(&mut words, number, SgfFault::TooLong)?;
+                all.add_words(mode, words.as_slice())?;
                 all.refused = true;
                 return Ok(all);
             }

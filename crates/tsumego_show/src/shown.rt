@@ -1,9 +1,11 @@
 //! What is written of a tree or an input, and what is said of it beside.
 
-ghost use Rattle.std.specs.Prelude.{◌≡◌, false, if◌then◌else◌};
+ghost use Rattle.std.specs.Prelude.{◌≡◌, ◌++◌, ℕ, List, [], false, if◌then◌else◌, IfOk};
+ghost use Rattle.tsumego_show.specs.Written.{IsWrittenOnNoTree};
 
 use crate::mode::Mode;
-use std::alloc::{AllocError, Global};
+use std::alloc::{AllocError, AllocFailed, Global};
+use std::io;
 use tt_sgf::NoMemory;
 
 /// Why nothing is written.
@@ -28,6 +30,19 @@ impl From<AllocError> for ShowFault {
     }
 }
 
+impl<T: Drop> From<AllocFailed<T>> for ShowFault {
+    fn from(_fault: AllocFailed<T>) -> ShowFault {
+        ShowFault::NoMemory
+    }
+}
+
+/// Writing to memory fails for want of memory alone.
+impl From<io::Error> for ShowFault {
+    fn from(_fault: io::Error) -> ShowFault {
+        ShowFault::NoMemory
+    }
+}
+
 /// What is written on standard output of a tree or of all of an input, what is said of it on standard error, and whether something was
 /// refused.
 #[derive(Drop)]
@@ -40,7 +55,8 @@ pub struct Shown {
 impl Shown {
     /// Nothing so far.
     pub fn nothing(alloc: Global) -> Shown
-        ensures { result.refused ≡ false }
+        ensures refused { result.refused ≡ false }
+        ensures text { result.text.items ≡ [] }
     {
         Shown {
             text: Vec::new(alloc),
@@ -56,11 +72,16 @@ impl Shown {
         if self.refused { 1 } else { 0 }
     }
 
-    /// Where hints and refusals go: in front of a picture, which is for people, and else beside the text.
-    pub fn words(&mut self, mode: Mode) -> &mut Vec<u8> {
+    /// Adds the words of a refusal: in front of a picture, which is for people, and else beside the text.
+    pub fn add_words(&mut self, mode: Mode, words: &[u8]) -> Result<(), ShowFault>
+        ensures { IfOk result (λ _. (text : List ℕ) × IsWrittenOnNoTree mode text × (self.new.text.items ≡ self.old.text.items ++ text)) }
+    {
         match mode {
-            Mode::Picture => &mut self.text,
-            Mode::Diagram | Mode::Variations(_) | Mode::Marks(_) => &mut self.said,
+            Mode::Picture => self.text.extend_from_slice(words)?,
+            Mode::Diagram | Mode::Variations(_) | Mode::Marks(_) => {
+                self.said.extend_from_slice(words)?
+            }
         }
+        Ok(())
     }
 }

@@ -1,7 +1,8 @@
 //! A tree as it was given.
 ghost use Rattle.std.specs.Prelude.{◌≡◌, ◌≤◌, length};
 
-use tt_sgf::{MainLine, NoMemory, Node};
+use crate::shown::ShowFault;
+use tt_sgf::{MainLine, Node};
 
 /// A game tree of an input: its number, counted from 1, its bytes from its first `(` on, its main line, and the bytes behind it.
 #[derive(Drop)]
@@ -21,15 +22,14 @@ impl<'a> GivenTree<'a> {
     }
 }
 
-/// How many bytes stand up to the `;` of the node of this number, and with it; all where there are fewer nodes. Nodes count from 1, and
-/// a `;` in a value begins none.
-pub fn semicolon_end(tree: &[u8], number: usize) -> usize
+/// The index of the first byte from this one on that is one of these and stands in no value; the length where there is none.
+fn index_outside_values(tree: &[u8], from: usize, wanted: &[u8]) -> usize
+    requires { from ≤ length tree.now }
     ensures { result ≤ length tree.now }
 {
     let mut in_value = false;
     let mut is_escaped = false;
-    let mut left = number;
-    for i in 0..tree.len() {
+    for i in from..tree.len() {
         let byte = tree[i];
         if is_escaped {
             is_escaped = false;
@@ -38,36 +38,29 @@ pub fn semicolon_end(tree: &[u8], number: usize) -> usize
             in_value = byte != b']';
         } else if byte == b'[' {
             in_value = true;
-        } else if byte == b';' {
-            if left <= 1 {
-                return i + 1;
-            }
-            left -= 1;
+        } else if wanted.contains(&byte) {
+            return i;
         }
     }
     tree.len()
 }
 
-/// How many bytes stand up to the end of the node of this number: to the first `;`, `(` or `)` behind its `;` that isn't in a value.
+/// How many bytes stand up to the `;` of the node of this number, and with it; all where there are fewer nodes. Nodes count from 1.
+pub fn semicolon_end(tree: &[u8], number: usize) -> usize
+    ensures { result ≤ length tree.now }
+{
+    let mut end = 0;
+    for _node in 0..number {
+        end = tree.len().min(index_outside_values(tree, end, b";") + 1);
+    }
+    end
+}
+
+/// How many bytes stand up to the end of the node of this number.
 pub fn node_end(tree: &[u8], number: usize) -> usize
     ensures { result ≤ length tree.now }
 {
-    let mut in_value = false;
-    let mut is_escaped = false;
-    for i in semicolon_end(tree, number)..tree.len() {
-        let byte = tree[i];
-        if is_escaped {
-            is_escaped = false;
-        } else if in_value {
-            is_escaped = byte == b'\\';
-            in_value = byte != b']';
-        } else if byte == b'[' {
-            in_value = true;
-        } else if byte == b';' || byte == b'(' || byte == b')' {
-            return i;
-        }
-    }
-    tree.len()
+    index_outside_values(tree, semicolon_end(tree, number), b";()")
 }
 
 /// The bytes from the first `(` on.
@@ -83,7 +76,7 @@ pub fn from_first_parenthesis(bytes: &[u8]) -> &[u8]
 }
 
 /// Writes a tree as it was behind the text.
-pub fn put_tree_as_given(out: &mut Vec<u8>, tree: &GivenTree) -> Result<(), NoMemory> {
+pub fn put_tree_as_given(out: &mut Vec<u8>, tree: &GivenTree) -> Result<(), ShowFault> {
     out.extend_from_slice(tree.bytes)?;
     Ok(out.push(b'\n')?)
 }

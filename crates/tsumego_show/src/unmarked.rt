@@ -4,12 +4,12 @@ ghost use Rattle.tt_sgf.specs.Sizes.{point_count};
 
 use crate::picture::colour_name;
 use crate::points::{PointForm, put_point, put_points, put_points_line_if_any};
-use crate::writing::written;
+use crate::shown::ShowFault;
 use std::alloc::Global;
 use std::io::Write;
 use tt_board::{Board, Colour};
 use tt_marks::{Closing, closings, is_inner, region, stones_of_colour, wall_in_danger, ways_out};
-use tt_sgf::{NoMemory, Point, Size};
+use tt_sgf::{Point, Size};
 
 /// So many ways to close a wall are listed; of more their number is said.
 const MOST_LISTED_WAYS: usize = 30;
@@ -20,12 +20,12 @@ fn put_chain_name(
     size: Size,
     colour: Colour,
     stone: Point,
-) -> Result<(), NoMemory>
+) -> Result<(), ShowFault>
     requires { stone < point_count size }
 {
     let name = colour_name(colour);
-    written(write!(out, "the {name} chain of"))?;
-    put_point(out, size, usize::from(stone.number()), PointForm::Both)
+    write!(out, "the {name} chain of")?;
+    put_point(out, size, stone, PointForm::Both)
 }
 
 /// Writes the stones of ways to close a wall behind the text, way by way, and a newline.
@@ -34,11 +34,11 @@ pub fn put_ways(
     size: Size,
     ways: &[Closing],
     between: &[u8],
-) -> Result<(), NoMemory> {
+) -> Result<(), ShowFault> {
     for i in 0..ways.len() {
         if i == MOST_LISTED_WAYS {
             let more = ways.len() - MOST_LISTED_WAYS;
-            return written(writeln!(out, ", and {more} more"));
+            return Ok(writeln!(out, ", and {more} more")?);
         }
         if 0 < i {
             out.extend_from_slice(between)?;
@@ -55,18 +55,15 @@ fn put_how_to_close(
     colour: Colour,
     ways: &[Closing],
     stones: u16,
-) -> Result<(), NoMemory> {
+) -> Result<(), ShowFault> {
     let name = colour_name(colour);
-    let (words, between) = match stones {
-        1 => ("stone on one of these encloses it:", b"".as_slice()),
-        _ => ("stones enclose it in one of these ways:", b",".as_slice()),
+    let several = "stones enclose it in one of these ways:";
+    let (count, words, between) = match stones {
+        1 => ("a", "stone on one of these encloses it:", b"".as_slice()),
+        2 => ("two", several, b",".as_slice()),
+        _ => ("three", several, b",".as_slice()),
     };
-    let count = match stones {
-        1 => "a",
-        2 => "two",
-        _ => "three",
-    };
-    written(write!(out, "{count} {name} {words}"))?;
+    write!(out, "{count} {name} {words}")?;
     put_ways(out, size, ways, between)
 }
 
@@ -78,7 +75,7 @@ fn put_how_to_go_on(
     board: &Board,
     colour: Colour,
     stone: Point,
-) -> Result<(), NoMemory>
+) -> Result<(), ShowFault>
     requires { stone < point_count board.now.size }
 {
     let ways = closings(alloc, board, colour, stone)?;
@@ -99,7 +96,7 @@ pub fn put_wall_in_danger_line(
     out: &mut Vec<u8>,
     board: &Board,
     point: &Option<Point>,
-) -> Result<(), NoMemory>
+) -> Result<(), ShowFault>
     requires { IfSome point.now (λ q. q < point_count board.now.size) }
 {
     let Some(stone) = *point else {
@@ -123,17 +120,17 @@ fn put_why_unmarked_chain(
     board: &Board,
     colour: Colour,
     stone: Point,
-) -> Result<(), NoMemory>
+) -> Result<(), ShowFault>
     requires { stone < point_count board.now.size }
 {
     let found = region(board, colour, stone);
     put_chain_name(out, board.size(), colour, stone)?;
     if 0 < found.wall.count() && is_inner(board, &found.points) {
         let count = found.points.count();
-        return written(writeln!(
+        return Ok(writeln!(
             out,
             " is enclosed with {count}, not with 2 to 40 points: mark it by hand"
-        ));
+        )?);
     }
     out.extend_from_slice(b" is not enclosed with 2 to 40 points: ")?;
     put_how_to_go_on(alloc, out, board, colour, stone)
@@ -145,48 +142,24 @@ pub fn put_why_unmarked_at_point(
     out: &mut Vec<u8>,
     board: &Board,
     point: &Option<Point>,
-) -> Result<(), NoMemory>
+) -> Result<(), ShowFault>
     requires { IfSome point.now (λ q. q < point_count board.now.size) }
 {
     let size = board.size();
     let Some(point) = *point else {
         let columns = size.columns();
         let rows = size.rows();
-        return written(writeln!(
+        return Ok(writeln!(
             out,
             "the board has no such point: it is {columns} by {rows}"
-        ));
+        )?);
     };
     if let Some(colour) = board.at(point) {
         return put_why_unmarked_chain(alloc, out, board, colour, point);
     }
     out.extend_from_slice(b"no stone stands on")?;
-    put_point(out, size, usize::from(point.number()), PointForm::Both)?;
+    put_point(out, size, point, PointForm::Both)?;
     Ok(out.push(b'\n')?)
-}
-
-/// Writes that no group is enclosed, and how the wall around the one that seems to be meant may be closed, behind the text.
-fn put_no_group_enclosed(
-    alloc: Global,
-    out: &mut Vec<u8>,
-    board: &Board,
-    point: &Option<Point>,
-) -> Result<(), NoMemory>
-    requires { IfSome point.now (λ q. q < point_count board.now.size) }
-{
-    out.extend_from_slice(
-        b"no group was found that is enclosed with 2 to 40 points: close the wall, or name a stone of the group",
-    )?;
-    let Some(stone) = *point else {
-        return Ok(out.push(b'\n')?);
-    };
-    let Some(colour) = board.at(stone) else {
-        return Ok(out.push(b'\n')?);
-    };
-    out.extend_from_slice(b"; it may be ")?;
-    put_chain_name(out, board.size(), colour, stone)?;
-    out.extend_from_slice(b": ")?;
-    put_how_to_go_on(alloc, out, board, colour, stone)
 }
 
 /// Writes that no group is enclosed, and how the wall may be closed around the one that seems to be meant; or that there is no wall,
@@ -196,19 +169,26 @@ pub fn put_why_no_group_enclosed(
     out: &mut Vec<u8>,
     board: &Board,
     point: &Option<Point>,
-) -> Result<(), NoMemory>
+) -> Result<(), ShowFault>
     requires { IfSome point.now (λ q. q < point_count board.now.size) }
 {
     let has_blacks = 0 < stones_of_colour(board, Colour::Black).count();
     let has_whites = 0 < stones_of_colour(board, Colour::White).count();
-    match (has_blacks, has_whites) {
-        (true, true) => put_no_group_enclosed(alloc, out, board, point),
-        (true, false) => Ok(out.extend_from_slice(
-            b"no White stone is on the board, so there is no wall\n",
-        )?),
-        (false, true) => Ok(out.extend_from_slice(
-            b"no Black stone is on the board, so there is no wall\n",
-        )?),
-        (false, false) => Ok(out.extend_from_slice(b"no stone is on the board\n")?),
+    out.extend_from_slice(match (has_blacks, has_whites) {
+        (true, true) =>
+            b"no group was found that is enclosed with 2 to 40 points: close the wall, or name a stone of the group".as_slice(),
+        (true, false) => b"no White stone is on the board, so there is no wall",
+        (false, true) => b"no Black stone is on the board, so there is no wall",
+        (false, false) => b"no stone is on the board",
+    })?;
+    if let Some(stone) = *point {
+        let colour = board.at(stone).filter(|_| has_blacks && has_whites);
+        if let Some(colour) = colour {
+            out.extend_from_slice(b"; it may be ")?;
+            put_chain_name(out, board.size(), colour, stone)?;
+            out.extend_from_slice(b": ")?;
+            return put_how_to_go_on(alloc, out, board, colour, stone);
+        }
     }
+    Ok(out.push(b'\n')?)
 }

@@ -10,13 +10,12 @@ use crate::picture::{colour_name, side_colour};
 use crate::reading_back::check_problem;
 use crate::shown::ShowFault;
 use crate::tree_bytes::GivenTree;
-use crate::writing::written;
 use std::alloc::Global;
 use std::io::Write;
 use tt_board::Colour;
 use tt_game::{Line, Turn, first_value, has_value};
 use tt_proof::{MOST_DEPTH, Tree, put_turn};
-use tt_sgf::{NoMemory, Node, Property, Size};
+use tt_sgf::{Node, Property, Size};
 
 /// How many turns are written where no depth is asked, and where one is: no certificate of 1 MiB without shared parts has as many.
 const MOST_TURNS: usize = 2_000;
@@ -39,15 +38,16 @@ pub fn colour_letter(colour: Colour) -> char {
     }
 }
 
-/// The first of these nodes that has TR: the problem stands there.
-fn problem_node(nodes: &[Node]) -> Option<&Node> {
-    nodes
+/// The comment of the first of these nodes that has TR: the problem stands there.
+fn given_comment(nodes: &[Node]) -> Option<&[u8]> {
+    let node = nodes
         .iter()
-        .find(|node| has_value(node.props.as_slice(), b"TR"))
+        .find(|node| has_value(node.props.as_slice(), b"TR"))?;
+    first_value(node.props.as_slice(), b"C")
 }
 
 /// Writes a property as it was given behind the text.
-fn put_property(out: &mut Vec<u8>, property: &Property) -> Result<(), NoMemory> {
+fn put_property(out: &mut Vec<u8>, property: &Property) -> Result<(), ShowFault> {
     out.extend_from_slice(property.ident.as_slice())?;
     for value in property.values.as_slice() {
         out.push(b'[')?;
@@ -63,7 +63,7 @@ fn is_of_answer(name: &[u8]) -> bool {
 }
 
 /// Writes the nodes up to that of the problem as they were given behind the text, but for what the answer takes the place of there.
-fn put_given_nodes(out: &mut Vec<u8>, nodes: &[Node]) -> Result<(), NoMemory> {
+fn put_given_nodes(out: &mut Vec<u8>, nodes: &[Node]) -> Result<(), ShowFault> {
     for node in nodes {
         let is_problem = has_value(node.props.as_slice(), b"TR");
         out.push(b';')?;
@@ -80,10 +80,10 @@ fn put_given_nodes(out: &mut Vec<u8>, nodes: &[Node]) -> Result<(), NoMemory> {
 }
 
 /// Writes whose strategies follow, or why there are none, as the name of the problem's node behind the text.
-fn put_name(out: &mut Vec<u8>, line: &Line, found: &Answers) -> Result<(), NoMemory> {
+fn put_name(out: &mut Vec<u8>, line: &Line, found: &Answers) -> Result<(), ShowFault> {
     if let Some((side, _)) = found.strategies.first() {
         let owner = colour_name(side_colour(line, *side));
-        return written(write!(out, "N[{owner}'s strategy]"));
+        return Ok(write!(out, "N[{owner}'s strategy]")?);
     }
     Ok(out.extend_from_slice(if found.is_vain() {
         b"N[what follows is no certificate]"
@@ -93,7 +93,7 @@ fn put_name(out: &mut Vec<u8>, line: &Line, found: &Answers) -> Result<(), NoMem
 }
 
 /// Writes + on the first turns that win and - on those that fail behind the text.
-fn put_labels(out: &mut Vec<u8>, size: Size, found: &Answers) -> Result<(), NoMemory> {
+fn put_labels(out: &mut Vec<u8>, size: Size, found: &Answers) -> Result<(), ShowFault> {
     let start = out.len();
     for (turn, wins) in found.first_turns.as_slice() {
         if *turn != Turn::Pass {
@@ -112,7 +112,7 @@ fn put_comment(
     line: &Line,
     found: &Answers,
     is_end: bool,
-) -> Result<(), NoMemory> {
+) -> Result<(), ShowFault> {
     let has_answer = !found.strategies.is_empty() || !found.first_turns.is_empty();
     if given.is_none() && !has_answer {
         return Ok(());
@@ -136,7 +136,7 @@ fn put_comment(
 }
 
 /// Writes the point of a play behind the text, and nothing for a pass.
-fn put_move(out: &mut Vec<u8>, size: Size, turn: Turn) -> Result<(), NoMemory> {
+fn put_move(out: &mut Vec<u8>, size: Size, turn: Turn) -> Result<(), ShowFault> {
     match turn {
         Turn::Play(point) if size.holds(point) => Ok(put_turn(out, turn, size)?),
         _ => Ok(()),
@@ -149,16 +149,16 @@ fn put_move_node(
     line: &Line,
     turn: Turn,
     wins: Option<bool>,
-) -> Result<(), NoMemory> {
+) -> Result<(), ShowFault> {
     let letter = colour_letter(side_colour(line, line.to_move()));
-    written(write!(out, "\n(;{letter}["))?;
+    write!(out, "\n(;{letter}[")?;
     put_move(out, line.frame().size, turn)?;
     let mark = match wins {
         None => "",
         Some(true) => "TE[1]",
         Some(false) => "BM[1]",
     };
-    written(write!(out, "]{mark}"))
+    Ok(write!(out, "]{mark}")?)
 }
 
 /// Writes a turn and what follows it behind the text, where it is legal.
@@ -170,7 +170,7 @@ fn put_variation(
     line: &mut Line,
     place: TurnPlace,
     main: &[Turn],
-) -> Result<(), NoMemory>
+) -> Result<(), ShowFault>
     ensures { line.new ≡ line.old }
 {
     if !is_legal(line, turn) {
@@ -180,9 +180,9 @@ fn put_variation(
     let wins = if place.is_first { Some(is_own) } else { None };
     put_move_node(out, line, *turn, wins)?;
     let below = TurnPlace {
-        owner: place.owner,
         is_first: false,
         left: place.left.saturating_sub(1),
+        ..place
     };
     line.push_legal(*turn)?;
     let put = put_tree_variations(out, behind, line, below, main);
@@ -200,24 +200,16 @@ fn put_replies(
     place: TurnPlace,
     main: &[Turn],
     is_main: bool,
-) -> Result<(), NoMemory>
+) -> Result<(), ShowFault>
     ensures { line.new ≡ line.old }
 {
     for (turn, behind) in list {
         if (main.first() == Some(turn)) == is_main {
-            let rest = if is_main { rest_of(main) } else { &[] };
+            let rest = if is_main { &main[1..] } else { &[] };
             put_variation(out, turn, behind, line, place, rest)?;
         }
     }
     Ok(())
-}
-
-/// All but the first of these turns.
-fn rest_of(main: &[Turn]) -> &[Turn] {
-    match main.split_first() {
-        Some((_, rest)) => rest,
-        None => main,
-    }
 }
 
 /// Writes what follows a position behind the text: the main line, and the rest where more turns are written; where no turn follows, how the
@@ -229,7 +221,7 @@ fn put_tree_variations(
     line: &mut Line,
     place: TurnPlace,
     main: &[Turn],
-) -> Result<(), NoMemory>
+) -> Result<(), ShowFault>
     ensures { line.new ≡ line.old }
 {
     let count = out.len();
@@ -237,10 +229,11 @@ fn put_tree_variations(
         Tree::Done => {}
         _ if place.left == 0 && main.is_empty() => {
             let owner = colour_name(place.owner);
-            return written(write!(out, "C[{owner} wins.]"));
+            return Ok(write!(out, "C[{owner} wins.]")?);
         }
         Tree::Pick(turn, behind) => {
-            put_variation(out, turn, behind, line, place, rest_of(main))?;
+            let rest = main.get(1..).unwrap_or(main);
+            put_variation(out, turn, behind, line, place, rest)?;
         }
         Tree::Reply(list) => {
             put_replies(out, list, line, place, main, true)?;
@@ -264,7 +257,7 @@ fn put_strategies(
     line: &Line,
     found: &Answers,
     asked: Option<usize>,
-) -> Result<(), NoMemory> {
+) -> Result<(), ShowFault> {
     let depth = asked.unwrap_or(usize::from(MOST_DEPTH));
     let most = match asked {
         Some(_) => MOST_TURNS_TO_DEPTH,
@@ -284,13 +277,13 @@ fn put_strategies(
 }
 
 /// Writes the first turns that no strategy begins with or answers as variations behind the text.
-fn put_bare_first_turns(out: &mut Vec<u8>, line: &Line, found: &Answers) -> Result<(), NoMemory> {
+fn put_bare_first_turns(out: &mut Vec<u8>, line: &Line, found: &Answers) -> Result<(), ShowFault> {
     for (turn, wins) in found.first_turns.as_slice() {
-        let mut is_written = !is_legal(line, turn);
-        for (_, tree) in found.strategies.as_slice() {
-            is_written |= tree.first().unwrap_or(*turn) == *turn;
-        }
-        if !is_written {
+        let is_written = found
+            .strategies
+            .iter()
+            .any(|known| known.1.first().unwrap_or(*turn) == *turn);
+        if !is_written && is_legal(line, turn) {
             put_move_node(out, line, *turn, Some(*wins))?;
             out.push(b')')?;
         }
@@ -306,7 +299,7 @@ fn put_game_tree(
     tree: &GivenTree,
     line: &Line,
     depth: Option<usize>,
-) -> Result<(), NoMemory> {
+) -> Result<(), ShowFault> {
     let found = read_answers(alloc, line, tree.behind)?;
     out.push(b'(')?;
     put_given_nodes(out, tree.nodes())?;
@@ -315,11 +308,7 @@ fn put_game_tree(
     let mut variations = Vec::new(alloc);
     put_strategies(alloc, &mut variations, line, &found, depth)?;
     let is_end = variations.is_empty() && !found.strategies.is_empty();
-    let given = match problem_node(tree.nodes()) {
-        Some(node) => first_value(node.props.as_slice(), b"C"),
-        None => None,
-    };
-    put_comment(out, given, line, &found, is_end)?;
+    put_comment(out, given_comment(tree.nodes()), line, &found, is_end)?;
     out.extend_from_slice(variations.as_slice())?;
     put_bare_first_turns(out, line, &found)?;
     Ok(out.extend_from_slice(b")\n")?)

@@ -121,9 +121,9 @@ empty_is s c all black white some made on b w first_is then_is p in_p = (
 )
 
 -- one bit alone
-pub alone_is : (s : Size) (q : ℕ) (none made : List ℕ) → q < point_count s → ((p : ℕ) → p < BITS → bit_in none p ≡ false) → bit_in made q ≡ true
+pub alone_is : (s : Size) (q : ℕ) (none made : List ℕ) → ((p : ℕ) → p < BITS → bit_in none p ≡ false) → bit_in made q ≡ true
     → ((p : ℕ) → p < BITS → (p ≡ q → ⊥) → bit_in made p ≡ bit_in none p) → (p : ℕ) → p < point_count s → Has (bit_in made) p ↔ (p ≡ q)
-alone_is s q none made in_q off on rest p in_p = (
+alone_is s q none made off on rest p in_p = (
   λ h. elim (cases_eq p q) [
     | inl same ↦ same
     | inr apart ↦ absurd (true≢false (sym h ∙ rest p (small s p in_p) apart ∙ off p (small s p in_p)))

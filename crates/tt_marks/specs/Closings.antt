@@ -1,5 +1,5 @@
 -- Stones that close the wall around a group.
-use Rattle.std.specs.Prelude.{◌≡◌, ℕ, ◌<◌, List, None, All, true}
+use Rattle.std.specs.Prelude.{◌≡◌, ℕ, ◌<◌, ◌≤◌, List, None, All, true}
 use Rattle.std.specs.FinSet as set
 use Rattle.tt_sgf.specs.declared.size.Size.{Size}
 use Rattle.tt_sgf.specs.Sizes.{point_count}
@@ -9,8 +9,9 @@ use Rattle.tt_board.specs.Play.{other}
 use Rattle.tt_board.specs.Position.{Colouring}
 use Rattle.tt_board.specs.Reach.{entry_at}
 use Rattle.tt_board.specs.Setup.{AllHaveLiberties, placed}
-use Rattle.tt_board.specs.Stones.{PointNumberSet}
+use Rattle.tt_board.specs.Stones.{IsSetOnBoard, PointNumberSet}
 use Rattle.tt_marks.specs.declared.gaps.Closing.{Closing}
+use Rattle.tt_marks.specs.declared.gaps.TheConstants.{MOST_STONES}
 use Rattle.tt_marks.specs.Walls.{IsClosed, IsInner, IsRegion, IsWholeWall}
 
 -- the colouring with stones of colour k added on these points
@@ -22,14 +23,19 @@ with_stones s c White stones = placed s c set.empty stones set.empty
 abbrev pub AreEmptyPoints : Size → Colouring → PointNumberSet → Type 0
 AreEmptyPoints s c points = (p : ℕ) → set.contains points p ≡ true → (p < point_count s) × (entry_at c p ≡ None)
 
--- Stones of the other colour on these empty points close the wall around the group of the stone of colour k on q: then each stone has
--- a liberty, and the region of the group is this one, closed and inner
+-- A few stones of the other colour on these empty points close the wall around the group of the stone of colour k on q: then each stone
+-- has a liberty, all of these are of the whole wall, and the region of the group is this one, closed and inner
 pub record ClosesWall (s : Size) (c : Colouring) (k : Colour) (q : ℕ) (stones region : PointNumberSet) : Type 0 where
+  pub some : 0 < set.len stones
+  pub few : set.len stones ≤ MOST_STONES
   pub on_empty : AreEmptyPoints s c stones
   pub alive : AllHaveLiberties s (with_stones s c (other k) stones)
   pub wall : PointNumberSet
+  pub wall_on_board : IsSetOnBoard s wall
   pub whole : IsWholeWall s (with_stones s c (other k) stones) k q (set.contains wall)
+  pub of_wall : (p : ℕ) → set.contains stones p ≡ true → set.contains wall p ≡ true
   pub within : IsRegion s (with_stones s c (other k) stones) k q (set.contains wall) (set.contains region)
+  pub on_board : IsSetOnBoard s region
   pub closed : IsClosed wall region
   pub inner : IsInner s (with_stones s c (other k) stones) region
 

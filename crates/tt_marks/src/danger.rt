@@ -15,15 +15,15 @@ use crate::walls::{stones_with_liberty_outside, within};
 use tt_board::{Board, Colour};
 use tt_sgf::{Point, PointSet};
 
-/// The stones of a colour that plays in a region may take: those whose chains have no liberty outside.
-pub fn stones_in_danger(board: &Board, colour: Colour, region: &PointSet) -> PointSet
+/// The stones of a wall's colour that plays in a region may take: those whose chains have no liberty outside.
+pub fn stones_in_danger(board: &Board, wall_colour: Colour, region: &PointSet) -> PointSet
     ensures those { (p : ℕ) → p < point_count board.now.size → Has (set.contains result) p
-        ↔ (HasStone board.now.size board.now.points colour p
-        × (HasOuterLiberty board.now.size board.now.points colour (Has (set.contains region.now)) p → ⊥)) }
+        ↔ (HasStone board.now.size board.now.points wall_colour p
+        × (HasOuterLiberty board.now.size board.now.points wall_colour (Has (set.contains region.now)) p → ⊥)) }
     ensures on_board { IsSetOnBoard board.now.size result }
 {
-    let safe = stones_with_liberty_outside(board, colour, region.bits());
-    set_of(board.size(), &board.bits(colour).minus(&safe))
+    let safe = stones_with_liberty_outside(board, wall_colour, region.bits());
+    set_of(board.size(), &board.bits(wall_colour).minus(&safe))
 }
 
 /// The stones around the group of a stone of this colour that plays within may take, where the stones of the other colour shut the group

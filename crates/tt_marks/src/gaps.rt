@@ -1,6 +1,7 @@
 //! Stones of the other colour that close the wall around a group.
 
-ghost use Rattle.std.specs.Prelude.{◌≡◌, ◌<◌, IfSome, IfOk, IsTrue};
+ghost use Rattle.std.specs.Prelude.{◌≡◌, ℕ, ◌<◌, IfSome, IfOk, IsTrue, true};
+ghost use Rattle.std.specs.FinSet as set;
 ghost use Rattle.tt_sgf.specs.Sizes.{point_count};
 ghost use Rattle.tt_board.specs.Setup.{AllHaveLiberties};
 ghost use Rattle.tt_marks.specs.Closings.{AreClosings, AreEmptyPoints, ClosesWall, with_stones};
@@ -56,18 +57,32 @@ fn rank_of(board: &Board, colour: Colour, stones: &Bits, region: &PointSet) -> u
     beside.min(MOST_STONES as u16) * 512 + 511 - region.count().min(511)
 }
 
+/// Whether all points of a set are of another.
+fn are_among(points: &PointSet, others: &PointSet) -> bool
+    ensures { IsTrue result → (p : ℕ) → set.contains points.now p ≡ true → set.contains others.now p ≡ true }
+{
+    points.minus(others).same(&PointSet::empty())
+}
+
 /// The closing by these stones, where they close the wall around the group of a stone of this colour.
 fn closing_by(board: &Board, colour: Colour, stone: Point, stones: &Bits) -> Option<Closing>
     requires { stone < point_count board.now.size }
     ensures { IfSome result (λ m. ClosesWall board.now.size board.now.points colour stone m.stones m.region) }
 {
     let points = set_of(board.size(), stones);
+    let count = usize::from(points.count());
+    if count == 0 || count > MOST_STONES {
+        return None;
+    }
     if !are_empty(board, &points) {
         return None;
     }
     let next = board_with_stones(board, colour.other(), &points)?;
     let found = region(&next, colour, stone);
     if !found.is_closed() {
+        return None;
+    }
+    if !are_among(&points, &found.wall) {
         return None;
     }
     if !is_inner(&next, &found.points) {

@@ -25,7 +25,7 @@ mod ways;
 
 pub use danger::{stones_in_danger, wall_in_danger};
 pub use gaps::{Closing, MOST_STONES, board_with_stones, closings};
-pub use point_sets::{adjacent_points, chains, stones_of_colour};
+pub use point_sets::{chains, points_beside, stones_of_colour};
 pub use proposals::proposed_stone;
 pub use regions::{MOST_ENCLOSED_POINTS, WalledRegion, empties, group, is_inner, region};
 pub use ways::ways_out;

@@ -22,7 +22,7 @@ pub fn stones_of_colour(board: &Board, colour: Colour) -> PointSet
 }
 
 /// The points of the board beside those of a set.
-pub fn adjacent_points(size: Size, points: &PointSet) -> PointSet
+pub fn points_beside(size: Size, points: &PointSet) -> PointSet
     ensures those { (p : ℕ) → p < point_count size → Has (set.contains result) p ↔ IsBeside size (Has (set.contains points.now)) p }
     ensures on_board { IsSetOnBoard size result }
 {

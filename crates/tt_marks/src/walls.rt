@@ -1,6 +1,7 @@
 //! The group of a stone, the wall around it, and what is within.
 
 ghost use Rattle.std.specs.Prelude.{◌≡◌, ℕ, ◌<◌, ◌↔◌, None};
+ghost use Rattle.tt_sgf.specs.declared.size.Size.{Size};
 ghost use Rattle.tt_sgf.specs.Sizes.{point_count};
 ghost use Rattle.tt_sgf.specs.MachineWords.{bit_in};
 ghost use Rattle.tt_board.specs.Around.{AreOn};
@@ -35,11 +36,10 @@ pub(crate) fn empty_points(board: &Board) -> Bits
         .minus(board.bits(Colour::White))
 }
 
-/// The set of one point.
-fn alone(size: Size, point: Point) -> Bits
-    requires { point < point_count size }
-    ensures those { (p : ℕ) → p < point_count size → Has (bit_in result.words) p ↔ (p ≡ point) }
-    ensures on_board { AreOn size result.words }
+/// The set of one point, which is on each board that has it.
+fn alone(point: Point) -> Bits
+    ensures those { (size : Size) (p : ℕ) → p < point_count size → Has (bit_in result.words) p ↔ (p ≡ point) }
+    ensures on_board { (size : Size) → point < point_count size → AreOn size result.words }
 {
     let mut made = Bits::none();
     made.set(usize::from(point.number()));
@@ -52,11 +52,7 @@ pub(crate) fn group_bits(board: &Board, colour: Colour, stone: Point) -> Bits
     ensures those { (p : ℕ) → p < point_count board.now.size → Has (bit_in result.words) p ↔ IsOfGroup board.now.size board.now.points colour stone p }
     ensures on_board { AreOn board.now.size result.words }
 {
-    reached(
-        board.size(),
-        board.bits(colour),
-        &alone(board.size(), stone),
-    )
+    reached(board.size(), board.bits(colour), &alone(stone))
 }
 
 /// What is reached from a point without passing one of these stones.
@@ -65,16 +61,16 @@ pub(crate) fn within(size: Size, stones: &Bits, point: Point) -> Bits
     ensures those { (p : ℕ) → p < point_count size → Has (bit_in result.words) p ↔ IsWithin size point (bit_in stones.now.words) p }
     ensures on_board { AreOn size result.words }
 {
-    reached(size, &whole(size).minus(stones), &alone(size, point))
+    reached(size, &whole(size).minus(stones), &alone(point))
 }
 
-/// The stones of a colour whose chains have a liberty that isn't inside.
-pub(crate) fn stones_with_liberty_outside(board: &Board, colour: Colour, inside: &Bits) -> Bits
+/// The stones of a wall's colour whose chains have a liberty that isn't inside.
+pub(crate) fn stones_with_liberty_outside(board: &Board, wall_colour: Colour, inside: &Bits) -> Bits
     ensures those { (p : ℕ) → p < point_count board.now.size → Has (bit_in result.words) p
-        ↔ HasOuterLiberty board.now.size board.now.points colour (Has (bit_in inside.now.words)) p }
+        ↔ HasOuterLiberty board.now.size board.now.points wall_colour (Has (bit_in inside.now.words)) p }
     ensures on_board { AreOn board.now.size result.words }
 {
-    let stones = board.bits(colour);
+    let stones = board.bits(wall_colour);
     let liberties = empty_points(board).minus(inside);
     reached(
         board.size(),

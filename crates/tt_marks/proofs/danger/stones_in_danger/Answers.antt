@@ -13,9 +13,9 @@ use Rattle.tt_marks.proofs.danger.stones_in_danger.Goals as goal
 pub returns-clause-those : goal.returns-clause-those
 returns-clause-those c p in_p =
     let s = c.args.board.now.size in
-    has_of_set {X = HasStone s c.args.board.now.points c.args.colour p × (HasOuterLiberty s c.args.board.now.points c.args.colour (Has (set.contains c.args.region.now)) p → ⊥)}
+    has_of_set {X = HasStone s c.args.board.now.points c.args.wall_colour p × (HasOuterLiberty s c.args.board.now.points c.args.wall_colour (Has (set.contains c.args.region.now)) p → ⊥)}
     (bit_in c.minus.result.words) (point_count s) p c.set_of.result (rw c.size.ensures.value at c.set_of.ensures) in_p
-    (danger_is s c.args.board.now.points c.args.colour (Has (set.contains c.args.region.now)) c.bits-2.result.now.words c.bits.result.now.words
+    (danger_is s c.args.board.now.points c.args.wall_colour (Has (set.contains c.args.region.now)) c.bits-2.result.now.words c.bits.result.now.words
     c.stones_with_liberty_outside-safe.result.words c.minus.result.words c.bits-2.ensures c.stones_with_liberty_outside-safe.ensures.those
     (λ r in_r. let e = c.bits.ensures.below r (omega (arith, in_r, point_count_is_bounded s)) (small s r in_r) in (λ h. sym e ∙ h, λ h. e ∙ h)) c.minus.ensures p in_p)
 

@@ -7,4 +7,4 @@ reached-requires-clause-free c = rw c.size.ensures.value (stones_on c.args.board
 pub returns-clause-those : goal.returns-clause-those
 returns-clause-those c =
     group_is c.args.board.now.size c.args.board.now.points c.args.colour c.args.stone c.bits.result.now.words c.alone.result.words c.reached.result.words c.bits.ensures
-    (rw c.size-2.ensures.value at c.alone.ensures.those) (rw c.size.ensures.value at c.reached.ensures.reached)
+    (c.alone.ensures.those c.args.board.now.size) (rw c.size.ensures.value at c.reached.ensures.reached)

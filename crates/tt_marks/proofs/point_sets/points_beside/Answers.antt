@@ -7,7 +7,7 @@ use Rattle.tt_marks.specs.Reached.{Has, IsBeside}
 use Rattle.tt_marks.proofs.PointSetLemmas.{beside_is}
 use Rattle.tt_marks.proofs.ReachedLemmas.{small}
 use Rattle.tt_marks.proofs.SetLemmas.{has_of_set, passing_on_board}
-use Rattle.tt_marks.proofs.point_sets.adjacent_points.Goals as goal
+use Rattle.tt_marks.proofs.point_sets.points_beside.Goals as goal
 
 pub returns-clause-those : goal.returns-clause-those
 returns-clause-those c p in_p =
