@@ -1,8 +1,9 @@
 //! The certificate of a problem, found in this thread by df-pn or else by a search; and whether a certificate wins.
 
-ghost use Rattle.std.specs.Prelude.{◌≡◌, IfOk, IfSome, IsTrue, None, false};
+ghost use Rattle.std.specs.Prelude.{◌≡◌, ◌↔◌, IfOk, IfSome, IsTrue, None, false};
 ghost use Rattle.tt_game.specs.Game.{winner_of};
 ghost use Rattle.tt_game.specs.GameLaws.{IsWellFormedState};
+ghost use Rattle.tt_proof.specs.CertificateText.{IsTooDeep};
 ghost use Rattle.tt_solve.specs.declared.options.CertKind.{CertKind};
 ghost use Rattle.library.specs.ValidCertificates.{IsValidCertificate};
 
@@ -52,9 +53,9 @@ pub fn certificate(alloc: Global, line: &Line, bytes: usize) -> Option<ItemList<
     }
 }
 
-/// Whether the text is the certificate of a strategy that wins at the line. The line stands as before.
+/// Whether the text is the certificate of a strategy that wins at the line and goes at most 512 turns deep. The line stands as before.
 pub fn is_valid_certificate(alloc: Global, line: &mut Line, text: &[u8]) -> Result<bool, NoMemory>
-    ensures wins { IfOk result (λ wins. IsTrue wins → IsValidCertificate line.old text.now) }
+    ensures wins { IfOk result (λ wins. IsTrue wins ↔ ((IsTooDeep line.old.frame.size text.now → ⊥) × IsValidCertificate line.old text.now)) }
     ensures same { line.new ≡ line.old }
 {
     let size = line.frame().size;
