@@ -72,6 +72,20 @@ def test_closings_as_json() -> None:
     assert {"stones": ["E19"], "verdict": "killed", "if_other_begins": "killed"} in found["closings"]
 
 
+def test_a_terminal_shows_the_verdict_before_the_answer(tmp_path: Path) -> None:
+    (tmp_path / "p1.sgf").write_text(THREE)
+    terminal, errors = os.openpty()
+    words = [sys.executable, "-B", str(ASK), "--seconds", "40", "p1.sgf"]
+    with subprocess.Popen(words, cwd=tmp_path, stdout=subprocess.PIPE, stderr=errors) as asking:
+        os.close(errors)
+        assert asking.stdout and b"These fail: " in asking.stdout.read()
+    said = os.read(terminal, 65536).decode().split("\r\033[K")
+    os.close(terminal)
+    assert asking.returncode == 0
+    assert said[:2] == ["", "p1.sgf ..."] and said[-1] == ""
+    assert re.match(r"Black begins and can kill White's group at \w+, by F9\. \(p1\.sgf", said[2])
+
+
 def test_standard_input() -> None:
     for words in (["-"], []):
         ended = ask(*words, text=TWO)

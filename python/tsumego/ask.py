@@ -12,18 +12,21 @@ import argparse
 import gc
 import json
 import os
+import shutil
 import sys
-from typing import IO, List, Optional
+from typing import IO, Callable, List, Optional, Union
 
-from .answers import REFUSED, Answer, Verdict
+from .answers import REFUSED, Answer, Turn, Verdict
 from .asking import SECONDS, answer, with_strategies
 from .command import Parser, seconds, status_of
 from .inputs import Input, UsageError, files_and_stone, read_file
+from .marking import Marked
+from .problems import Problem
 from .programs import in_parallel, program
 from .report import answer_card, page
 from .sgf import to_text, write_bytes
 from .solution import solution
-from .words import as_data, heading, said, shown
+from .words import as_data, heading, outcome, said, shown
 
 __all__ = ["main"]
 
@@ -52,7 +55,7 @@ class Asking:
         name = heading(given.file, given.number if given.count > 1 else 0, "")
         self.progress(f"{name} of {given.count} ..." if given.count > 1 else f"{name} ...")
         try:
-            found = answer(given.tree, self.stone, self.limit) if given.tree else Answer("", Verdict(REFUSED, None, "1"), why=given.fault)
+            found = answer(given.tree, self.stone, self.limit, self.tell_of(name)) if given.tree else Answer("", Verdict(REFUSED, None, "1"), why=given.fault)
         finally:
             self.progress("")
         self.is_settled = self.is_settled and found.verdict.is_settled
@@ -68,10 +71,24 @@ class Asking:
             self.out.write(write_bytes(to_text(tree)) + b"\n")
             self.out.flush()
 
+    def tell_of(self, name: str) -> Callable[[Union[Marked, Verdict, Turn]], None]:
+        """Says who wins as soon as that is known: what becomes of the other first turns can take longer."""
+        problem: Optional[Problem] = None
+
+        def tell(part: Union[Marked, Verdict, Turn]) -> None:
+            nonlocal problem
+            if isinstance(part, Marked):
+                problem = part.ways[0][1]
+            elif isinstance(part, Verdict) and part.is_settled:
+                first = (Turn(part.turn, True),) if part.turn else ()
+                self.progress(f"{outcome(Answer('', part, problem, first))} ({name}, the other moves ...)")
+
+        return tell
+
     def progress(self, words: str) -> None:
         """On a terminal one line of standard error says what is being done."""
         if sys.stderr.isatty():
-            sys.stderr.write(f"\r\033[K{words}")
+            sys.stderr.write(f"\r\033[K{words[: shutil.get_terminal_size().columns - 1]}")
             sys.stderr.flush()
 
 

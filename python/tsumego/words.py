@@ -7,7 +7,7 @@ from .board import NAMES, OTHER
 from .points import PASS
 from .problems import Problem
 
-__all__ = ["as_data", "heading", "ko_said", "listed", "refutation", "said", "shown"]
+__all__ = ["as_data", "heading", "ko_said", "listed", "outcome", "refutation", "said", "shown"]
 
 
 def listed(words: Iterable[str], last: str = "and") -> str:
@@ -83,17 +83,27 @@ def _unsettled(answer: Answer) -> str:
     )
 
 
+def outcome(answer: Answer) -> str:
+    """Who wins if the side to move begins, and by which of the first turns that are known to win."""
+    problem = answer.problem
+    assert problem
+    mover = NAMES[problem.to_move]
+    does = f"save the group at {problem.point(problem.targets[0])}" if problem.to_move == problem.defender else f"kill {group(problem)}"
+    if not answer.is_mover_winner:
+        return f"{mover} begins and can't {does}."
+    plays = [problem.point(turn) for turn in answer.winning if turn != PASS]
+    return f"{mover} begins and can {does}{', by ' + listed(plays, 'or') if plays else ''}."
+
+
 def _settled(answer: Answer) -> List[str]:
     problem = answer.problem
     assert problem and answer.if_other_begins
-    mover, other = NAMES[problem.to_move], NAMES[OTHER[problem.to_move]]
+    other = NAMES[OTHER[problem.to_move]]
     is_defender = problem.to_move == problem.defender
-    does = f"save the group at {problem.point(problem.targets[0])}" if is_defender else f"kill {group(problem)}"
     if not answer.is_mover_winner:
         stands = "It is dead as it stands." if is_defender else "It lives as it stands: it needs no move."
-        return [f"{mover} begins and can't {does}. {stands}"] + _ko(answer) + _failing(answer, other)
-    plays = [problem.point(turn) for turn in answer.winning if turn != PASS]
-    lines = [f"{mover} begins and can {does}{', by ' + listed(plays, 'or') if plays else ''}."]
+        return [f"{outcome(answer)} {stands}"] + _ko(answer) + _failing(answer, other)
+    lines = [outcome(answer)]
     if PASS in answer.winning or answer.if_other_begins.word == answer.verdict.word:
         lines.append("It lives as it stands: it needs no move." if is_defender else "It is dead as it stands.")
     lines += _ko(answer) + _failing(answer, other)
