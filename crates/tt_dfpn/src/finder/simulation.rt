@@ -23,6 +23,13 @@ use tt_board::Colour;
 /// time that they took without simulations.
 const MOST_SIMULATED_REPLIES: u32 = 60;
 
+/// A simulation: by what the twin's hash differs from the hash here, and that it ends where no more visits are left than these.
+#[derive(Clone, Copy)]
+struct Simulation {
+    change: u64,
+    reserve: u32,
+}
+
 impl Finder {
     /// By what a turn changes the hash of a position, where it takes nothing.
     fn change_by_turn(&self, mover: Colour, turn: u16) -> Option<u64> {
@@ -59,8 +66,11 @@ impl Finder {
             let Some(two) = self.change_by_turn(mover, child.turn) else {
                 continue;
             };
-            let least = visits.left.saturating_sub(MOST_SIMULATED_REPLIES);
-            if self.is_as_twin_behind(mover, child.turn, one ^ two, true, least, visits) {
+            let simulation = Simulation {
+                change: one ^ two,
+                reserve: visits.left.saturating_sub(MOST_SIMULATED_REPLIES),
+            };
+            if self.is_as_twin_behind(mover, child.turn, simulation, true, visits) {
                 list[k].numbers = WON;
             }
         }
@@ -72,21 +82,20 @@ impl Finder {
         &mut self,
         mover: Colour,
         turn: u16,
-        change: u64,
+        simulation: Simulation,
         wins: bool,
-        least: u32,
         visits: &mut VisitsLeft,
     ) -> bool
         ensures fewer { visits.new.left ≤ visits.old.left }
     {
         if turn == PASS {
-            return self.is_as_twin(mover.other(), change, wins, least, visits);
+            return self.is_as_twin(mover.other(), simulation, wins, visits);
         }
         if self.board.play(mover, turn).is_err() {
             self.stop_search();
             return false;
         }
-        let is_as_twin = self.is_as_twin(mover.other(), change, wins, least, visits);
+        let is_as_twin = self.is_as_twin(mover.other(), simulation, wins, visits);
         self.board.unplay();
         is_as_twin
     }
@@ -97,9 +106,8 @@ impl Finder {
     fn is_as_twin(
         &mut self,
         mover: Colour,
-        change: u64,
+        simulation: Simulation,
         wins: bool,
-        least: u32,
         visits: &mut VisitsLeft,
     ) -> bool
         ensures fewer { visits.new.left ≤ visits.old.left }
@@ -112,9 +120,9 @@ impl Finder {
             return (numbers.proof == 0) == wins;
         }
         if wins {
-            self.wins_as_twin(mover, hashes, change, least, visits)
+            self.wins_as_twin(mover, hashes, simulation, visits)
         } else {
-            self.loses_as_twin(mover, hashes, change, least, visits)
+            self.loses_as_twin(mover, hashes, simulation, visits)
         }
     }
 
@@ -151,20 +159,20 @@ impl Finder {
         &mut self,
         mover: Colour,
         hashes: Hashes,
-        change: u64,
-        least: u32,
+        simulation: Simulation,
         visits: &mut VisitsLeft,
     ) -> bool
         ensures fewer { visits.new.left ≤ visits.old.left }
     {
-        if visits.left <= least {
+        if visits.left <= simulation.reserve {
             return false;
         }
         visits.left -= 1;
-        let Some((turn, ends)) = self.turn_of_twin(mover, hashes.position ^ change) else {
+        let Some((turn, ends)) = self.turn_of_twin(mover, hashes.position ^ simulation.change)
+        else {
             return false;
         };
-        let wins = ends || self.is_as_twin_behind(mover, turn, change, false, least, visits);
+        let wins = ends || self.is_as_twin_behind(mover, turn, simulation, false, visits);
         if wins {
             self.keep_entry(hashes, WON, turn, 1);
         }
@@ -177,8 +185,7 @@ impl Finder {
         &mut self,
         mover: Colour,
         hashes: Hashes,
-        change: u64,
-        least: u32,
+        simulation: Simulation,
         visits: &mut VisitsLeft,
     ) -> bool
         ensures fewer { visits.new.left ≤ visits.old.left }
@@ -186,7 +193,7 @@ impl Finder {
         let mut list = self.take_list();
         let loses = self.list_turns_or_win(mover, &mut list).is_none()
             && !self.left_repeat_out
-            && self.are_all_refuted(mover, hashes, change, &mut list, least, visits);
+            && self.are_all_refuted(mover, hashes, simulation, &mut list, visits);
         self.give_list_back(list);
         if loses {
             self.keep_entry(hashes, LOST, NO_TURN, 1);
@@ -200,9 +207,8 @@ impl Finder {
         &mut self,
         mover: Colour,
         hashes: Hashes,
-        change: u64,
+        simulation: Simulation,
         list: &mut Vec<Child>,
-        least: u32,
         visits: &mut VisitsLeft,
     ) -> bool
         ensures fewer { visits.new.left ≤ visits.old.left }
@@ -216,7 +222,7 @@ impl Finder {
         for k in 0..list.len() {
             let child = list[k];
             if child.numbers.proof != 0
-                && !self.is_as_twin_behind(mover, child.turn, change, true, least, visits)
+                && !self.is_as_twin_behind(mover, child.turn, simulation, true, visits)
             {
                 return false;
             }
