@@ -46,14 +46,17 @@ fn count_visits(mut findings: Vec<Finding>, visits: &mut VisitsLeft)
     }
 }
 
-/// Who wins, by the guess of the first worker that has one.
-fn guessed_winner(findings: &[Finding]) -> Option<Side> {
+/// Who wins, by the guess of the first worker that has one. `NoMemory` where none has, and a worker had no memory.
+fn guessed_winner(findings: &[Finding]) -> Result<Option<Side>, NoMemory> {
+    let mut guess = Ok(None);
     for one in findings {
-        if one.winner.is_some() {
-            return one.winner;
+        match one.winner {
+            Ok(None) => continue,
+            Ok(Some(_)) => return one.winner,
+            Err(NoMemory) => guess = one.winner,
         }
     }
-    None
+    guess
 }
 
 impl<R: Threads + Sync> Workers<'_, R> {
@@ -101,7 +104,7 @@ impl<R: Threads + Sync> Workers<'_, R> {
         if let Some(finding) = first {
             advisor.learn(&finding, before - visits.left);
         }
-        Ok(winner)
+        winner
     }
 
     /// Who wins at the line, as the workers find: the first alone where that is soon.

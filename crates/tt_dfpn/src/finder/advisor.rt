@@ -111,14 +111,23 @@ impl Advisor {
         self.reset_board(line)
     }
 
-    /// Searches where the finder's board stands, with at most so many visits.
-    fn search(&mut self, mover: Colour, most: u32, visits: &mut VisitsLeft) -> ProofNumbers
+    /// Searches where the finder's board stands, with at most so many visits. Nobody else ends this search: what stops it is want of
+    /// memory.
+    fn search(
+        &mut self,
+        mover: Colour,
+        most: u32,
+        visits: &mut VisitsLeft,
+    ) -> Result<ProofNumbers, NoMemory>
         ensures fewer { visits.new.left ≤ visits.old.left }
     {
         let before = visits.left;
         let numbers = self.finder.search_from_board(mover, most, visits);
         self.visited = self.visited.saturating_add(before - visits.left);
-        numbers
+        if self.finder.has_stopped() {
+            return Err(NoMemory);
+        }
+        Ok(numbers)
     }
 
     /// Who wins at the line by a search of at most so many visits, if that says so.
@@ -132,7 +141,7 @@ impl Advisor {
     {
         self.follow(line)?;
         let mover = self.finder.colour_of_side(line.to_move());
-        let numbers = self.search(mover, most, visits);
+        let numbers = self.search(mover, most, visits)?;
         Ok(winner_by_numbers(numbers, line.to_move()))
     }
 
@@ -291,21 +300,21 @@ impl Advisor {
         mover: Colour,
         refused: u16,
         visits: &mut VisitsLeft,
-    ) -> Option<u16>
+    ) -> Result<Option<u16>, NoMemory>
         ensures fewer { visits.new.left ≤ visits.old.left }
     {
         let hashes = self.finder.hashes_of_position(mover);
         if refused > 0 {
             self.finder.keep_line_entry(hashes, UNKNOWN, NO_TURN);
         }
-        let numbers = self.search(mover, advice_visit_limit(self.visited), visits);
+        let numbers = self.search(mover, advice_visit_limit(self.visited), visits)?;
         if numbers.proof == 0 {
             if let Some(entry) = self.finder.find_entry(hashes) {
-                return Some(entry.best);
+                return Ok(Some(entry.best));
             }
         }
         self.note_lost_line_and_parent(line, mover);
-        None
+        Ok(None)
     }
 }
 
@@ -329,7 +338,7 @@ impl Advice for Advisor {
         if let Some(turn) = self.other_winning_turn(mover, refused) {
             return Ok(Some(turn_of(turn)));
         }
-        let found = self.search_for_turn(line, mover, refused, visits);
+        let found = self.search_for_turn(line, mover, refused, visits)?;
         Ok(found.map(turn_of))
     }
 }

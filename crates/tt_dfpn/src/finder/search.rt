@@ -419,12 +419,12 @@ impl Finder {
         }
     }
 
-    /// Ends the search that runs, where it has no memory.
+    /// Ends the search that runs: it has no memory, or another worker settled the problem.
     pub(crate) fn stop_search(&mut self) {
         self.reserve = u32::MAX;
     }
 
-    /// Whether the search that runs was ended, where it had no memory.
+    /// Whether the last search was so ended.
     #[inline(always)]
     pub(crate) fn has_stopped(&self) -> bool {
         self.reserve == u32::MAX

@@ -26,10 +26,10 @@ pub struct SharedSearch<'a> {
     prunes: bool,
 }
 
-/// What a worker found: who wins, if it knows, how many positions it visited, and how often each turn won.
+/// What a worker found: who wins, if it knows, or that it had no memory; how many positions it visited, and how often each turn won.
 #[derive(Clone, Copy)]
 pub struct Finding {
-    pub winner: Option<Side>,
+    pub winner: Result<Option<Side>, NoMemory>,
     pub visited: u32,
     pub(crate) wins: Wins,
 }
@@ -77,22 +77,21 @@ impl<'a> SharedSearch<'a> {
         })
     }
 
-    /// What the worker of a number finds within so many visits: nothing where it has no memory. The first that settles the problem ends
-    /// the searches of all.
+    /// What the worker of a number finds within so many visits. The first that settles the problem ends the searches of all.
     pub fn run_worker(&self, worker: u32, most: u32) -> Finding
         ensures { result.visited ≤ most }
     {
         match self.search_with_memory(worker, most) {
             Ok(finding) => finding,
             Err(NoMemory) => Finding {
-                winner: None,
+                winner: Err(NoMemory),
                 visited: 0,
                 wins: self.wins,
             },
         }
     }
 
-    /// The same, or that there is no memory.
+    /// The same, or that there is no memory to begin.
     fn search_with_memory(&self, worker: u32, most: u32) -> Result<Finding, NoMemory>
         ensures { IfOk result (λ f. f.visited ≤ most) }
     {
@@ -106,8 +105,13 @@ impl<'a> SharedSearch<'a> {
         if winner.is_some() {
             self.table.set_ended(true);
         }
+        let lacks_memory = finder.has_stopped() && !self.table.has_ended();
         Ok(Finding {
-            winner,
+            winner: if lacks_memory {
+                Err(NoMemory)
+            } else {
+                Ok(winner)
+            },
             visited: most - visits.left,
             wins: finder.wins,
         })
