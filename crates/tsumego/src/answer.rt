@@ -11,13 +11,13 @@ ghost use Rattle.tsumego.specs.Writing.{CommandWrites, WritesAnswer};
 
 use crate::progress::{NoProgress, Progress};
 use crate::request::Command;
-use crate::task::{TreeTask, task_of};
+use crate::task::{InputTree, TreeTask, task_of};
 use devices::{RunFault, Watched, read_input, write_bytes};
 use std::alloc::Global;
 use std::io::{Read, Write};
 use std::sync::Wait;
 use std::thread::Threads;
-use tt_sgf::{MAX_BYTES, MainLine, SgfFault, has_tree, read_tree};
+use tt_sgf::{MAX_BYTES, SgfFault, has_tree, read_tree};
 use tt_text::{TreeOutcome, check_input, line};
 
 /// One byte more than the longest input whose trees are read.
@@ -40,25 +40,23 @@ fn write_outcome_line<W: Write>(
     }
 }
 
-/// Writes what becomes of a tree by its main line, whose text has so many bytes, and says whether it was refused.
+/// Writes what becomes of a tree, and says whether it was refused.
 fn answer_tree<X: Threads + Wait + Sync, W: Write, P: Progress>(
     rt: &X,
     alloc: Global,
     task: &TreeTask,
-    number: usize,
-    main: &MainLine,
-    bytes: usize,
+    tree: &InputTree,
     writer: &mut Watched<W>,
     progress: &P,
 ) -> Result<bool, RunFault>
     requires { writer.old.failed ≡ false }
-    ensures written { WritesOutcome (MakesOutcome task.now) number main.now.nodes result (W.contents writer.old.device) (W.contents writer.new.device) }
+    ensures written { WritesOutcome (MakesOutcome task.now) tree.now.number tree.now.main.nodes result (W.contents writer.old.device) (W.contents writer.new.device) }
     ensures failed { writer.new.failed ≡ is_output_fault result }
 {
-    let Ok(outcome) = task.perform(rt, alloc, number, main, bytes, progress) else {
+    let Ok(outcome) = task.perform(rt, alloc, tree, progress) else {
         return Err(RunFault::Memory);
     };
-    write_outcome_line(alloc, writer, number, &outcome)?;
+    write_outcome_line(alloc, writer, tree.number, &outcome)?;
     Ok(outcome.is_refused())
 }
 
@@ -97,9 +95,14 @@ fn answer_trees<X: Threads + Wait + Sync, W: Write, P: Progress>(
     let mut refused = false;
     while number == 1 || has_tree(rest) {
         match read_tree(alloc, rest) {
-            Ok((main, used)) => {
-                rest = &rest[used..];
-                let bad = answer_tree(rt, alloc, task, number, &main, used, writer, progress)?;
+            Ok((main, bytes)) => {
+                rest = &rest[bytes..];
+                let tree = InputTree {
+                    number,
+                    main,
+                    bytes,
+                };
+                let bad = answer_tree(rt, alloc, task, &tree, writer, progress)?;
                 refused |= bad;
                 number += 1;
             }

@@ -13,6 +13,14 @@ use tt_sgf::{MainLine, NoMemory};
 use tt_solve::{CertKind, Options};
 use tt_text::{TreeOutcome, score, solve};
 
+/// A tree of the input: its number, its main line, and how many bytes its text has.
+#[derive(Drop)]
+pub struct InputTree {
+    pub number: usize,
+    pub main: MainLine,
+    pub bytes: usize,
+}
+
 /// What is done with each tree of an input: it is scored as a record or solved as a problem.
 #[derive(Clone, Copy, Debug)]
 pub enum TreeTask {
@@ -61,24 +69,22 @@ pub fn task_of(command: &Command) -> Option<TreeTask>
 }
 
 impl TreeTask {
-    /// What becomes of the tree with this number, whose text has so many bytes. Where it is solved, it is told how far that is.
+    /// What becomes of a tree. Where it is solved, it is told how far that is.
     pub fn perform<X: Threads + Wait + Sync, P: Progress>(
         &self,
         rt: &X,
         alloc: Global,
-        number: usize,
-        main: &MainLine,
-        bytes: usize,
+        tree: &InputTree,
         progress: &P,
     ) -> Result<TreeOutcome, NoMemory>
-        ensures { IfOk result (MakesOutcome self.now main.now.nodes) }
+        ensures { IfOk result (MakesOutcome self.now tree.now.main.nodes) }
     {
         match self {
-            TreeTask::Score => score(alloc, main),
+            TreeTask::Score => score(alloc, &tree.main),
             TreeTask::Solve(options) => {
-                progress.begin_problem(number);
-                let gate = ProblemGate::new(progress, number);
-                let outcome = solve(rt, alloc, main, *options, bytes, &gate);
+                progress.begin_problem(tree.number);
+                let gate = ProblemGate::new(progress, tree.number);
+                let outcome = solve(rt, alloc, &tree.main, *options, tree.bytes, &gate);
                 progress.end_problem(is_unsettled(&outcome));
                 outcome
             }

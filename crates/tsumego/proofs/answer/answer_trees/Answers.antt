@@ -12,13 +12,13 @@ returns-in_err-bad-in-Ok-clause-written g c =
     let goes : (c.loop-number.number ≡ 1) ⊎ HasOpeningParenthesis c.loop-number.rest.now =
     elim c.if-number-eq1.branch [ then-number-eq1 w ↦ inl w.if-number-eq1.true | else-number-eq1+then-has_tree w ↦ inr (search (rules, w.if-has_tree.true)) ] in
     let p = err_from_is_err_and c.from_residual.result c.from_residual.ensures.1 in
-    rw (p.1, p.2) (progress_fault c.loop-number.invariant.progress _ goes c.in-Ok.used found.0 c.in-Ok.main.nodes c.in_err-bad-in-Ok.field-0.0 found.1 found.2
+    rw (p.1, p.2) (progress_fault c.loop-number.invariant.progress _ goes c.in-Ok.bytes found.0 c.in-Ok.main.nodes c.in_err-bad-in-Ok.field-0.0 found.1 found.2
     c.in-Ok.ensures.within.2 c.in_err-bad-in-Ok.ensures.written)
 
 pub loop-number-smaller : goal.loop-number-smaller
 loop-number-smaller g c =
     let rest = c.loop-number.rest.now in
-    let used = c.in-Ok.used in
+    let used = c.in-Ok.bytes in
     let left : length (take (length rest - used) (drop used rest)) ≡ length rest - used = length-take-le (length rest - used) (drop used rest) (omega (arith, length-drop used rest)) in
     let within = c.in-Ok.ensures.within in
     omega (arith, left, within.0, within.1)
@@ -26,7 +26,7 @@ loop-number-smaller g c =
 pub loop-number-preserved : goal.loop-number-preserved
 loop-number-preserved g c =
     let rest = c.loop-number.rest.now in
-    let used = c.in-Ok.used in
+    let used = c.in-Ok.bytes in
     let found = c.in-Ok.ensures.found in
     let left : length (take (length rest - used) (drop used rest)) ≡ length rest - used = length-take-le (length rest - used) (drop used rest) (omega (arith, length-drop used rest)) in
     let within = c.in-Ok.ensures.within in
