@@ -1,5 +1,6 @@
 -- How a call ends: a status, how many bytes the text takes, and what stands at `out`.
 use Rattle.std.specs.Prelude.{◌≡◌, ◌<◌, ◌≤◌, ℕ, List, ◌++◌, length, drop}
+use Rattle.tsumego_c.specs.declared.statuses.TheConstants.{NO_MEMORY, NO_ROOM}
 
 -- nothing is written
 abbrev pub WritesNothing : List ℕ → List ℕ → ℕ → Type 0
@@ -12,6 +13,6 @@ pub data CallEnds (is_text : List ℕ → ℕ → Type 0) (before after : List �
       → after ≡ text ++ drop count before → CallEnds is_text before after count status
   -- it has no room there
   no_room : (text : List ℕ) (status : ℕ) → is_text text status → count ≡ length text → length before < count
-      → after ≡ before → CallEnds is_text before after count 3
+      → after ≡ before → CallEnds is_text before after count NO_ROOM
   -- memory was refused
-  no_memory : WritesNothing before after count → CallEnds is_text before after count 2
+  no_memory : WritesNothing before after count → CallEnds is_text before after count NO_MEMORY

@@ -12,6 +12,7 @@ use Rattle.tt_text.specs.declared.outcome.TreeOutcome.{TreeOutcome}
 use Rattle.tt_text.specs.declared.outcome.TreeOutcome.TheVariants.{Refused}
 use Rattle.tsumego_c.specs.declared.first_refusal.Refusal.{Refusal}
 use Rattle.tsumego_c.specs.declared.first_refusal.TheConstants.{NO_NUMBER}
+use Rattle.tsumego_c.specs.declared.statuses.TheConstants.{DONE, NO_MEMORY, REFUSED}
 use Rattle.tsumego_c.specs.First.{IsFirstTreeOutcome}
 
 -- a number, or what stands for none
@@ -66,10 +67,10 @@ pub data IsFirstTreeRefusal (is_record : Bool) (input : List ℕ) : Refusal → 
 
 -- How a call ends that is to say so: a status, and what is said.
 pub data IsExplained (is_record : Bool) (input : List ℕ) (r : Refusal) : ℕ → Type 0 where
-  taken : IsFirstTreeRefusal is_record input r → r.number ≡ 0 → IsExplained is_record input r 0
-  refused : IsFirstTreeRefusal is_record input r → r.number ≢ 0 → IsExplained is_record input r 1
+  taken : IsFirstTreeRefusal is_record input r → r.number ≡ 0 → IsExplained is_record input r DONE
+  refused : IsFirstTreeRefusal is_record input r → r.number ≢ 0 → IsExplained is_record input r REFUSED
   -- memory was refused
-  unknown : r ≡ no_refusal → IsExplained is_record input r 2
+  unknown : r ≡ no_refusal → IsExplained is_record input r NO_MEMORY
 
 -- the number of the refusal that an outcome is, or 0
 abbrev pub refused_number : TreeOutcome → ℕ

@@ -2,15 +2,10 @@
 ghost use Rattle.std.specs.Prelude.{◌≡◌, ◌<◌, ◌≤◌, ◌++◌, Ok, drop, false, length, true};
 ghost use Rattle.tsumego_c.specs.Calls.{CallEnds};
 
+use crate::statuses::{NO_MEMORY, NO_ROOM};
 use tt_sgf::NoMemory;
 
-/// The status where memory was refused.
-const NO_MEMORY: u32 = 2;
-
-/// The status where the text has no room.
-const NO_ROOM: u32 = 3;
-
-/// A text and its status: 1 where something was refused or the certificate is invalid, else 0.
+/// A text and its status: `REFUSED` where something was refused or the certificate is invalid, else `DONE`.
 #[derive(Drop)]
 pub struct TextAndStatus {
     pub bytes: Vec<u8>,

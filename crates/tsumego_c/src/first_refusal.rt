@@ -2,19 +2,13 @@
 ghost use Rattle.std.specs.Prelude.{◌≡◌, IfOk};
 ghost use Rattle.tsumego_c.specs.Refusals.{IsExplained, IsFirstTreeRefusal, main_line_refusal, no_refusal, number_or_none, refusal_by_fault, refusal_of_input};
 
+use crate::statuses::{DONE, NO_MEMORY, REFUSED};
 use std::alloc::Global;
 use tt_game::{GameFault, play_record, problem};
 use tt_sgf::{MainLine, NoMemory, SgfFault, read_tree};
 
 /// What stands for a number that there isn't.
 const NO_NUMBER: usize = usize::MAX;
-
-/// The status where nothing is refused, where something is, and where memory was.
-const TAKEN: u32 = 0;
-
-const REFUSED: u32 = 1;
-
-const NO_MEMORY: u32 = 2;
 
 /// A refusal, and where it was found. Each number but the first is the largest one where there is none.
 #[repr(C)]
@@ -110,7 +104,7 @@ pub fn explain(alloc: Global, sgf: &[u8], is_record: bool, refusal: &mut Refusal
     match first_tree_refusal(alloc, sgf, is_record) {
         Ok(found) => {
             *refusal = found;
-            if found.number == 0 { TAKEN } else { REFUSED }
+            if found.number == 0 { DONE } else { REFUSED }
         }
         Err(NoMemory) => {
             *refusal = refusal_of_input(0);

@@ -7,6 +7,7 @@ ghost use Rattle.tt_text.specs.Trees.{outcome_line, status_of};
 ghost use Rattle.tsumego_c.specs.First.{IsFirstTreeOutcome, IsFirstTreeText};
 
 use crate::caller_buffer::TextAndStatus;
+use crate::statuses::{DONE, REFUSED};
 use std::alloc::Global;
 use tt_sgf::{NoMemory, SgfFault, read_tree};
 use tt_solve::Options;
@@ -40,7 +41,7 @@ fn text_and_status_of(alloc: Global, outcome: &TreeOutcome) -> Result<TextAndSta
     ensures { IfOk result (λ t. (t.bytes.items ≡ outcome_line 1 outcome.now) × (t.status ≡ status_of (outcome.now ∷ []))) }
 {
     let bytes = line(alloc, 1, outcome)?;
-    let status = if outcome.is_refused() { 1 } else { 0 };
+    let status = if outcome.is_refused() { REFUSED } else { DONE };
     Ok(TextAndStatus { bytes, status })
 }
 

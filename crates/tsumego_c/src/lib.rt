@@ -7,6 +7,7 @@
 //! | `first_tree_text` | the answer for the first tree of an input, without threads |
 //! | `first_refusal` | where the first tree of an input is refused |
 //! | `caller_buffer` | hands a text to the caller |
+//! | `statuses` | the statuses of calls |
 //! | `laws` | the answer is that of a run of the program |
 #![tactic(auto)]
 
@@ -15,11 +16,13 @@ mod caller_buffer;
 mod first_refusal;
 mod first_tree_text;
 pub mod laws;
+mod statuses;
 
 ghost use Rattle.std.specs.Prelude.{◌≡◌, ◌≢◌};
 ghost use Rattle.tt_text.specs.Checking.{IsCheckText};
 ghost use Rattle.tt_text.specs.Scoring.{Scores};
 ghost use Rattle.tsumego_c.specs.Calls.{CallEnds, WritesNothing};
+ghost use Rattle.tsumego_c.specs.declared.statuses.TheConstants.{BAD_OPTION, DONE};
 ghost use Rattle.tsumego_c.specs.First.{IsFirstTreeText};
 ghost use Rattle.tsumego_c.specs.Options.{AreInRange, IsSolveText};
 ghost use Rattle.tsumego_c.specs.Refusals.{IsExplained};
@@ -30,11 +33,9 @@ use caller_buffer::{hand_over, hand_over_text};
 pub use first_refusal::Refusal;
 use first_refusal::explain;
 use first_tree_text::{check_text, score_text, solve_text};
+use statuses::{BAD_OPTION, DONE};
 use std::alloc::Global;
 use tt_text::reason_of_refusal;
-
-/// The status where an option is out of its range.
-const BAD_OPTION: u32 = 4;
 
 /// Scores the record that is the first tree of an input.
 #[unsafe(no_mangle)]
@@ -105,7 +106,7 @@ pub extern "C" fn tsumego_c_explain(
 /// Hands over the words of the refusal with this number: no byte where no refusal has it.
 #[unsafe(no_mangle)]
 pub extern "C" fn tsumego_c_reason(number: u8, out: &mut [u8], taken: &mut usize) -> u32
-    ensures { CallEnds (λ _ status. status ≡ 0) out.old out.new taken.new result }
+    ensures { CallEnds (λ _ status. status ≡ DONE) out.old out.new taken.new result }
 {
-    hand_over_text(reason_of_refusal(number), 0, out, taken)
+    hand_over_text(reason_of_refusal(number), DONE, out, taken)
 }
