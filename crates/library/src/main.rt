@@ -8,15 +8,16 @@ ghost use Rattle.std.specs.Prelude.{◌≡◌, IfSome, None};
 ghost use Rattle.tt_game.specs.Game.{winner_of};
 ghost use Rattle.tt_game.specs.GameLaws.{IsWellFormedState};
 
+use devices::{Watched, read_input};
 use solving::{certificate, is_valid_certificate};
 use std::alloc::Global;
-use std::io::{self, Read, Write};
+use std::io::{self, Write};
 use std::process::ExitCode;
 use tt_game::{Line, problem};
-use tt_sgf::{ItemList, MainLine, read_tree};
+use tt_sgf::{ItemList, MAX_BYTES, MainLine, read_tree};
 
-/// Bytes of standard input that are looked at.
-const MOST_INPUT_BYTES: usize = 65_536;
+/// One byte more than a text of game trees may have tells that it is too long.
+const MOST_READ: usize = MAX_BYTES + 1;
 
 /// The line of the problem that a main line is.
 fn problem_line(alloc: Global, main: &MainLine) -> Option<Line>
@@ -41,9 +42,11 @@ fn solve_and_check(alloc: Global, input: &[u8]) -> Option<ItemList<u8>> {
 }
 
 fn main(rt: HostRuntime) -> io::Result<ExitCode> {
-    let mut input = [0u8; MOST_INPUT_BYTES];
-    let count = rt.stdin().read(&mut input)?;
-    match solve_and_check(rt.alloc(), &input[..count]) {
+    let mut reader = Watched::new(rt.stdin());
+    let Ok(input) = read_input(rt.alloc(), &mut reader, MOST_READ) else {
+        return Ok(ExitCode::from(2));
+    };
+    match solve_and_check(rt.alloc(), input.as_slice()) {
         Some(text) => {
             rt.stdout().write_all(text.as_slice())?;
             println!(rt; "")?;
