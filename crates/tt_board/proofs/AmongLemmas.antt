@@ -56,7 +56,7 @@ module _ (b : ChainBoard) (k : Colour) (is : IsChainBoard b) (given points near 
       ]
 
   -- those whose chain has one liberty
-  module _ (last : List ℕ) (last_is : (q : ℕ) → q < BITS → (bit_in last q ≡ true) ↔ ((bit_in stones q ≡ true) × (name_at b.liberties (root_of (name_at b.names q)) ≡ 1))) where
+  module _ (last : List ℕ) (last_is : (q : ℕ) → q < BITS → (bit_in last q ≡ true) ↔ ((bit_in stones q ≡ true) × (name_at b.counts.liberties (root_of (name_at b.counts.names q)) ≡ 1))) where
     pub last_on : AreOn b.size last
     last_on q past lt = off_if (bit_in last q) (λ on. let at = (stones_on q lt ((last_is q lt).0 on).0).0 in omega (arith, at, past))
 
@@ -70,14 +70,14 @@ module _ (b : ChainBoard) (k : Colour) (is : IsChainBoard b) (given points near 
         let at = bare p lt g.0 in
         let way = (near_is p at.0).0 g.1 in
         let free_way = bare way.0 (small way.0 way.1.0) way.2 in
-        let touch : Touches b.size b.names 0 p = (way.0, way.1.0, (way.1, named_bare _ _ (is.named.named way.0) free_way.2)) in
-        let strong : (m : ℕ) → Touches b.size b.names m p → m / 512 ≡ colour_number (other k) → name_at b.liberties (root_of m) ≢ 1 = λ m t code one.
+        let touch : Touches b.size b.counts.names 0 p = (way.0, way.1.0, (way.1, named_bare _ _ (is.named.named way.0) free_way.2)) in
+        let strong : (m : ℕ) → Touches b.size b.counts.names m p → m / 512 ≡ colour_number (other k) → name_at b.counts.liberties (root_of m) ≢ 1 = λ m t code one.
         let back = near_back b.size p t.0 at.0 t.2.0 in
         let mine : entry_at b.points t.0 ≡ Some (other k) = code_colour _ _ (other k) (is.named.named t.0) (ap (λ x. x / 512) t.2.1 ∙ code) in
         let beside = (near_is t.0 t.1).1 (p, back, g.0) in
         let stone : bit_in theirs t.0 ≡ true = their_stones.below t.0 (omega (arith, t.1, is.fits)) (small t.0 t.1) ∙ own_stone _ (other k) mine in
         let among = stones_is t.0 (small t.0 t.1) ∙ and_from _ _ beside stone in
-        let weak = (last_is t.0 (small t.0 t.1)).1 (among, ap (λ x. name_at b.liberties (root_of x)) t.2.1 ∙ one) in
+        let weak = (last_is t.0 (small t.0 t.1)).1 (among, ap (λ x. name_at b.counts.liberties (root_of x)) t.2.1 ∙ one) in
         true≢false (sym ((around_is p at.0).1 (t.0, t.2.0, weak)) ∙ not-true _ h.1) in
         (at.1, put_no_capture b k p is at.0 at.2 strong 0 touch (inl refl))
 

@@ -8,11 +8,11 @@ use Rattle.tt_sgf.specs.declared.size.Size.{Size}
 use Rattle.tt_sgf.specs.Sizes.{point_count}
 use Rattle.tt_board.specs.Position.{Colouring}
 use Rattle.tt_board.specs.Reach.{entry_at}
-use Rattle.tt_board.specs.inside.Chains.{name_at, root_of, Touches, touching, liberty_count, stone_count, renamed, OtherChainsRooted, OtherChainsCounted}
+use Rattle.tt_board.specs.inside.Chains.{name_at, root_of, Touches, touching, liberty_count, stone_count, renamed, IsLiving, OtherChainsRooted, OtherChainsCounted, HasLost}
 use Rattle.tt_board.specs.Decided.{decision_test, decision_test_is_exact}
 use Rattle.tt_board.proofs.NameLemmas.{count_emptied, at_p, off_p, liberty_count_le}
 use Rattle.tt_board.proofs.StartLemmas.{away}
-use Rattle.tt_board.proofs.JoinLemmas.{IsPartly, partly_more, partly_kept, partly_whole, stones_fewer, none_stones}
+use Rattle.tt_board.proofs.JoinLemmas.{IsPartly, partly_more, partly_kept, partly_whole, stones_fewer, none_stones, one_renamed, root_below, root_on_board, name_renamed, renamed_is}
 
 -- a stone of chain e on p is taken off
 module _ (s : Size) (ns : List ℕ) (p e : ℕ) (in_p : p < point_count s) (wide : p < length ns) (living : e ≢ 0) (stone : name_at ns p ≡ e) (rooted : OtherChainsRooted ns e) where
@@ -126,6 +126,24 @@ module _ (s : Size) (old : List ℕ) (before : Colouring) (e : ℕ) (ns : List �
 
   pub released_gone : (q : ℕ) → name_at old q ≡ e → entry_at after q ≡ None
   released_gone q was = r.gone q was (no_more q)
+
+-- a chain of one stone is lost with that on its root
+pub lone_lost : (s : Size) (ns : List ℕ) (e : ℕ) (d : Colouring) → length d ≡ point_count s → ((q : ℕ) → point_count s ≤ q → name_at ns q ≡ 0) → IsLiving ns e → stone_count ns e ≡ 1
+    → HasLost ns e d (set d (root_of e) None)
+lone_lost s ns e d fits ends (living, rooted) one =
+    let p = root_of e in
+    let whole = one_renamed ns e 0 living living (root_below ns e living rooted) rooted one in
+    record {
+      fits = length-set d p None;
+      gone = λ q is. elim (cases_eq q p) [
+        | inl same ↦ ap (entry_at (set d p None)) same ∙ get_or-set_same d p None None (subst (λ n. p < n) (sym fits) (root_on_board s ns e ends living rooted))
+        | inr apart ↦ absurd (living (sym is ∙ sym (get_or-set_other ns p q 0 0 apart) ∙ ap (λ xs. name_at xs q) whole ∙ name_renamed e 0 ns q living ∙ renamed_is e 0 _ is))
+      ];
+      kept = λ q other. elim (cases_eq q p) [
+        | inl same ↦ absurd (other (ap (name_at ns) same ∙ rooted))
+        | inr apart ↦ get_or-set_other d p q None None apart
+      ];
+    }
 
 -- ---- the stones of a chain from a point on
 

@@ -10,7 +10,8 @@ use Rattle.tt_sgf.specs.declared.size.Size.{Size}
 use Rattle.tt_sgf.specs.Sizes.{point_count}
 use Rattle.tt_board.specs.Position.{Colouring}
 use Rattle.tt_board.specs.Reach.{entry_at}
-use Rattle.tt_board.specs.inside.Chains.{AreLinked, name_at, root_of, IsNamed, touching, is_liberty, liberty_count, stone_count, renamed, AreCounted, AreNamesBut, AreGathered, Touches}
+use Rattle.tt_board.specs.declared.counted.chain_counts.ChainCounts.{ChainCounts}
+use Rattle.tt_board.specs.inside.Chains.{AreLinked, name_at, root_of, IsNamed, touching, is_liberty, liberty_count, stone_count, renamed, IsLiving, AreCounted, AreNamesBut, AreGathered, Touches}
 use Rattle.tt_board.specs.Decided.{decision_test}
 use Rattle.tt_board.specs.declared.counted.play_kind.TheConstants.{OFF_BOARD_NAME}
 use Rattle.tt_board.proofs.CountLemmas.{same_decided, count_same}
@@ -233,68 +234,76 @@ root_on_board s ns e ends living rooted = elim (cases_lt (root_of e) (point_coun
 pub roots_apart : (ns : List ℕ) (e f : ℕ) → name_at ns (root_of e) ≡ e → name_at ns (root_of f) ≡ f → e ≢ f → root_of e ≢ root_of f
 roots_apart ns e f re rf apart same = apart (sym re ∙ ap (name_at ns) same ∙ rf)
 
+-- the count of a living chain's stones is true
+pub living_stones : (s : Size) (k : ChainCounts) (e : ℕ) → AreCounted s k → IsLiving k.names e → name_at k.stones (root_of e) ≡ stone_count k.names e
+living_stones s k e counted (living, rooted) = subst (λ m. name_at k.stones (root_of m) ≡ stone_count k.names m) rooted (counted.stones_true (root_of e) (λ z. living (sym rooted ∙ z)))
+
 -- the counts are true again when one chain takes another's name
-module _ (s : Size) (ns stones liberties : List ℕ) (a b gained : ℕ) (counted : AreCounted s ns stones liberties) (living_a : a ≢ 0) (living_b : b ≢ 0) (apart : a ≢ b)
-    (root_a : name_at ns (root_of a) ≡ a) (root_b : name_at ns (root_of b) ≡ b) (few : length stones ≡ length ns) (also : length liberties ≡ length ns)
-    (gain : liberty_count s (map (renamed a b) ns) b ≡ liberty_count s ns b + gained) where
+module _ (s : Size) (k : ChainCounts) (a b gained : ℕ) (counted : AreCounted s k) (living_a : a ≢ 0) (living_b : b ≢ 0) (apart : a ≢ b)
+    (root_a : name_at k.names (root_of a) ≡ a) (root_b : name_at k.names (root_of b) ≡ b)
+    (gain : liberty_count s (map (renamed a b) k.names) b ≡ liberty_count s k.names b + gained) where
   -- what stands at the two roots is true
-  counts_stones : name_at stones (root_of a) ≡ stone_count ns a
-  counts_stones = subst (λ e. name_at stones (root_of e) ≡ stone_count ns e) root_a (counted.stones_true (root_of a) (λ e. living_a (sym root_a ∙ e)))
+  counts_stones : name_at k.stones (root_of a) ≡ stone_count k.names a
+  counts_stones = living_stones s k a counted (living_a, root_a)
 
-  to_stones : name_at stones (root_of b) ≡ stone_count ns b
-  to_stones = subst (λ e. name_at stones (root_of e) ≡ stone_count ns e) root_b (counted.stones_true (root_of b) (λ e. living_b (sym root_b ∙ e)))
+  to_stones : name_at k.stones (root_of b) ≡ stone_count k.names b
+  to_stones = living_stones s k b counted (living_b, root_b)
 
-  to_liberties : name_at liberties (root_of b) ≡ liberty_count s ns b
-  to_liberties = subst (λ e. name_at liberties (root_of e) ≡ liberty_count s ns e) root_b (counted.liberties_true (root_of b) (λ e. living_b (sym root_b ∙ e)))
+  to_liberties : name_at k.liberties (root_of b) ≡ liberty_count s k.names b
+  to_liberties = subst (λ e. name_at k.liberties (root_of e) ≡ liberty_count s k.names e) root_b (counted.liberties_true (root_of b) (λ e. living_b (sym root_b ∙ e)))
 
   -- the joined chain's counts
-  pub joined_stones : name_at stones (root_of b) + name_at stones (root_of a) ≡ stone_count (map (renamed a b) ns) b
-  joined_stones = omega (arith, counts_stones, to_stones, stones_joined a b ns apart)
+  pub joined_stones : name_at k.stones (root_of b) + name_at k.stones (root_of a) ≡ stone_count (map (renamed a b) k.names) b
+  joined_stones = omega (arith, counts_stones, to_stones, stones_joined a b k.names apart)
 
-  pub joined_liberties : name_at liberties (root_of b) + gained ≡ liberty_count s (map (renamed a b) ns) b
+  pub joined_liberties : name_at k.liberties (root_of b) + gained ≡ liberty_count s (map (renamed a b) k.names) b
   joined_liberties = omega (arith, to_liberties, gain)
 
   -- a living name is the joined chain's, or that of another chain as before
-  which : (p : ℕ) → name_at (map (renamed a b) ns) p ≢ 0
-      → (name_at (map (renamed a b) ns) p ≡ b) ⊎ ((name_at (map (renamed a b) ns) p ≡ name_at ns p) × (name_at ns p ≢ a) × (name_at ns p ≢ b))
-  which p living = elim (cases_eq (name_at ns p) a) [
-    | inl at ↦ inl (name_renamed a b ns p living_a ∙ renamed_is a b _ at)
+  which : (p : ℕ) → name_at (map (renamed a b) k.names) p ≢ 0
+      → (name_at (map (renamed a b) k.names) p ≡ b) ⊎ ((name_at (map (renamed a b) k.names) p ≡ name_at k.names p) × (name_at k.names p ≢ a) × (name_at k.names p ≢ b))
+  which p living = elim (cases_eq (name_at k.names p) a) [
+    | inl at ↦ inl (name_renamed a b k.names p living_a ∙ renamed_is a b _ at)
     | inr away ↦
-        let same = name_renamed a b ns p living_a ∙ renamed_not a b _ away in
-        elim (cases_eq (name_at ns p) b) [ inl is ↦ inl (same ∙ is) | inr isnt ↦ inr (same, away, isnt) ]
+        let same = name_renamed a b k.names p living_a ∙ renamed_not a b _ away in
+        elim (cases_eq (name_at k.names p) b) [ inl is ↦ inl (same ∙ is) | inr isnt ↦ inr (same, away, isnt) ]
   ]
 
   -- with them all counts are true
-  pub counted_joined : AreCounted s (map (renamed a b) ns) (set stones (root_of b) (name_at stones (root_of b) + name_at stones (root_of a)))
-      (set liberties (root_of b) (name_at liberties (root_of b) + gained))
-  counted_joined =
-      let new = map (renamed a b) ns in
-      let in_b = root_below ns b living_b root_b in
+  pub counted_joined : length k.stones ≡ length k.names → length k.liberties ≡ length k.names → AreCounted s (record {
+    names = map (renamed a b) k.names;
+    stones = set k.stones (root_of b) (name_at k.stones (root_of b) + name_at k.stones (root_of a));
+    liberties = set k.liberties (root_of b) (name_at k.liberties (root_of b) + gained);
+  })
+  counted_joined few also =
+      let new = map (renamed a b) k.names in
+      let in_b = root_below k.names b living_b root_b in
       record {
+        ends = λ q past. name_renamed a b k.names q living_a ∙ renamed_not a b _ (λ e. living_a (sym e ∙ counted.ends q past)) ∙ counted.ends q past;
         rooted = λ p living. elim (which p living) [
-          | inl is ↦ subst (λ e. name_at new (root_of e) ≡ e) (sym is) (name_renamed a b ns (root_of b) living_a ∙ renamed_not a b _ (λ e. apart (sym e ∙ root_b)) ∙ root_b)
+          | inl is ↦ subst (λ e. name_at new (root_of e) ≡ e) (sym is) (name_renamed a b k.names (root_of b) living_a ∙ renamed_not a b _ (λ e. apart (sym e ∙ root_b)) ∙ root_b)
           | inr (same, away, isnt) ↦
               let old = counted.rooted p (λ e. living (same ∙ e)) in
               subst (λ e. name_at new (root_of e) ≡ e) (sym same)
-              (name_renamed a b ns (root_of (name_at ns p)) living_a ∙ renamed_not a b _ (λ e. away (sym old ∙ e)) ∙ old)
+              (name_renamed a b k.names (root_of (name_at k.names p)) living_a ∙ renamed_not a b _ (λ e. away (sym old ∙ e)) ∙ old)
         ];
         stones_true = λ p living. elim (which p living) [
-          | inl is ↦ subst (λ e. name_at (set stones (root_of b) (name_at stones (root_of b) + name_at stones (root_of a))) (root_of e) ≡ stone_count new e) (sym is)
-              (get_or-set_same stones (root_of b) _ 0 (omega (arith, in_b, few)) ∙ joined_stones)
+          | inl is ↦ subst (λ e. name_at (set k.stones (root_of b) (name_at k.stones (root_of b) + name_at k.stones (root_of a))) (root_of e) ≡ stone_count new e) (sym is)
+              (get_or-set_same k.stones (root_of b) _ 0 (omega (arith, in_b, few)) ∙ joined_stones)
           | inr (same, away, isnt) ↦
-              let some : name_at ns p ≢ 0 = λ e. living (same ∙ e) in
-              subst (λ e. name_at (set stones (root_of b) (name_at stones (root_of b) + name_at stones (root_of a))) (root_of e) ≡ stone_count new e) (sym same)
-              (get_or-set_other stones (root_of b) (root_of (name_at ns p)) _ 0 (roots_apart ns (name_at ns p) b (counted.rooted p some) root_b isnt)
-              ∙ counted.stones_true p some ∙ sym (stones_others a b (name_at ns p) ns away isnt))
+              let some : name_at k.names p ≢ 0 = λ e. living (same ∙ e) in
+              subst (λ e. name_at (set k.stones (root_of b) (name_at k.stones (root_of b) + name_at k.stones (root_of a))) (root_of e) ≡ stone_count new e) (sym same)
+              (get_or-set_other k.stones (root_of b) (root_of (name_at k.names p)) _ 0 (roots_apart k.names (name_at k.names p) b (counted.rooted p some) root_b isnt)
+              ∙ counted.stones_true p some ∙ sym (stones_others a b (name_at k.names p) k.names away isnt))
         ];
         liberties_true = λ p living. elim (which p living) [
-          | inl is ↦ subst (λ e. name_at (set liberties (root_of b) (name_at liberties (root_of b) + gained)) (root_of e) ≡ liberty_count s new e) (sym is)
-              (get_or-set_same liberties (root_of b) _ 0 (omega (arith, in_b, also)) ∙ joined_liberties)
+          | inl is ↦ subst (λ e. name_at (set k.liberties (root_of b) (name_at k.liberties (root_of b) + gained)) (root_of e) ≡ liberty_count s new e) (sym is)
+              (get_or-set_same k.liberties (root_of b) _ 0 (omega (arith, in_b, also)) ∙ joined_liberties)
           | inr (same, away, isnt) ↦
-              let some : name_at ns p ≢ 0 = λ e. living (same ∙ e) in
-              subst (λ e. name_at (set liberties (root_of b) (name_at liberties (root_of b) + gained)) (root_of e) ≡ liberty_count s new e) (sym same)
-              (get_or-set_other liberties (root_of b) (root_of (name_at ns p)) _ 0 (roots_apart ns (name_at ns p) b (counted.rooted p some) root_b isnt)
-              ∙ counted.liberties_true p some ∙ sym (liberties_others s a b (name_at ns p) ns living_a living_b away isnt))
+              let some : name_at k.names p ≢ 0 = λ e. living (same ∙ e) in
+              subst (λ e. name_at (set k.liberties (root_of b) (name_at k.liberties (root_of b) + gained)) (root_of e) ≡ liberty_count s new e) (sym same)
+              (get_or-set_other k.liberties (root_of b) (root_of (name_at k.names p)) _ 0 (roots_apart k.names (name_at k.names p) b (counted.rooted p some) root_b isnt)
+              ∙ counted.liberties_true p some ∙ sym (liberties_others s a b (name_at k.names p) k.names living_a living_b away isnt))
         ];
       }
 

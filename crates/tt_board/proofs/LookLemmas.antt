@@ -93,10 +93,10 @@ emptied_kept s test c q fits off = elim (cases_lt q (point_count s)) [
 
 -- what a play of colour k on p does: the chains that go, and whether it is suicide
 pub record IsLook (b : ChainBoard) (k : Colour) (p : ℕ) (chains : List ℕ) (ends : Bool) : Type 0 where
-  pub goes : (q : ℕ) → entry_at b.points q ≢ None → (entry_at (play_of b.size b.points k p) q ≡ None) ↔ Contains chains (name_at b.names q)
+  pub goes : (q : ℕ) → entry_at b.points q ≢ None → (entry_at (play_of b.size b.points k p) q ≡ None) ↔ Contains chains (name_at b.counts.names q)
   pub suicide : IsTrue ends ↔ (entry_at (play_of b.size b.points k p) p ≡ None)
   pub once : IsEachOnce chains
-  pub living : (m : ℕ) → Contains chains m → (m ≢ 0) × (name_at b.names (root_of m) ≡ m)
+  pub living : (m : ℕ) → Contains chains m → (m ≢ 0) × (name_at b.counts.names (root_of m) ≡ m)
 
 module _ (b : ChainBoard) (k : Colour) (p : ℕ) (is : IsChainBoard b) (in_p : p < point_count b.size) (free : entry_at b.points p ≡ None) where
   -- the stone stands on p, and all else is as it was
@@ -106,7 +106,7 @@ module _ (b : ChainBoard) (k : Colour) (p : ℕ) (is : IsChainBoard b) (in_p : p
   off : (q : ℕ) → q ≢ p → entry_at (set b.points p (Some k)) q ≡ entry_at b.points q
   off q apart = get_or-set_other b.points p q (Some k) None apart
 
-  bare_p : name_at b.names p ≡ 0
+  bare_p : name_at b.counts.names p ≡ 0
   bare_p = named_bare _ _ (is.named.named p) free
 
   -- a stone isn't on p
@@ -120,37 +120,38 @@ module _ (b : ChainBoard) (k : Colour) (p : ℕ) (is : IsChainBoard b) (in_p : p
     | inr past ↦ absurd (stone (get_or_past b.points q None (subst (λ n. n ≤ q) (sym is.fits) past)))
   ]
 
-  named_here : (q : ℕ) → name_at b.names q ≢ 0 → entry_at b.points q ≢ None
+  named_here : (q : ℕ) → name_at b.counts.names q ≢ 0 → entry_at b.points q ≢ None
   named_here q some = stone_named _ _ (is.named.named q) some
 
   -- p is a liberty of each chain beside it
-  liberty_p : (m : ℕ) → Touches b.size b.names m p → is_liberty b.size b.names m p ≡ true
-  liberty_p m t = and_from _ _ (eq-eqb (name_at b.names p) 0 bare_p) ((decision_test_is_exact (touching b.size b.names m p)).1 t)
+  liberty_p : (m : ℕ) → Touches b.size b.counts.names m p → is_liberty b.size b.counts.names m p ≡ true
+  liberty_p m t = and_from _ _ (eq-eqb (name_at b.counts.names p) 0 bare_p) ((decision_test_is_exact (touching b.size b.counts.names m p)).1 t)
 
   -- where p is a chain's one liberty, no other point beside it is empty
-  one_liberty : (m x q : ℕ) → Touches b.size b.names m p → liberty_count b.size b.names m ≡ 1 → m ≢ 0 → name_at b.names x ≡ m → IsNeighbour b.size x q → q ≢ p → entry_at b.points q ≢ None
+  one_liberty : (m x q : ℕ) → Touches b.size b.counts.names m p → liberty_count b.size b.counts.names m ≡ 1 → m ≢ 0
+      → name_at b.counts.names x ≡ m → IsNeighbour b.size x q → q ≢ p → entry_at b.points q ≢ None
   unfolding liberty_count
   one_liberty m x q t one some of near apart bare =
       let in_x = on_board x (named_here x (λ z. some (sym of ∙ z))) in
-      let also : is_liberty b.size b.names m q ≡ true = and_from _ _ (eq-eqb (name_at b.names q) 0 (named_bare _ _ (is.named.named q) bare))
-      ((decision_test_is_exact (touching b.size b.names m q)).1 (x, in_x, (near_back b.size x q in_x near, of))) in
-      let two = two_counted (is_liberty b.size b.names m) (point_count b.size) p q in_p near.0 apart (liberty_p m t) also in
+      let also : is_liberty b.size b.counts.names m q ≡ true = and_from _ _ (eq-eqb (name_at b.counts.names q) 0 (named_bare _ _ (is.named.named q) bare))
+      ((decision_test_is_exact (touching b.size b.counts.names m q)).1 (x, in_x, (near_back b.size x q in_x near, of))) in
+      let two = two_counted (is_liberty b.size b.counts.names m) (point_count b.size) p q in_p near.0 apart (liberty_p m t) also in
       omega (arith, one, two)
 
   -- a chain beside p has p as a liberty
-  some_liberty : (m : ℕ) → Touches b.size b.names m p → 0 < liberty_count b.size b.names m
+  some_liberty : (m : ℕ) → Touches b.size b.counts.names m p → 0 < liberty_count b.size b.counts.names m
   unfolding liberty_count
-  some_liberty m t = count_some (is_liberty b.size b.names m) (point_count b.size) p in_p (liberty_p m t)
+  some_liberty m t = count_some (is_liberty b.size b.counts.names m) (point_count b.size) p in_p (liberty_p m t)
 
   -- where it has more than that one it reaches empty with the stone put
-  more_liberties : (m x : ℕ) → Touches b.size b.names m p → liberty_count b.size b.names m ≢ 1 → m ≢ 0 → name_at b.names x ≡ m → Reaches b.size (set b.points p (Some k)) x None
+  more_liberties : (m x : ℕ) → Touches b.size b.counts.names m p → liberty_count b.size b.counts.names m ≢ 1 → m ≢ 0 → name_at b.counts.names x ≡ m → Reaches b.size (set b.points p (Some k)) x None
   unfolding liberty_count
   more_liberties m x t several some of =
       let least = some_liberty m t in
-      let f = another_counted (is_liberty b.size b.names m) (point_count b.size) p (omega (arith, least, several)) in
+      let f = another_counted (is_liberty b.size b.counts.names m) (point_count b.size) p (omega (arith, least, several)) in
       let parts = and_parts _ _ f.2 in
-      let r = (decision_test_is_exact (touching b.size b.names m f.0)).0 parts.1 in
-      let bare = bare_named _ _ (is.named.named f.0) (eqb-true (name_at b.names f.0) 0 parts.0) in
+      let r = (decision_test_is_exact (touching b.size b.counts.names m f.0)).0 parts.1 in
+      let bare = bare_named _ _ (is.named.named f.0) (eqb-true (name_at b.counts.names f.0) 0 parts.0) in
       let stone_x = named_here x (λ z. some (sym of ∙ z)) in
       let stone_r = named_here r.0 (λ z. some (sym r.2.1 ∙ z)) in
       let link = (is.named.linked x r.0 (on_board x stone_x) r.1 stone_x stone_r).0 (of ∙ sym r.2.1) in
@@ -160,23 +161,23 @@ module _ (b : ChainBoard) (k : Colour) (p : ℕ) (is : IsChainBoard b) (in_p : p
       (reaches_beside b.size (set b.points p (Some k)) None r.0 f.0 (λ none. stone_r (sym (off r.0 (elsewhere r.0 stone_r)) ∙ none)) (near_back b.size f.0 r.0 f.1 r.2.0) (off f.0 f.3 ∙ bare))
 
   -- the count of a living chain, at its root
-  counted_at : (m x : ℕ) → m ≢ 0 → name_at b.names x ≡ m → name_at b.liberties (root_of m) ≡ liberty_count b.size b.names m
-  counted_at m x some of = subst (λ y. name_at b.liberties (root_of y) ≡ liberty_count b.size b.names y) of (is.counted.liberties_true x (λ z. some (sym of ∙ z)))
+  counted_at : (m x : ℕ) → m ≢ 0 → name_at b.counts.names x ≡ m → name_at b.counts.liberties (root_of m) ≡ liberty_count b.size b.counts.names m
+  counted_at m x some of = subst (λ y. name_at b.counts.liberties (root_of y) ≡ liberty_count b.size b.counts.names y) of (is.counted.liberties_true x (λ z. some (sym of ∙ z)))
 
   -- where no chain of the opponent's beside p has one liberty
-  module _ (strong : (m : ℕ) → Touches b.size b.names m p → m / 512 ≡ colour_number (other k) → name_at b.liberties (root_of m) ≢ 1) where
+  module _ (strong : (m : ℕ) → Touches b.size b.counts.names m p → m / 512 ≡ colour_number (other k) → name_at b.counts.liberties (root_of m) ≢ 1) where
     -- each of the opponent's stones beside p reaches empty with the stone put
     theirs_reach : (q : ℕ) → IsNeighbour b.size p q → entry_at (set b.points p (Some k)) q ≡ Some (other k) → Reaches b.size (set b.points p (Some k)) q None
     theirs_reach q near' theirs =
         let apart = near_other b.size p q near' in
         let mine : entry_at b.points q ≡ Some (other k) = sym (off q apart) ∙ theirs in
-        let m = name_at b.names q in
+        let m = name_at b.counts.names q in
         let some = named_stone _ _ (is.named.named q) (λ bare. none-some (other k) (sym bare ∙ mine)) in
-        let touch : Touches b.size b.names m p = (q, near'.0, (near', refl)) in
+        let touch : Touches b.size b.counts.names m p = (q, near'.0, (near', refl)) in
         more_liberties m q touch (λ e. strong m touch (colour_code _ _ (other k) (is.named.named q) mine) (counted_at m q some refl ∙ e)) some refl
 
     -- and a point beside p is empty or an own chain there has several: the stone is put and nothing goes
-    module _ (n : ℕ) (t : Touches b.size b.names n p) (way : (n ≡ 0) ⊎ ((n / 512 ≡ colour_number k) × (name_at b.liberties (root_of n) ≢ 1))) where
+    module _ (n : ℕ) (t : Touches b.size b.counts.names n p) (way : (n ≡ 0) ⊎ ((n / 512 ≡ colour_number k) × (name_at b.counts.liberties (root_of n) ≢ 1))) where
       -- the stone reaches empty by that point or chain
       own_reaches : Reaches b.size (set b.points p (Some k)) p None
       own_reaches = elim way [
@@ -214,47 +215,47 @@ module _ (b : ChainBoard) (k : Colour) (p : ℕ) (is : IsChainBoard b) (in_p : p
         sym (play_is b.size b.points k p is.fits in_p is.alive free put b.points
         (lifted_none b.size put (other k) (length-set b.points p (Some k) ∙ is.fits)) (λ q near' theirs. inl (theirs_reach q near' theirs)) alone (λ _. inr free))
 
-  module _ (Near : ℕ → Type 0) (weak : List ℕ) (all : (m : ℕ) → Near m ↔ ((m ≢ 0) × (m ≢ 0) × Touches b.size b.names m p))
-      (last : (m : ℕ) → Contains weak m ↔ (Near m × (m / 512 ≡ colour_number (other k)) × (name_at b.liberties (root_of m) ≡ 1))) where
+  module _ (Near : ℕ → Type 0) (weak : List ℕ) (all : (m : ℕ) → Near m ↔ ((m ≢ 0) × (m ≢ 0) × Touches b.size b.counts.names m p))
+      (last : (m : ℕ) → Contains weak m ↔ (Near m × (m / 512 ≡ colour_number (other k)) × (name_at b.counts.liberties (root_of m) ≡ 1))) where
     -- the opponent's chains that go
-    weak_is : (m : ℕ) → Contains weak m → (m ≢ 0) × Touches b.size b.names m p × (m / 512 ≡ colour_number (other k)) × (liberty_count b.size b.names m ≡ 1)
+    weak_is : (m : ℕ) → Contains weak m → (m ≢ 0) × Touches b.size b.counts.names m p × (m / 512 ≡ colour_number (other k)) × (liberty_count b.size b.counts.names m ≡ 1)
     weak_is m has =
         let h = (last m).0 has in let t = (all m).0 h.0 in
         (t.0, t.2, h.1, sym (counted_at m t.2.0 t.0 t.2.2.1) ∙ h.2)
 
     -- the board with the stone, and without these
     abbrev taken : Colouring
-    taken = emptied b.size (λ q. decision_test (in_list weak (name_at b.names q))) (set b.points p (Some k))
+    taken = emptied b.size (λ q. decision_test (in_list weak (name_at b.counts.names q))) (set b.points p (Some k))
 
     put_fits : length (set b.points p (Some k)) ≡ point_count b.size
     put_fits = length-set b.points p (Some k) ∙ is.fits
 
-    taken_gone : (q : ℕ) → Contains weak (name_at b.names q) → entry_at taken q ≡ None
-    taken_gone q has = emptied_gone b.size _ (set b.points p (Some k)) q ((decision_test_is_exact (in_list weak (name_at b.names q))).1 has)
+    taken_gone : (q : ℕ) → Contains weak (name_at b.counts.names q) → entry_at taken q ≡ None
+    taken_gone q has = emptied_gone b.size _ (set b.points p (Some k)) q ((decision_test_is_exact (in_list weak (name_at b.counts.names q))).1 has)
 
-    taken_kept : (q : ℕ) → (Contains weak (name_at b.names q) → ⊥) → entry_at taken q ≡ entry_at (set b.points p (Some k)) q
-    taken_kept q none = emptied_kept b.size _ (set b.points p (Some k)) q put_fits (decision_test_is_false (in_list weak (name_at b.names q)) none)
+    taken_kept : (q : ℕ) → (Contains weak (name_at b.counts.names q) → ⊥) → entry_at taken q ≡ entry_at (set b.points p (Some k)) q
+    taken_kept q none = emptied_kept b.size _ (set b.points p (Some k)) q put_fits (decision_test_is_false (in_list weak (name_at b.counts.names q)) none)
 
     -- a stone of a chain that goes
-    weak_stone : (q : ℕ) → Contains weak (name_at b.names q) → (entry_at b.points q ≡ Some (other k)) × (q ≢ p)
+    weak_stone : (q : ℕ) → Contains weak (name_at b.counts.names q) → (entry_at b.points q ≡ Some (other k)) × (q ≢ p)
     weak_stone q has =
-        let w = weak_is (name_at b.names q) has in
+        let w = weak_is (name_at b.counts.names q) has in
         let stone = named_here q w.0 in
         (code_colour _ _ (other k) (is.named.named q) w.2, elsewhere q stone)
 
     -- they are whole chains of the opponent that no empty point is beside
     first : IsLifted b.size (set b.points p (Some k)) (other k) taken
-    first = lifted_set b.size (set b.points p (Some k)) taken (other k) (λ q. Contains weak (name_at b.names q)) (length-emptied b.size _ (set b.points p (Some k)))
-        (λ q. elim (in_list weak (name_at b.names q)) [ inl has ↦ inr (has, taken_gone q has) | inr none ↦ inl (taken_kept q none) ])
+    first = lifted_set b.size (set b.points p (Some k)) taken (other k) (λ q. Contains weak (name_at b.counts.names q)) (length-emptied b.size _ (set b.points p (Some k)))
+        (λ q. elim (in_list weak (name_at b.counts.names q)) [ inl has ↦ inr (has, taken_gone q has) | inr none ↦ inl (taken_kept q none) ])
         (λ q has. let w = weak_stone q has in (taken_gone q has, off q w.1 ∙ w.0, on_board q (named_here q (weak_is _ has).0)))
         (λ x q has near'. let w = weak_is _ has in let x_is = weak_stone x has in (
           λ bare. elim (cases_eq q p) [
             | inl same ↦ none-some k (sym bare ∙ ap (entry_at (set b.points p (Some k))) same ∙ here)
-            | inr apart ↦ one_liberty (name_at b.names x) x q w.1 w.3 w.0 refl near' apart (sym (off q apart) ∙ bare)
+            | inr apart ↦ one_liberty (name_at b.counts.names x) x q w.1 w.3 w.0 refl near' apart (sym (off q apart) ∙ bare)
           ],
           λ theirs. elim (cases_eq q p) [
             | inl same ↦ absurd (other_differs k (sym here ∙ ap (entry_at (set b.points p (Some k))) (sym same) ∙ theirs))
-            | inr apart ↦ subst (Contains weak) (one_name b.size b.points b.names is.named x q (on_board x (named_here x w.0)) near' (named_here x w.0)
+            | inr apart ↦ subst (Contains weak) (one_name b.size b.points b.counts.names is.named x q (on_board x (named_here x w.0)) near' (named_here x w.0)
                 (sym (off q apart) ∙ theirs ∙ sym x_is.0)) has
           ],
         ))
@@ -265,10 +266,10 @@ module _ (b : ChainBoard) (k : Colour) (p : ℕ) (is : IsChainBoard b) (in_p : p
       | inl same ↦ absurd (other_differs k (sym here ∙ ap (entry_at (set b.points p (Some k))) (sym same) ∙ theirs))
       | inr apart ↦
           let mine : entry_at b.points q ≡ Some (other k) = sym (off q apart) ∙ theirs in
-          let m = name_at b.names q in
+          let m = name_at b.counts.names q in
           let some = named_stone _ _ (is.named.named q) (λ bare. none-some (other k) (sym bare ∙ mine)) in
-          let t : Touches b.size b.names m p = (q, near'.0, (near', refl)) in
-          elim (cases_eq (name_at b.liberties (root_of m)) 1) [
+          let t : Touches b.size b.counts.names m p = (q, near'.0, (near', refl)) in
+          elim (cases_eq (name_at b.counts.liberties (root_of m)) 1) [
             | inl one ↦ inr (taken_gone q ((last m).1 ((all m).1 (some, some, t), colour_code _ _ (other k) (is.named.named q) mine, one)))
             | inr several ↦ inl (more_liberties m q t (λ e. several (counted_at m q some refl ∙ e)) some refl)
           ]
@@ -296,7 +297,7 @@ module _ (b : ChainBoard) (k : Colour) (p : ℕ) (is : IsChainBoard b) (in_p : p
         (taken_kept q (λ has. (weak_is _ has).0 (named_bare _ _ (is.named.named q) bare)) ∙ off q apart ∙ bare)
 
     -- so is one that an own chain reaches, where none is captured
-    pub own_by_chain : ((m : ℕ) → Contains weak m → ⊥) → (m : ℕ) → Near m → m / 512 ≡ colour_number k → name_at b.liberties (root_of m) ≢ 1 → Reaches b.size taken p None
+    pub own_by_chain : ((m : ℕ) → Contains weak m → ⊥) → (m : ℕ) → Near m → m / 512 ≡ colour_number k → name_at b.counts.liberties (root_of m) ≢ 1 → Reaches b.size taken p None
     own_by_chain nobody m has code several =
         let h = (all m).0 has in
         let r = h.2.0 in
@@ -309,9 +310,9 @@ module _ (b : ChainBoard) (k : Colour) (p : ℕ) (is : IsChainBoard b) (in_p : p
         (reaches_on b.size (set b.points p (Some k)) None p r h.2.2.0 (off r apart ∙ mine ∙ sym here) reach)
 
     -- what the play leaves, by the names
-    pub no_capture_goes : taken ≡ play_of b.size b.points k p → (q : ℕ) → entry_at b.points q ≢ None → (entry_at (play_of b.size b.points k p) q ≡ None) ↔ Contains weak (name_at b.names q)
+    pub no_capture_goes : taken ≡ play_of b.size b.points k p → (q : ℕ) → entry_at b.points q ≢ None → (entry_at (play_of b.size b.points k p) q ≡ None) ↔ Contains weak (name_at b.counts.names q)
     no_capture_goes same q stone = (
-      λ bare. elim (in_list weak (name_at b.names q)) [
+      λ bare. elim (in_list weak (name_at b.counts.names q)) [
         | inl has ↦ has
         | inr none ↦ absurd (stone (sym (off q (elsewhere q stone)) ∙ sym (taken_kept q none) ∙ ap (λ xs. entry_at xs q) same ∙ bare))
       ],
@@ -323,10 +324,10 @@ module _ (b : ChainBoard) (k : Colour) (p : ℕ) (is : IsChainBoard b) (in_p : p
     no_capture_stays same bare = none-some k (sym bare ∙ ap (λ xs. entry_at xs p) (sym same) ∙ here_taken)
 
     -- a chain that goes is living
-    pub weak_living : (m : ℕ) → Contains weak m → (m ≢ 0) × (name_at b.names (root_of m) ≡ m)
+    pub weak_living : (m : ℕ) → Contains weak m → (m ≢ 0) × (name_at b.counts.names (root_of m) ≡ m)
     weak_living m has =
         let w = weak_is m has in
-        (w.0, subst (λ x. name_at b.names (root_of x) ≡ x) w.1.2.1 (is.counted.rooted w.1.0 (λ z. w.0 (sym w.1.2.1 ∙ z))))
+        (w.0, subst (λ x. name_at b.counts.names (root_of x) ≡ x) w.1.2.1 (is.counted.rooted w.1.0 (λ z. w.0 (sym w.1.2.1 ∙ z))))
 
     -- so the names tell what the play does
     pub no_capture_look : IsEachOnce weak → Reaches b.size taken p None → IsLook b k p weak false
@@ -340,45 +341,45 @@ module _ (b : ChainBoard) (k : Colour) (p : ℕ) (is : IsChainBoard b) (in_p : p
         }
 
     -- ---- suicide: none of the opponent's goes, no point beside p is empty, and p is the one liberty of each own chain beside it
-    module _ (mine : List ℕ) (last_mine : (m : ℕ) → Contains mine m ↔ (Near m × (m / 512 ≡ colour_number k) × (name_at b.liberties (root_of m) ≡ 1)))
+    module _ (mine : List ℕ) (last_mine : (m : ℕ) → Contains mine m ↔ (Near m × (m / 512 ≡ colour_number k) × (name_at b.counts.liberties (root_of m) ≡ 1)))
         (nobody : (m : ℕ) → Contains weak m → ⊥) (filled : (q : ℕ) → IsNeighbour b.size p q → entry_at b.points q ≢ None)
-        (none_more : (m : ℕ) → Near m → m / 512 ≡ colour_number k → name_at b.liberties (root_of m) ≡ 1) where
+        (none_more : (m : ℕ) → Near m → m / 512 ≡ colour_number k → name_at b.counts.liberties (root_of m) ≡ 1) where
       -- one's own chains that go
-      mine_is : (m : ℕ) → Contains mine m → (m ≢ 0) × Touches b.size b.names m p × (m / 512 ≡ colour_number k) × (liberty_count b.size b.names m ≡ 1)
+      mine_is : (m : ℕ) → Contains mine m → (m ≢ 0) × Touches b.size b.counts.names m p × (m / 512 ≡ colour_number k) × (liberty_count b.size b.counts.names m ≡ 1)
       mine_is m has =
           let h = (last_mine m).0 has in let t = (all m).0 h.0 in
           (t.0, t.2, h.1, sym (counted_at m t.2.0 t.0 t.2.2.1) ∙ h.2)
 
       -- the board without these, and without the stone
       abbrev left : Colouring
-      left = emptied b.size (λ q. decision_test (in_list mine (name_at b.names q))) b.points
+      left = emptied b.size (λ q. decision_test (in_list mine (name_at b.counts.names q))) b.points
 
-      left_gone : (q : ℕ) → Contains mine (name_at b.names q) → entry_at left q ≡ None
-      left_gone q has = emptied_gone b.size _ b.points q ((decision_test_is_exact (in_list mine (name_at b.names q))).1 has)
+      left_gone : (q : ℕ) → Contains mine (name_at b.counts.names q) → entry_at left q ≡ None
+      left_gone q has = emptied_gone b.size _ b.points q ((decision_test_is_exact (in_list mine (name_at b.counts.names q))).1 has)
 
-      left_kept : (q : ℕ) → (Contains mine (name_at b.names q) → ⊥) → entry_at left q ≡ entry_at b.points q
-      left_kept q none = emptied_kept b.size _ b.points q is.fits (decision_test_is_false (in_list mine (name_at b.names q)) none)
+      left_kept : (q : ℕ) → (Contains mine (name_at b.counts.names q) → ⊥) → entry_at left q ≡ entry_at b.points q
+      left_kept q none = emptied_kept b.size _ b.points q is.fits (decision_test_is_false (in_list mine (name_at b.counts.names q)) none)
 
       left_p : entry_at left p ≡ None
       left_p = left_kept p (λ has. (mine_is _ has).0 bare_p) ∙ free
 
       -- the stone, and the stones of these chains
       abbrev Goes : ℕ → Type 0
-      Goes q = (q ≡ p) ⊎ Contains mine (name_at b.names q)
+      Goes q = (q ≡ p) ⊎ Contains mine (name_at b.counts.names q)
 
       -- a stone of a chain that goes is an own one
-      own_stone : (q : ℕ) → Contains mine (name_at b.names q) → (entry_at b.points q ≡ Some k) × (q ≢ p)
+      own_stone : (q : ℕ) → Contains mine (name_at b.counts.names q) → (entry_at b.points q ≡ Some k) × (q ≢ p)
       own_stone q has =
-          let w = mine_is (name_at b.names q) has in
+          let w = mine_is (name_at b.counts.names q) has in
           (code_colour _ _ k (is.named.named q) w.2, elsewhere q (named_here q w.0))
 
       -- an own stone beside the new one is of a chain that goes
-      beside_goes : (q : ℕ) → IsNeighbour b.size p q → entry_at b.points q ≡ Some k → Contains mine (name_at b.names q)
+      beside_goes : (q : ℕ) → IsNeighbour b.size p q → entry_at b.points q ≡ Some k → Contains mine (name_at b.counts.names q)
       beside_goes q near' own =
           let some = named_stone _ _ (is.named.named q) (λ bare. none-some k (sym bare ∙ own)) in
-          let has = (all (name_at b.names q)).1 (some, some, (q, near'.0, (near', refl))) in
+          let has = (all (name_at b.counts.names q)).1 (some, some, (q, near'.0, (near', refl))) in
           let code = colour_code _ _ k (is.named.named q) own in
-          (last_mine (name_at b.names q)).1 (has, code, none_more (name_at b.names q) has code)
+          (last_mine (name_at b.counts.names q)).1 (has, code, none_more (name_at b.counts.names q) has code)
 
       -- no empty point is beside those that go, and an own stone beside one of them goes too
       enclosed : (x q : ℕ) → Goes x → IsNeighbour b.size x q → (entry_at (set b.points p (Some k)) q ≢ None) × (entry_at (set b.points p (Some k)) q ≡ Some k → Goes q)
@@ -394,11 +395,11 @@ module _ (b : ChainBoard) (k : Colour) (p : ℕ) (is : IsChainBoard b) (in_p : p
           let w = mine_is _ has in let x_is = own_stone x has in (
             λ bare. elim (cases_eq q p) [
               | inl same ↦ none-some k (sym bare ∙ ap (entry_at (set b.points p (Some k))) same ∙ here)
-              | inr apart ↦ one_liberty (name_at b.names x) x q w.1 w.3 w.0 refl near' apart (sym (off q apart) ∙ bare)
+              | inr apart ↦ one_liberty (name_at b.counts.names x) x q w.1 w.3 w.0 refl near' apart (sym (off q apart) ∙ bare)
             ],
             λ own. elim (cases_eq q p) [
               | inl same ↦ inl same
-              | inr apart ↦ inr (subst (Contains mine) (one_name b.size b.points b.names is.named x q (on_board x (named_here x w.0)) near' (named_here x w.0)
+              | inr apart ↦ inr (subst (Contains mine) (one_name b.size b.points b.counts.names is.named x q (on_board x (named_here x w.0)) near' (named_here x w.0)
                   (sym (off q apart) ∙ own ∙ sym x_is.0)) has)
             ],
           )
@@ -408,7 +409,7 @@ module _ (b : ChainBoard) (k : Colour) (p : ℕ) (is : IsChainBoard b) (in_p : p
       second = lifted_set b.size (set b.points p (Some k)) left k Goes (length-emptied b.size _ b.points)
           (λ q. elim (cases_eq q p) [
             | inl same ↦ inr (inl same, ap (entry_at left) same ∙ left_p)
-            | inr apart ↦ elim (in_list mine (name_at b.names q)) [ inl has ↦ inr (inr has, left_gone q has) | inr none ↦ inl (left_kept q none ∙ sym (off q apart)) ]
+            | inr apart ↦ elim (in_list mine (name_at b.counts.names q)) [ inl has ↦ inr (inr has, left_gone q has) | inr none ↦ inl (left_kept q none ∙ sym (off q apart)) ]
           ])
           (λ q goes. elim goes [
             | inl same ↦ (ap (entry_at left) same ∙ left_p, ap (entry_at (set b.points p (Some k))) same ∙ here, subst (λ z. z < point_count b.size) (sym same) in_p)
@@ -421,7 +422,7 @@ module _ (b : ChainBoard) (k : Colour) (p : ℕ) (is : IsChainBoard b) (in_p : p
           → Reaches b.size (set b.points p (Some k)) q None ⊎ (entry_at (set b.points p (Some k)) q ≡ None)
       stay q near' theirs = elim (looked q near' theirs) [
         | inl r ↦ inl r
-        | inr gone ↦ elim (in_list weak (name_at b.names q)) [
+        | inr gone ↦ elim (in_list weak (name_at b.counts.names q)) [
           | inl has ↦ absurd (nobody _ has)
           | inr none ↦ inr (sym (taken_kept q none) ∙ gone)
         ]
@@ -435,7 +436,7 @@ module _ (b : ChainBoard) (k : Colour) (p : ℕ) (is : IsChainBoard b) (in_p : p
       pub suicide_look : IsEachOnce mine → IsLook b k p mine true
       suicide_look once = record {
         goes = λ q stone. (
-          λ bare. elim (in_list mine (name_at b.names q)) [
+          λ bare. elim (in_list mine (name_at b.counts.names q)) [
             | inl has ↦ has
             | inr none ↦ absurd (stone (sym (left_kept q none) ∙ ap (λ xs. entry_at xs q) left_is ∙ bare))
           ],
@@ -444,7 +445,7 @@ module _ (b : ChainBoard) (k : Colour) (p : ℕ) (is : IsChainBoard b) (in_p : p
         suicide = (λ _. ap (λ xs. entry_at xs p) (sym left_is) ∙ left_p, λ _. refl);
         once = once;
         living = λ m has. let w = mine_is m has in
-            (w.0, subst (λ x. name_at b.names (root_of x) ≡ x) w.1.2.1 (is.counted.rooted w.1.0 (λ z. w.0 (sym w.1.2.1 ∙ z))));
+            (w.0, subst (λ x. name_at b.counts.names (root_of x) ≡ x) w.1.2.1 (is.counted.rooted w.1.0 (λ z. w.0 (sym w.1.2.1 ∙ z))));
       }
 
 -- ---- four names

@@ -181,4 +181,5 @@ module _ (s : Size) (ns : List ℕ) (p x : ℕ) (in_p : p < point_count s) (wide
               let far : decision_test (decide_neighbour s p k) ≡ false = decision_test_is_false (decide_neighbour s p k) (λ near'. away_from k near' at) in
               and_right _ _ far ∙ sym (and_right _ _ far)
         ]));
+    roots = n.roots;
   }

@@ -3,6 +3,7 @@ use Rattle.std.proofs.Common.{◌≡◌, ◌≢◌, ℕ, ◌+◌, ◌-◌, ◌<�
 use Rattle.std.proofs.lemmas.Bool.{cases_lt}
 use Rattle.std.proofs.lemmas.List.{length-take-le, get_or-take, get_or-drop, get_or_append_left, get_or-append_right, ext_get_or}
 use Rattle.tt_sgf.specs.declared.size.Size.{Size}
+use Rattle.tt_board.specs.declared.counted.chain_counts.ChainCounts.{ChainCounts}
 use Rattle.tt_board.specs.inside.Chains.{name_at, root_of, AreCounted}
 
 module _ (n : ℕ) (xs ys : List ℕ) (wide : n ≤ length xs) where
@@ -25,17 +26,18 @@ module _ (n : ℕ) (xs ys : List ℕ) (wide : n ≤ length xs) where
   ])
 
 -- counts stand at the roots of chains, so those before the end are all
-pub over_counted : (s : Size) (n : ℕ) (ns stones liberties stones' liberties' : List ℕ) → AreCounted s ns stones liberties
-    → ((q : ℕ) → n ≤ q → name_at ns q ≡ 0) → n ≤ length stones → n ≤ length liberties
-    → AreCounted s ns (take n stones ++ drop n stones') (take n liberties ++ drop n liberties')
-over_counted s n ns stones liberties stones' liberties' counted bare wide_s wide_l = record {
+pub over_counted : (s : Size) (n : ℕ) (b : ChainCounts) (stones liberties : List ℕ) → AreCounted s b → ((q : ℕ) → n ≤ q → name_at b.names q ≡ 0)
+    → n ≤ length b.stones → n ≤ length b.liberties
+    → AreCounted s (record { names = b.names; stones = take n b.stones ++ drop n stones; liberties = take n b.liberties ++ drop n liberties })
+over_counted s n b stones liberties counted bare wide_s wide_l = record {
+  ends = counted.ends;
   rooted = counted.rooted;
-  stones_true = λ q some. over_before n stones stones' wide_s (root_of (name_at ns q)) (inside q some) ∙ counted.stones_true q some;
-  liberties_true = λ q some. over_before n liberties liberties' wide_l (root_of (name_at ns q)) (inside q some) ∙ counted.liberties_true q some;
+  stones_true = λ q some. over_before n b.stones stones wide_s (root_of (name_at b.names q)) (inside q some) ∙ counted.stones_true q some;
+  liberties_true = λ q some. over_before n b.liberties liberties wide_l (root_of (name_at b.names q)) (inside q some) ∙ counted.liberties_true q some;
 }
   where
-    inside : (q : ℕ) → name_at ns q ≢ 0 → root_of (name_at ns q) < n
-    inside q some = elim (cases_lt (root_of (name_at ns q)) n) [
+    inside : (q : ℕ) → name_at b.names q ≢ 0 → root_of (name_at b.names q) < n
+    inside q some = elim (cases_lt (root_of (name_at b.names q)) n) [
       | inl below ↦ below
-      | inr past ↦ absurd (some (sym (counted.rooted q some) ∙ bare (root_of (name_at ns q)) past))
+      | inr past ↦ absurd (some (sym (counted.rooted q some) ∙ bare (root_of (name_at b.names q)) past))
     ]

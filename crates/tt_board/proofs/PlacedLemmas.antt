@@ -10,6 +10,7 @@ use Rattle.tt_board.specs.Reach.{entry_at, Reaches}
 use Rattle.tt_board.specs.ReachLaws.{reaches_beside, reaches_on, reaches_all}
 use Rattle.tt_board.specs.Decided.{decide_same_entry}
 use Rattle.tt_board.specs.Setup.{AllHaveLiberties}
+use Rattle.tt_board.specs.declared.counted.chain_counts.ChainCounts.{ChainCounts}
 use Rattle.tt_board.specs.inside.Chains.{AreLinked, name_at, root_of, colour_number, IsNamed, stone_count, renamed, AreCounted, AreNames, AreNamesBut, OtherChainsCounted, IsChainBoard}
 use Rattle.tt_board.proofs.LinkLemmas.{linked_self, linked_kept, named_bare, stone_named, one_name}
 use Rattle.tt_board.proofs.NameLemmas.{at_p, off_p}
@@ -117,35 +118,41 @@ module _ (s : Size) (c d : Colouring) (ns : List ℕ) (e : ℕ) (living : e ≢ 
   taken_fewer q = elim (cases_eq (name_at ns q) e) [ inl is ↦ inr (gone q is) | inr other ↦ inl (kept q other) ]
 
 -- the counts of the other chains are true still
-pub counted_taken : (s : Size) (ns stones liberties left : List ℕ) (e : ℕ) → e ≢ 0 → AreCounted s ns stones liberties → OtherChainsCounted s (map (renamed e 0) ns) left e
-    → AreCounted s (map (renamed e 0) ns) stones left
-counted_taken s ns stones liberties left e living counted true' = record {
-  rooted = λ q some. let w = was q some in
-      subst (λ m. name_at (map (renamed e 0) ns) (root_of m) ≡ m) (sym w.0)
-      (let root = counted.rooted q w.1 in name_renamed e 0 ns (root_of (name_at ns q)) living ∙ renamed_not e 0 _ (λ is. w.2 (sym root ∙ is)) ∙ root);
-  stones_true = λ q some. let w = was q some in
-      subst (λ m. name_at stones (root_of m) ≡ stone_count (map (renamed e 0) ns) m) (sym w.0) (counted.stones_true q w.1 ∙ sym (stones_others e 0 (name_at ns q) ns w.2 w.1));
-  liberties_true = λ q some. true' q some (λ is. let w = was q some in w.2 (sym w.0 ∙ is));
+pub counted_taken : (s : Size) (b after : ChainCounts) (e : ℕ) → e ≢ 0 → AreCounted s b → after.names ≡ map (renamed e 0) b.names → after.stones ≡ b.stones
+    → OtherChainsCounted s after.names after.liberties e → AreCounted s after
+counted_taken s b after e living counted names stones others = record {
+  ends = rw names (λ q past. name_renamed e 0 b.names q living ∙ renamed_not e 0 _ (λ is. living (sym is ∙ counted.ends q past)) ∙ counted.ends q past);
+  rooted = rw names (λ q some. let w = was q some in
+      subst (λ m. name_at (map (renamed e 0) b.names) (root_of m) ≡ m) (sym w.0)
+      (let root = counted.rooted q w.1 in name_renamed e 0 b.names (root_of (name_at b.names q)) living ∙ renamed_not e 0 _ (λ is. w.2 (sym root ∙ is)) ∙ root));
+  stones_true = rw (names, stones) (λ q some. let w = was q some in
+      subst (λ m. name_at b.stones (root_of m) ≡ stone_count (map (renamed e 0) b.names) m) (sym w.0) (counted.stones_true q w.1 ∙ sym (stones_others e 0 (name_at b.names q) b.names w.2 w.1)));
+  liberties_true = λ q some. others q some (λ is. let same = ap (λ xs. name_at xs q) names in let w = was q (λ z. some (same ∙ z)) in w.2 (sym w.0 ∙ sym same ∙ is));
 }
   where
-    was : (q : ℕ) → name_at (map (renamed e 0) ns) q ≢ 0 → (name_at (map (renamed e 0) ns) q ≡ name_at ns q) × (name_at ns q ≢ 0) × (name_at ns q ≢ e)
-    was q some = elim (cases_eq (name_at ns q) e) [
-      | inl is ↦ absurd (some (name_renamed e 0 ns q living ∙ renamed_is e 0 _ is))
-      | inr other ↦ let same = name_renamed e 0 ns q living ∙ renamed_not e 0 _ other in (same, (λ z. some (same ∙ z)), other)
+    was : (q : ℕ) → name_at (map (renamed e 0) b.names) q ≢ 0 → (name_at (map (renamed e 0) b.names) q ≡ name_at b.names q) × (name_at b.names q ≢ 0) × (name_at b.names q ≢ e)
+    was q some = elim (cases_eq (name_at b.names q) e) [
+      | inl is ↦ absurd (some (name_renamed e 0 b.names q living ∙ renamed_is e 0 _ is))
+      | inr other ↦ let same = name_renamed e 0 b.names q living ∙ renamed_not e 0 _ other in (same, (λ z. some (same ∙ z)), other)
     ]
 
 -- ---- no stone
 
 -- zeros name the chains of an empty board
-pub none_placed : (s : Size) → IsChainBoard (record { size = s; points = replicate (point_count s) None; names = replicate 361 0; stones = replicate 361 0; liberties = replicate 361 0; end = 0 })
+pub none_placed : (s : Size) → IsChainBoard (record {
+  size = s;
+  points = replicate (point_count s) None;
+  counts = record { names = replicate 361 0; stones = replicate 361 0; liberties = replicate 361 0 };
+  end = 0;
+})
 none_placed s = record {
   fits = length-replicate {A = Option Colour} (point_count s) None;
-  wide = (length-replicate {A = ℕ} 361 0, length-replicate {A = ℕ} 361 0, length-replicate {A = ℕ} 361 0);
   named = record {
     named = λ q. subst (λ x. IsNamed x (name_at (replicate 361 0) q)) (sym (bare q)) (zero q);
     linked = λ x y in_x in_y stone also. absurd (stone (bare x));
   };
   counted = record {
+    ends = λ q past. zero q;
     rooted = λ q some. absurd (some (zero q));
     stones_true = λ q some. absurd (some (zero q));
     liberties_true = λ q some. absurd (some (zero q));

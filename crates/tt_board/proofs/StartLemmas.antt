@@ -5,6 +5,7 @@ use Rattle.std.proofs.lemmas.List.{get_or-set_same, get_or-set_other}
 use Rattle.std.proofs.lemmas.List.Elements.{Contains-get_or}
 use Rattle.tt_sgf.specs.declared.size.Size.{Size}
 use Rattle.tt_sgf.specs.Sizes.{point_count}
+use Rattle.tt_board.specs.declared.counted.chain_counts.ChainCounts.{ChainCounts}
 use Rattle.tt_board.specs.inside.Chains.{name_at, root_of, Touches, touching, liberty_count, stone_count, count_beside, AreCounted, IsEachOnce, IsOneName, IsNewName, AreRootsApart}
 use Rattle.tt_board.specs.Decided.{decision_test, decision_test_is_exact}
 use Rattle.tt_board.proofs.NameLemmas.{count_filled, count_alone, at_p, off_p}
@@ -111,81 +112,82 @@ module _ (a b c d u : ℕ) (l0 l1 l2 l3 l4 : List ℕ)
       same4 r (λ f. away d (inr (inr (inr refl))) f.0 f.1) ∙ same3 r (λ f. away c (inr (inr (inl refl))) f.0 f.1)
       ∙ same2 r (λ f. away b (inr (inl refl)) f.0 f.1) ∙ same1 r (λ f. away a (inl refl) f.0 f.1)
 
-module _ (s : Size) (ns stones liberties : List ℕ) (p e : ℕ) (in_p : p < point_count s) (wide : p < length ns) (few : p < length stones)
-    (free : name_at ns p ≡ 0) (living : e ≢ 0) (root_e : root_of e ≡ p) (counted : AreCounted s ns stones liberties) where
+module _ (s : Size) (b : ChainCounts) (p e : ℕ) (in_p : p < point_count s) (wide : p < length b.names) (few : p < length b.stones)
+    (free : name_at b.names p ≡ 0) (living : e ≢ 0) (root_e : root_of e ≡ p) (counted : AreCounted s b) where
   -- no stone has the new name
-  fresh : (k : ℕ) → name_at ns k ≢ e
-  fresh k is = living (sym is ∙ sym (counted.rooted k (λ z. living (sym is ∙ z))) ∙ ap (λ x. name_at ns (root_of x)) is ∙ ap (name_at ns) root_e ∙ free)
+  fresh : (k : ℕ) → name_at b.names k ≢ e
+  fresh k is = living (sym is ∙ sym (counted.rooted k (λ z. living (sym is ∙ z))) ∙ ap (λ x. name_at b.names (root_of x)) is ∙ ap (name_at b.names) root_e ∙ free)
 
   -- each chain beside p has a liberty to lose
-  pub some_liberty : (m : ℕ) → m ≢ 0 → Touches s ns m p → 0 < name_at liberties (root_of m)
+  pub some_liberty : (m : ℕ) → m ≢ 0 → Touches s b.names m p → 0 < name_at b.liberties (root_of m)
   some_liberty m some t =
-      let true' : name_at liberties (root_of m) ≡ liberty_count s ns m = subst (λ x. name_at liberties (root_of x) ≡ liberty_count s ns x) t.2.1
+      let true' : name_at b.liberties (root_of m) ≡ liberty_count s b.names m = subst (λ x. name_at b.liberties (root_of x) ≡ liberty_count s b.names x) t.2.1
       (counted.liberties_true t.0 (λ z. some (sym t.2.1 ∙ z))) in
-      let one : ◌≡◌ {A = ℕ} (cond (decision_test (touching s ns m p)) 1 0) 1 = ap (λ b. cond b 1 0) ((decision_test_is_exact (touching s ns m p)).1 t) in
-      let filled = count_filled s ns p e in_p wide m (λ h. some (h ∙ free)) (λ h. fresh t.0 (t.2.1 ∙ h)) free living in
+      let one : ◌≡◌ {A = ℕ} (cond (decision_test (touching s b.names m p)) 1 0) 1 = ap (λ b. cond b 1 0) ((decision_test_is_exact (touching s b.names m p)).1 t) in
+      let filled = count_filled s b.names p e in_p wide m (λ h. some (h ∙ free)) (λ h. fresh t.0 (t.2.1 ∙ h)) free living in
       omega (arith, true', one, filled)
 
   -- the counts are true with the new chain
-  pub counted_started : (fewer : List ℕ) (alone : ℕ) → p < length fewer → alone ≡ count_beside s (λ q. name_at (set ns p e) q == 0) p
-      → ((m : ℕ) → m ≢ 0 → Touches s ns m p → name_at fewer (root_of m) + 1 ≡ name_at liberties (root_of m))
-      → ((r : ℕ) → ((m : ℕ) → m ≢ 0 → Touches s ns m p → root_of m ≢ r) → name_at fewer r ≡ name_at liberties r)
-      → AreCounted s (set ns p e) (set stones p 1) (set fewer p alone)
+  pub counted_started : (fewer : List ℕ) (alone : ℕ) → p < length fewer → alone ≡ count_beside s (λ q. name_at (set b.names p e) q == 0) p
+      → ((m : ℕ) → m ≢ 0 → Touches s b.names m p → name_at fewer (root_of m) + 1 ≡ name_at b.liberties (root_of m))
+      → ((r : ℕ) → ((m : ℕ) → m ≢ 0 → Touches s b.names m p → root_of m ≢ r) → name_at fewer r ≡ name_at b.liberties r)
+      → AreCounted s (record { names = set b.names p e; stones = set b.stones p 1; liberties = set fewer p alone })
   counted_started fewer alone also is_alone less same = record {
+    ends = λ q past. off_p s b.names p e in_p wide q (λ at. omega arith) ∙ counted.ends q past;
     rooted = λ q some. elim (cases_eq q p) [
       | inl at ↦ at_root q at
       | inr apart ↦ let m = old q apart some in
-          subst (λ x. name_at (set ns p e) (root_of x) ≡ x) (sym m.0) (get_or-set_other ns p _ e 0 m.2 ∙ counted.rooted q m.1)
+          subst (λ x. name_at (set b.names p e) (root_of x) ≡ x) (sym m.0) (get_or-set_other b.names p _ e 0 m.2 ∙ counted.rooted q m.1)
     ];
     stones_true = λ q some. elim (cases_eq q p) [
-      | inl at ↦ subst (λ x. name_at (set stones p 1) (root_of x) ≡ stone_count (set ns p e) x) (sym (name_new q at))
-          (ap (name_at (set stones p 1)) root_e ∙ get_or-set_same stones p 1 0 few ∙ sym one_stone)
+      | inl at ↦ subst (λ x. name_at (set b.stones p 1) (root_of x) ≡ stone_count (set b.names p e) x) (sym (name_new q at))
+          (ap (name_at (set b.stones p 1)) root_e ∙ get_or-set_same b.stones p 1 0 few ∙ sym one_stone)
       | inr apart ↦ let m = old q apart some in
-          subst (λ x. name_at (set stones p 1) (root_of x) ≡ stone_count (set ns p e) x) (sym m.0)
-          (get_or-set_other stones p _ 1 0 m.2 ∙ counted.stones_true q m.1
-          ∙ sym (stones_same ns p e (name_at ns q) wide (λ h. m.1 (sym h ∙ free)) (λ h. fresh q (sym h))))
+          subst (λ x. name_at (set b.stones p 1) (root_of x) ≡ stone_count (set b.names p e) x) (sym m.0)
+          (get_or-set_other b.stones p _ 1 0 m.2 ∙ counted.stones_true q m.1
+          ∙ sym (stones_same b.names p e (name_at b.names q) wide (λ h. m.1 (sym h ∙ free)) (λ h. fresh q (sym h))))
     ];
     liberties_true = λ q some. elim (cases_eq q p) [
-      | inl at ↦ subst (λ x. name_at (set fewer p alone) (root_of x) ≡ liberty_count s (set ns p e) x) (sym (name_new q at))
-          (ap (name_at (set fewer p alone)) root_e ∙ get_or-set_same fewer p alone 0 also ∙ is_alone ∙ sym (count_alone s ns p e in_p wide living fresh))
+      | inl at ↦ subst (λ x. name_at (set fewer p alone) (root_of x) ≡ liberty_count s (set b.names p e) x) (sym (name_new q at))
+          (ap (name_at (set fewer p alone)) root_e ∙ get_or-set_same fewer p alone 0 also ∙ is_alone ∙ sym (count_alone s b.names p e in_p wide living fresh))
       | inr apart ↦ let m = old q apart some in
-          subst (λ x. name_at (set fewer p alone) (root_of x) ≡ liberty_count s (set ns p e) x) (sym m.0)
+          subst (λ x. name_at (set fewer p alone) (root_of x) ≡ liberty_count s (set b.names p e) x) (sym m.0)
           (get_or-set_other fewer p _ alone 0 m.2 ∙ lost q m.1)
     ];
   }
     where
-      name_new : (q : ℕ) → q ≡ p → name_at (set ns p e) q ≡ e
-      name_new q at = ap (name_at (set ns p e)) at ∙ at_p s ns p e in_p wide
+      name_new : (q : ℕ) → q ≡ p → name_at (set b.names p e) q ≡ e
+      name_new q at = ap (name_at (set b.names p e)) at ∙ at_p s b.names p e in_p wide
 
       -- the new chain has its root on p
-      at_root : (q : ℕ) → q ≡ p → name_at (set ns p e) (root_of (name_at (set ns p e) q)) ≡ name_at (set ns p e) q
-      at_root q at = subst (λ x. name_at (set ns p e) (root_of x) ≡ x) (sym (name_new q at)) (ap (name_at (set ns p e)) root_e ∙ at_p s ns p e in_p wide)
+      at_root : (q : ℕ) → q ≡ p → name_at (set b.names p e) (root_of (name_at (set b.names p e) q)) ≡ name_at (set b.names p e) q
+      at_root q at = subst (λ x. name_at (set b.names p e) (root_of x) ≡ x) (sym (name_new q at)) (ap (name_at (set b.names p e)) root_e ∙ at_p s b.names p e in_p wide)
 
       -- another stone keeps its name, and its root is elsewhere
-      old : (q : ℕ) → q ≢ p → name_at (set ns p e) q ≢ 0 → (name_at (set ns p e) q ≡ name_at ns q) × (name_at ns q ≢ 0) × (root_of (name_at ns q) ≢ p)
+      old : (q : ℕ) → q ≢ p → name_at (set b.names p e) q ≢ 0 → (name_at (set b.names p e) q ≡ name_at b.names q) × (name_at b.names q ≢ 0) × (root_of (name_at b.names q) ≢ p)
       old q apart some =
-          let same' = off_p s ns p e in_p wide q apart in
-          let was : name_at ns q ≢ 0 = λ z. some (same' ∙ z) in
-          (same', was, λ r. was (sym (counted.rooted q was) ∙ ap (name_at ns) r ∙ free))
+          let same' = off_p s b.names p e in_p wide q apart in
+          let was : name_at b.names q ≢ 0 = λ z. some (same' ∙ z) in
+          (same', was, λ r. was (sym (counted.rooted q was) ∙ ap (name_at b.names) r ∙ free))
 
       -- the new chain has one stone
-      one_stone : stone_count (set ns p e) e ≡ 1
-      one_stone = let more = stones_more ns p e wide (λ h. living (sym h ∙ free)) in let none = stones_none ns e (λ k below. fresh k) in omega (arith, more, none)
+      one_stone : stone_count (set b.names p e) e ≡ 1
+      one_stone = let more = stones_more b.names p e wide (λ h. living (sym h ∙ free)) in let none = stones_none b.names e (λ k below. fresh k) in omega (arith, more, none)
 
       -- each other chain beside p has lost a liberty, and no other chain
-      lost : (q : ℕ) → name_at ns q ≢ 0 → name_at fewer (root_of (name_at ns q)) ≡ liberty_count s (set ns p e) (name_at ns q)
+      lost : (q : ℕ) → name_at b.names q ≢ 0 → name_at fewer (root_of (name_at b.names q)) ≡ liberty_count s (set b.names p e) (name_at b.names q)
       lost q was =
-          let m = name_at ns q in
-          let filled = count_filled s ns p e in_p wide m (λ h. was (h ∙ free)) (λ h. fresh q h) free living in
+          let m = name_at b.names q in
+          let filled = count_filled s b.names p e in_p wide m (λ h. was (h ∙ free)) (λ h. fresh q h) free living in
           let true' = counted.liberties_true q was in
-          elim (cases_Bool (decision_test (touching s ns m p))) [
+          elim (cases_Bool (decision_test (touching s b.names m p))) [
             | inl on ↦
-                let one : ◌≡◌ {A = ℕ} (cond (decision_test (touching s ns m p)) 1 0) 1 = ap (λ b. cond b 1 0) on in
-                let h = less m was ((decision_test_is_exact (touching s ns m p)).0 on) in
+                let one : ◌≡◌ {A = ℕ} (cond (decision_test (touching s b.names m p)) 1 0) 1 = ap (λ b. cond b 1 0) on in
+                let h = less m was ((decision_test_is_exact (touching s b.names m p)).0 on) in
                 omega (arith, one, filled, true', h)
             | inr off ↦
-                let none : ◌≡◌ {A = ℕ} (cond (decision_test (touching s ns m p)) 1 0) 0 = ap (λ b. cond b 1 0) off in
-                let h = same (root_of m) (λ k some t. roots_apart ns k m (touch_rooted s ns p counted.rooted k t some) (counted.rooted q was)
-                (λ e. false≢true (sym off ∙ (decision_test_is_exact (touching s ns m p)).1 (subst (λ x. Touches s ns x p) e t)))) in
+                let none : ◌≡◌ {A = ℕ} (cond (decision_test (touching s b.names m p)) 1 0) 0 = ap (λ b. cond b 1 0) off in
+                let h = same (root_of m) (λ k some t. roots_apart b.names k m (touch_rooted s b.names p counted.rooted k t some) (counted.rooted q was)
+                (λ e. false≢true (sym off ∙ (decision_test_is_exact (touching s b.names m p)).1 (subst (λ x. Touches s b.names x p) e t)))) in
                 omega (arith, none, filled, true', h)
           ]

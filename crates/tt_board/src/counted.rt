@@ -3,6 +3,7 @@
 //! It has some two thousand bytes and a `Board` a hundred, so a history keeps that.
 
 pub(crate) mod captures;
+pub(crate) mod chain_counts;
 pub(crate) mod chain_names;
 pub(crate) mod chains;
 pub(crate) mod joins;

@@ -7,6 +7,7 @@ use Rattle.tt_board.specs.declared.Colour.TheVariants.{Black, White}
 use Rattle.tt_sgf.specs.declared.size.Size.{Size}
 use Rattle.tt_sgf.specs.declared.size.TheConstants.{MOST_POINTS}
 use Rattle.tt_sgf.specs.Sizes.{point_count}
+use Rattle.tt_board.specs.declared.counted.chain_counts.ChainCounts.{ChainCounts}
 use Rattle.tt_board.specs.declared.counted.play_kind.NeighbourNames.{NeighbourNames}
 use Rattle.tt_board.specs.declared.counted.play_kind.TheConstants.{OFF_BOARD_NAME}
 use Rattle.tt_board.specs.Near.{IsNeighbour}
@@ -76,27 +77,29 @@ liberty_count s ns e = count_by (is_liberty s ns e) (range_with_len 0 (point_cou
 unfoldable pub stone_count : List ℕ → ℕ → ℕ
 stone_count ns e = count_by (λ x. x == e) ns
 
--- the counts of each chain stand at its root, and are true
-pub record AreCounted (s : Size) (ns stones liberties : List ℕ) : Type 0 where
-  pub rooted : (p : ℕ) → name_at ns p ≢ 0 → name_at ns (root_of (name_at ns p)) ≡ name_at ns p
-  pub stones_true : (p : ℕ) → name_at ns p ≢ 0 → name_at stones (root_of (name_at ns p)) ≡ stone_count ns (name_at ns p)
-  pub liberties_true : (p : ℕ) → name_at ns p ≢ 0 → name_at liberties (root_of (name_at ns p)) ≡ liberty_count s ns (name_at ns p)
+-- e is a chain on the board, so its counts stand at its root
+abbrev pub IsLiving : List ℕ → ℕ → Type 0
+IsLiving ns e = (e ≢ 0) × (name_at ns (root_of e) ≡ e)
 
--- a board with its chains: the name on each point, and counts of stones and of liberties
+-- the names stand on the board alone; the counts of each chain stand at its root, and are true
+pub record AreCounted (s : Size) (b : ChainCounts) : Type 0 where
+  pub ends : (q : ℕ) → point_count s ≤ q → name_at b.names q ≡ 0
+  pub rooted : (p : ℕ) → name_at b.names p ≢ 0 → name_at b.names (root_of (name_at b.names p)) ≡ name_at b.names p
+  pub stones_true : (p : ℕ) → name_at b.names p ≢ 0 → name_at b.stones (root_of (name_at b.names p)) ≡ stone_count b.names (name_at b.names p)
+  pub liberties_true : (p : ℕ) → name_at b.names p ≢ 0 → name_at b.liberties (root_of (name_at b.names p)) ≡ liberty_count s b.names (name_at b.names p)
+
+-- a board with its chains and their counts; its stones stand before the end
 pub record ChainBoard : Type 0 where
   pub size : Size
   pub points : Colouring
-  pub names : List ℕ
-  pub stones : List ℕ
-  pub liberties : List ℕ
+  pub counts : ChainCounts
   pub end : ℕ
 
 -- each stone reaches empty and stands before the end, the names name the chains, and their counts are true
 pub record IsChainBoard (b : ChainBoard) : Type 0 where
   pub fits : length b.points ≡ point_count b.size
-  pub wide : (length b.names ≡ MOST_POINTS) × (length b.stones ≡ MOST_POINTS) × (length b.liberties ≡ MOST_POINTS)
-  pub named : AreNames b.size b.points b.names
-  pub counted : AreCounted b.size b.names b.stones b.liberties
+  pub named : AreNames b.size b.points b.counts.names
+  pub counted : AreCounted b.size b.counts
   pub alive : AllHaveLiberties b.size b.points
   pub rest : (q : ℕ) → b.end ≤ q → entry_at b.points q ≡ None
 
@@ -135,10 +138,11 @@ count_there test (Some q) = if test q then 1 else 0
 abbrev pub bare_one : ℕ → ℕ
 bare_one m = if m == 0 then 1 else 0
 
--- the names on the four neighbours of p; OFF_BOARD_NAME where the board has no such point
+-- the names on the four neighbours of p, whose roots are points; OFF_BOARD_NAME where the board has no such point
 pub record AreNear (s : Size) (ns : List ℕ) (p : ℕ) (near : NeighbourNames) : Type 0 where
   pub touching : (m : ℕ) → m ≢ OFF_BOARD_NAME → IsOneName near.above near.left near.right near.below m ↔ Touches s ns m p
   pub bare : near.empty ≡ count_beside s (λ q. name_at ns q == 0) p
+  pub roots : (m : ℕ) → IsOneName near.above near.left near.right near.below m → root_of m < MOST_POINTS
 
 -- each chain but one has its root
 abbrev pub OtherChainsRooted : List ℕ → ℕ → Type 0
@@ -150,7 +154,6 @@ OtherChainsCounted s ns liberties e = (p : ℕ) → name_at ns p ≢ 0 → name_
 
 -- e is a chain of so many stones, by names that stand on the board alone
 pub record IsChainOf (s : Size) (ns : List ℕ) (e stones : ℕ) : Type 0 where
-  pub wide : length ns ≡ MOST_POINTS
   pub ends : (q : ℕ) → point_count s ≤ q → name_at ns q ≡ 0
   pub living : e ≢ 0
   pub rooted : name_at ns (root_of e) ≡ e
@@ -158,7 +161,6 @@ pub record IsChainOf (s : Size) (ns : List ℕ) (e stones : ℕ) : Type 0 where
 
 -- each chain but e has its root, where the count of its liberties is true
 pub record AreOthersCounted (s : Size) (ns liberties : List ℕ) (e : ℕ) : Type 0 where
-  pub wide : length liberties ≡ MOST_POINTS
   pub rooted : OtherChainsRooted ns e
   pub counted : OtherChainsCounted s ns liberties e
 
@@ -167,12 +169,6 @@ pub record HasLost (ns : List ℕ) (e : ℕ) (old new : Colouring) : Type 0 wher
   pub fits : length new ≡ length old
   pub gone : (q : ℕ) → name_at ns q ≡ e → entry_at new q ≡ None
   pub kept : (q : ℕ) → name_at ns q ≢ e → entry_at new q ≡ entry_at old q
-
--- names that stand on the board alone, and the counts of each chain
-pub record AreBoardCounts (s : Size) (ns stones liberties : List ℕ) : Type 0 where
-  pub wide : (length ns ≡ MOST_POINTS) × (length stones ≡ MOST_POINTS) × (length liberties ≡ MOST_POINTS)
-  pub ends : (q : ℕ) → point_count s ≤ q → name_at ns q ≡ 0
-  pub counted : AreCounted s ns stones liberties
 
 -- a and b are two chains
 pub record AreTwoChains (ns : List ℕ) (a b : ℕ) : Type 0 where

@@ -1,6 +1,7 @@
 //! The names of chains on the points of a board: which chains are beside a point, and what a stone there brings them.
 
 ghost use Rattle.std.specs.Prelude.{◌≡◌, ◌≢◌, ℕ, ◌+◌, ◌<◌, ◌≤◌, ◌⊎◌, ◌↔◌, ◌==◌, ◌++◌, length, take, drop, Contains, IsTrue, Some, false};
+ghost use Rattle.tt_sgf.specs.declared.size.TheConstants.{MOST_POINTS};
 ghost use Rattle.tt_sgf.specs.Sizes.{point_count};
 ghost use Rattle.tt_board.specs.inside.Chains.{name_at, root_of, Touches, IsEachOnce, AreRootsApart, is_new, count_there, count_beside};
 
@@ -28,8 +29,8 @@ pub(crate) fn copy_first(entries: &mut [u16], from: &[u16], count: usize)
 
 /// Whether the board has a point, and this name stands there.
 #[inline]
-fn point_has_name(names: &[u16], index: Option<usize>, name: u16) -> bool
-    requires { (q : ℕ) → index ≡ Some q → q < length names.now }
+fn point_has_name(names: &[u16; 361], index: Option<usize>, name: u16) -> bool
+    requires { (q : ℕ) → index ≡ Some q → q < MOST_POINTS }
     ensures { IsTrue result ↔ ((q : ℕ) × (index ≡ Some q) × (name_at names.now q ≡ name)) }
 {
     match index {
@@ -39,9 +40,8 @@ fn point_has_name(names: &[u16], index: Option<usize>, name: u16) -> bool
 }
 
 /// Whether a stone of the chain is beside `p`.
-fn touches(size: Size, names: &[u16], name: u16, p: usize) -> bool
-    requires wide { point_count size ≤ length names.now }
-    requires on_board { p < point_count size }
+fn touches(size: Size, names: &[u16; 361], name: u16, p: usize) -> bool
+    requires { p < point_count size }
     ensures { IsTrue result ↔ Touches size names.now name p }
 {
     let near = neighbours_of(size, p);
@@ -59,9 +59,8 @@ fn touches(size: Size, names: &[u16], name: u16, p: usize) -> bool
 
 /// 1 for a point that is empty and that no stone of the chain is beside, 0 for another one or none.
 #[inline]
-fn one_if_new_liberty(size: Size, names: &[u16], name: u16, index: Option<usize>) -> u16
-    requires wide { point_count size ≤ length names.now }
-    requires on_board { (q : ℕ) → index ≡ Some q → q < point_count size }
+fn one_if_new_liberty(size: Size, names: &[u16; 361], name: u16, index: Option<usize>) -> u16
+    requires { (q : ℕ) → index ≡ Some q → q < point_count size }
     ensures value { result ≡ count_there (is_new size names.now name) index }
     ensures small { result ≤ 1 }
 {
@@ -78,9 +77,8 @@ fn one_if_new_liberty(size: Size, names: &[u16], name: u16, index: Option<usize>
 }
 
 /// How many liberties a stone on `p` brings the chain: empty points beside `p` that no stone of the chain is beside.
-pub(crate) fn count_new_liberties(size: Size, names: &[u16], name: u16, p: usize) -> u16
-    requires wide { point_count size ≤ length names.now }
-    requires on_board { p < point_count size }
+pub(crate) fn count_new_liberties(size: Size, names: &[u16; 361], name: u16, p: usize) -> u16
+    requires { p < point_count size }
     ensures { result ≡ count_beside size (is_new size names.now name) p }
 {
     let near = neighbours_of(size, p);
@@ -101,8 +99,8 @@ pub(crate) fn is_not_yet_found(found: &ArrayVec<u16, 4>, name: u16) -> bool
 
 /// Adds the chain on a point to those found, if there is one that is not among them, and but one.
 #[inline]
-fn push_chain_at(found: &mut ArrayVec<u16, 4>, names: &[u16], index: Option<usize>, but: u16)
-    requires inside { (q : ℕ) → index ≡ Some q → q < length names.now }
+fn push_chain_at(found: &mut ArrayVec<u16, 4>, names: &[u16; 361], index: Option<usize>, but: u16)
+    requires inside { (q : ℕ) → index ≡ Some q → q < MOST_POINTS }
     requires room { length found.old.items < 4 }
     requires once { IsEachOnce found.old.items }
     ensures few { length found.new.items ≤ length found.old.items + 1 }
@@ -119,9 +117,8 @@ fn push_chain_at(found: &mut ArrayVec<u16, 4>, names: &[u16], index: Option<usiz
 }
 
 /// The different chains beside `p`, but one.
-pub(crate) fn chains_beside(size: Size, names: &[u16], p: usize, but: u16) -> ArrayVec<u16, 4>
-    requires wide { point_count size ≤ length names.now }
-    requires on_board { p < point_count size }
+pub(crate) fn chains_beside(size: Size, names: &[u16; 361], p: usize, but: u16) -> ArrayVec<u16, 4>
+    requires { p < point_count size }
     ensures beside { (m : ℕ) → Contains result.items m ↔ ((m ≢ 0) × (m ≢ but) × Touches size names.now m p) }
     ensures once { IsEachOnce result.items }
 {
@@ -135,8 +132,8 @@ pub(crate) fn chains_beside(size: Size, names: &[u16], p: usize, but: u16) -> Ar
 }
 
 /// Adds a liberty to each of these chains.
-pub(crate) fn give_liberty(liberties: &mut [u16], near: &[u16])
-    requires in_range { (i : ℕ) → i < length near.now → root_of (name_at near.now i) < length liberties.old }
+pub(crate) fn give_liberty(liberties: &mut [u16; 361], near: &[u16])
+    requires in_range { (i : ℕ) → i < length near.now → root_of (name_at near.now i) < MOST_POINTS }
     requires apart { AreRootsApart near.now }
     requires small { (i : ℕ) → i < length near.now → name_at liberties.old (root_of (name_at near.now i)) < 1000 }
     ensures more { (i : ℕ) → i < length near.now

@@ -10,30 +10,20 @@ ghost use Rattle.tt_board.specs.Reach.{entry_at};
 ghost use Rattle.tt_board.specs.Play.{play_of};
 ghost use Rattle.tt_board.specs.Setup.{AllHaveLiberties};
 ghost use Rattle.tt_board.specs.PlayKind.{IsPlayOfKind};
-ghost use Rattle.tt_board.specs.inside.Chains.{name_at, root_of, colour_number, renamed, IsEachOnce, IsOneName, AreNear, HasLost};
+ghost use Rattle.tt_board.specs.inside.Chains.{name_at, root_of, colour_number, renamed, IsLiving, IsEachOnce, IsOneName, AreNear, HasLost};
 
 use crate::Colour;
 use crate::colouring::Colouring;
 use crate::colouring::around::{adjacent_points, first_column};
-use crate::counted::captures::{lift_chain_off_colouring, remove_chain};
+use crate::counted::chain_counts::ChainCounts;
 use crate::counted::chain_names::{copy_first, root_of};
-use crate::counted::joins::{join_beside, start_chain};
 use crate::counted::play_effects::{PlayEffect, chains_in_atari};
-use crate::counted::play_kind::{NeighbourNames, PlayKind, colour_number, names_beside};
+use crate::counted::play_kind::{NeighbourNames, PlayKind, colour_number};
 use std::marker::Model;
 use tt_sgf::{BITS, Bits, Size};
 
 /// Of so many points the names and the counts are copied in three parts; of more in one, with those behind them.
 const MOST_COPIED_IN_PARTS: usize = 180;
-
-/// The name of the chain on each point, 0 where it is empty, and each chain's counts of stones and of liberties at its root. They lie
-/// side by side, so that a large board takes them over from another one in one move.
-#[derive(Clone, Copy)]
-struct ChainCounts {
-    names: [u16; 361],
-    stones: [u16; 361],
-    liberties: [u16; 361],
-}
 
 /// A size, a colouring of its points in which each stone reaches empty, and its chains with their counts. Its stones stand before `end`.
 #[derive(Drop)]
@@ -49,9 +39,9 @@ impl Model for Chains {
 
     ghost Value = { ChainBoard };
 
-    ghost view = { λ b. record { size = b.size; points = b.points; names = b.counts.names; stones = b.counts.stones; liberties = b.counts.liberties; end = b.end } };
+    ghost view = { λ b. record { size = b.size; points = b.points; counts = b.counts; end = b.end } };
 
-    ghost invariant = { λ b. IsChainBoard (record { size = b.size; points = b.points; names = b.counts.names; stones = b.counts.stones; liberties = b.counts.liberties; end = b.end }) };
+    ghost invariant = { λ b. IsChainBoard (record { size = b.size; points = b.points; counts = b.counts; end = b.end }) };
 }
 
 /// A number 0 for each point.
@@ -68,19 +58,6 @@ fn greater_end(one: usize, other: usize) -> usize
     ensures other { other ≤ result }
 {
     if one < other { other } else { one }
-}
-
-/// The name of a new chain of this colour with its root on `p`.
-fn new_name(colour: Colour, p: usize) -> u16
-    requires { p < MOST_POINTS }
-    ensures colour { result / 512 ≡ colour_number colour }
-    ensures root { root_of result ≡ p }
-    ensures living { 512 ≤ result }
-{
-    match colour {
-        Colour::Black => 512 + p as u16,
-        Colour::White => 1024 + p as u16,
-    }
 }
 
 impl Chains {
@@ -125,7 +102,7 @@ impl Chains {
         ensures size { self.new.size ≡ self.old.size }
         ensures points { self.new.points ≡ slice_set self.old.points p (Some colour) }
     {
-        let near = names_beside(self.size, &self.counts.names, p);
+        let near = self.counts.names_beside(self.size, p);
         self.put_stone_by_names(colour, p, &near);
     }
 
@@ -134,47 +111,23 @@ impl Chains {
         requires on_board { p < point_count self.old.size }
         requires free { entry_at self.old.points p ≡ None }
         requires alive { AllHaveLiberties self.old.size (slice_set self.old.points p (Some colour)) }
-        requires near { AreNear self.old.size self.old.names p near.now }
+        requires near { AreNear self.old.size self.old.counts.names p near.now }
         ensures size { self.new.size ≡ self.old.size }
         ensures points { self.new.points ≡ slice_set self.old.points p (Some colour) }
     {
         self.points.set(p, Some(colour));
-        start_chain(
-            self.size,
-            &mut self.counts.names,
-            &mut self.counts.stones,
-            &mut self.counts.liberties,
-            p,
-            new_name(colour, p),
-            near,
-        );
-        join_beside(
-            self.size,
-            &mut self.counts.names,
-            &mut self.counts.stones,
-            &mut self.counts.liberties,
-            p,
-            near,
-        );
+        self.counts.put_stone(self.size, colour, p, near);
         self.end = greater_end(self.end, p + 1);
     }
 
     /// Takes the chain of this name off the board.
     pub(crate) fn take_chain(&mut self, name: u16)
-        requires living { (name ≢ 0) × (name_at self.old.names (root_of name) ≡ name) }
+        requires living { IsLiving self.old.counts.names name }
         ensures size { self.new.size ≡ self.old.size }
-        ensures names { self.new.names ≡ map (renamed name 0) self.old.names }
-        ensures lost { HasLost self.old.names name self.old.points self.new.points }
+        ensures names { self.new.counts.names ≡ map (renamed name 0) self.old.counts.names }
+        ensures lost { HasLost self.old.counts.names name self.old.points self.new.points }
     {
-        let stones = self.counts.stones[root_of(name)];
-        remove_chain(
-            self.size,
-            &mut self.points,
-            &mut self.counts.names,
-            &mut self.counts.liberties,
-            name,
-            stones,
-        );
+        self.counts.remove_chain(self.size, &mut self.points, name);
     }
 
     /// The board of this colouring, made stone by stone.
@@ -204,7 +157,7 @@ impl Chains {
         ensures fits { length self.now.points ≡ point_count self.now.size }
         ensures kind { IsPlayOfKind result self.now.size self.now.points colour p }
     {
-        let near = names_beside(self.size, &self.counts.names, p);
+        let near = self.counts.names_beside(self.size, p);
         self.play_kind_by_names(colour, &near)
     }
 
@@ -212,7 +165,7 @@ impl Chains {
     #[inline(always)]
     fn play_kind_by_names(&self, colour: Colour, near: &NeighbourNames) -> PlayKind
         requires { (m : ℕ) → IsOneName near.now.above near.now.left near.now.right near.now.below m → root_of m < MOST_POINTS }
-        ensures { (p : ℕ) → p < point_count self.now.size → entry_at self.now.points p ≡ None → AreNear self.now.size self.now.names p near.now
+        ensures { (p : ℕ) → p < point_count self.now.size → entry_at self.now.points p ≡ None → AreNear self.now.size self.now.counts.names p near.now
             → IsPlayOfKind result self.now.size self.now.points colour p }
     {
         if near.has_chain_in_atari(&self.counts.liberties, colour_number(colour.other())) {
@@ -230,7 +183,7 @@ impl Chains {
     /// Those of these stones whose chain has one liberty.
     fn stones_in_atari(&self, stones: &Bits) -> Bits
         requires { (q : ℕ) → q < BITS → bit_in stones.now.words q ≡ true → (q < point_count self.now.size) × (entry_at self.now.points q ≢ None) }
-        ensures { (q : ℕ) → q < BITS → (bit_in result.words q ≡ true) ↔ ((bit_in stones.now.words q ≡ true) × (name_at self.now.liberties (root_of (name_at self.now.names q)) ≡ 1)) }
+        ensures { (q : ℕ) → q < BITS → (bit_in result.words q ≡ true) ↔ ((bit_in stones.now.words q ≡ true) × (name_at self.now.counts.liberties (root_of (name_at self.now.counts.names q)) ≡ 1)) }
     {
         let mut found = Bits::none();
         let mut q = stones.first_from(0);
@@ -269,12 +222,12 @@ impl Chains {
         requires free { entry_at self.now.points p ≡ None }
         ensures fits { length self.now.points ≡ point_count self.now.size }
         ensures goes { (q : ℕ) → entry_at self.now.points q ≢ None
-            → (entry_at (play_of self.now.size self.now.points colour p) q ≡ None) ↔ Contains result.goes.items (name_at self.now.names q) }
+            → (entry_at (play_of self.now.size self.now.points colour p) q ≡ None) ↔ Contains result.goes.items (name_at self.now.counts.names q) }
         ensures suicide { IsTrue result.suicide ↔ (entry_at (play_of self.now.size self.now.points colour p) p ≡ None) }
         ensures once { IsEachOnce result.goes.items }
-        ensures living { (m : ℕ) → Contains result.goes.items m → (m ≢ 0) × (name_at self.now.names (root_of m) ≡ m) }
+        ensures living { (m : ℕ) → Contains result.goes.items m → IsLiving self.now.counts.names m }
     {
-        let near = names_beside(self.size, &self.counts.names, p);
+        let near = self.counts.names_beside(self.size, p);
         let weak = chains_in_atari(&self.counts.liberties, &near, colour_number(colour.other()));
         if !weak.is_empty() {
             return PlayEffect {
@@ -318,7 +271,7 @@ impl Chains {
         ensures size { self.new.size ≡ self.old.size }
         ensures points { self.new.points ≡ play_of self.old.size self.old.points colour p }
     {
-        let near = names_beside(self.size, &self.counts.names, p);
+        let near = self.counts.names_beside(self.size, p);
         match self.play_kind_by_names(colour, &near) {
             PlayKind::NoCapture => self.put_stone_by_names(colour, p, &near),
             PlayKind::SingleStoneSuicide | PlayKind::NeedsBoard => self.play_with_captures(
@@ -330,11 +283,11 @@ impl Chains {
     /// Takes the stones of the chain of this name off a colouring of the board's points.
     fn lift_off_colouring(&self, name: u16, points: &mut Colouring)
         requires fits { length points.old ≡ point_count self.now.size }
-        requires living { (name ≢ 0) × (name_at self.now.names (root_of name) ≡ name) }
-        ensures { HasLost self.now.names name points.old points.new }
+        requires living { IsLiving self.now.counts.names name }
+        ensures { HasLost self.now.counts.names name points.old points.new }
     {
-        let stones = self.counts.stones[root_of(name)];
-        lift_chain_off_colouring(self.size, points, &self.counts.names, name, stones);
+        self.counts
+            .lift_chain_off_colouring(self.size, points, name);
     }
 
     /// The colouring after a play by which stones may go.

@@ -1,17 +1,31 @@
 //! A stone comes: the chains of its colour beside it become one with it, their liberties counted stone by stone.
 
-ghost use Rattle.std.specs.Prelude.{◌≡◌, ◌≢◌, ℕ, ◌+◌, ◌/◌, ◌<◌, ◌≤◌, ◌⊎◌, length, map, slice_set};
+ghost use Rattle.std.specs.Prelude.{◌≡◌, ◌≢◌, ℕ, ◌+◌, ◌/◌, ◌<◌, ◌≤◌, ◌⊎◌, length, map, slice_set, Some};
 ghost use Rattle.tt_sgf.specs.declared.size.TheConstants.{MOST_POINTS};
 ghost use Rattle.tt_sgf.specs.Sizes.{point_count};
 ghost use Rattle.tt_board.specs.declared.counted.play_kind.TheConstants.{OFF_BOARD_NAME};
 ghost use Rattle.tt_board.specs.Position.{Colouring};
-ghost use Rattle.tt_board.specs.Reach.{entry_at};
 ghost use Rattle.tt_board.specs.inside.Chains.{name_at, root_of, renamed, liberty_count, AreCounted, AreNames, AreNamesBut, AreNear, AreGathered, Touches, IsOneName, IsNewName};
-ghost use Rattle.tt_board.specs.inside.Chains.{IsChainOf, AreBoardCounts, AreTwoChains};
+ghost use Rattle.tt_board.specs.inside.Chains.{colour_number, IsChainOf, AreTwoChains};
 
+use crate::Colour;
+use crate::counted::chain_counts::ChainCounts;
 use crate::counted::chain_names::{count_new_liberties, root_of};
 use crate::counted::play_kind::{NeighbourNames, OFF_BOARD_NAME};
 use tt_sgf::Size;
+
+/// The name of a new chain of this colour with its root on `p`.
+fn new_name(colour: Colour, p: usize) -> u16
+    requires { p < MOST_POINTS }
+    ensures colour { result / 512 ≡ colour_number colour }
+    ensures root { root_of result ≡ p }
+    ensures living { 512 ≤ result }
+{
+    match colour {
+        Colour::Black => 512 + p as u16,
+        Colour::White => 1024 + p as u16,
+    }
+}
 
 /// Takes a liberty from the chain of this name, if it is one and not one of three others.
 #[inline]
@@ -44,37 +58,11 @@ fn take_liberty_beside(liberties: &mut [u16], near: &NeighbourNames)
     take_liberty_from(liberties, near.below, near.above, near.left, near.right);
 }
 
-/// Puts a stone on the empty point `p` as a chain of its own, which takes a liberty from each chain beside it.
-pub(crate) fn start_chain(
-    size: Size,
-    names: &mut [u16],
-    stones: &mut [u16],
-    liberties: &mut [u16],
-    p: usize,
-    name: u16,
-    near: &NeighbourNames,
-)
-    requires wide { (length names.old ≡ MOST_POINTS) × (length stones.old ≡ MOST_POINTS) × (length liberties.old ≡ MOST_POINTS) }
-    requires on_board { p < point_count size }
-    requires free { name_at names.old p ≡ 0 }
-    requires coloured { (q : ℕ) → name_at names.old q ≢ OFF_BOARD_NAME }
-    requires named { (name ≢ 0) × (root_of name ≡ p) }
-    requires near { AreNear size names.old p near.now }
-    requires counted { AreCounted size names.old stones.old liberties.old }
-    ensures put { names.new ≡ slice_set names.old p name }
-    ensures still_counted { AreCounted size names.new stones.new liberties.new }
-{
-    take_liberty_beside(liberties, near);
-    names[p] = name;
-    stones[p] = 1;
-    liberties[p] = near.empty;
-}
-
 /// The first point from `start` on with this name, where there is one.
-fn next_named(names: &[u16], start: usize, name: u16) -> usize
-    requires { (q : ℕ) × (start ≤ q) × (q < length names.now) × (name_at names.now q ≡ name) }
+fn next_named(names: &[u16; 361], start: usize, name: u16) -> usize
+    requires { (q : ℕ) × (start ≤ q) × (q < MOST_POINTS) × (name_at names.now q ≡ name) }
     ensures from { start ≤ result }
-    ensures found { (result < length names.now) × (name_at names.now result ≡ name) }
+    ensures found { (result < MOST_POINTS) × (name_at names.now result ≡ name) }
     ensures first { (q : ℕ) → start ≤ q → q < result → name_at names.now q ≢ name }
 {
     for p in start..names.len() {
@@ -87,7 +75,7 @@ fn next_named(names: &[u16], start: usize, name: u16) -> usize
 
 /// Gives the stones of the chain `from` the name `to`, and says how many liberties they bring that chain.
 #[inline(never)]
-fn rename_chain(size: Size, names: &mut [u16], from: u16, to: u16, stones: u16) -> u16
+fn rename_stones(size: Size, names: &mut [u16; 361], from: u16, to: u16, stones: u16) -> u16
     requires chain { IsChainOf size names.old from stones }
     requires other { (to ≢ 0) × (from ≢ to) }
     ensures renamed { names.new ≡ map (renamed from to) names.old }
@@ -105,7 +93,7 @@ fn rename_chain(size: Size, names: &mut [u16], from: u16, to: u16, stones: u16) 
 }
 
 /// Gives the one stone of the chain `from` the name `to`, and says how many liberties it brings that chain.
-fn rename_lone_stone(size: Size, names: &mut [u16], from: u16, to: u16) -> u16
+fn rename_lone_stone(size: Size, names: &mut [u16; 361], from: u16, to: u16) -> u16
     requires chain { IsChainOf size names.old from 1 }
     requires other { (to ≢ 0) × (from ≢ to) }
     ensures renamed { names.new ≡ map (renamed from to) names.old }
@@ -117,96 +105,100 @@ fn rename_lone_stone(size: Size, names: &mut [u16], from: u16, to: u16) -> u16
     gained
 }
 
-/// Makes the chain `from` part of the chain `to`.
-fn absorb(
-    size: Size,
-    names: &mut [u16],
-    stones: &mut [u16],
-    liberties: &mut [u16],
-    from: u16,
-    to: u16,
-)
-    requires counts { AreBoardCounts size names.old stones.old liberties.old }
-    requires chains { AreTwoChains names.old from to }
+/// Gives the chain `from`, of so many stones, the name `to`, and says how many liberties it brings the chain of that name.
+fn rename_chain(size: Size, names: &mut [u16; 361], from: u16, to: u16, stones: u16) -> u16
+    requires chain { IsChainOf size names.old from stones }
+    requires other { (to ≢ 0) × (from ≢ to) }
     ensures renamed { names.new ≡ map (renamed from to) names.old }
-    ensures still_counted { AreCounted size names.new stones.new liberties.new }
+    ensures gained { liberty_count size names.new to ≡ liberty_count size names.old to + result }
 {
-    let count = stones[root_of(from)];
-    let gained = if count == 1 {
+    if stones == 1 {
         rename_lone_stone(size, names, from, to)
     } else {
-        rename_chain(size, names, from, to, count)
-    };
-    let root = root_of(to);
-    liberties[root] += gained;
-    stones[root] += count;
-}
-
-/// Makes two chains one: the smaller gets the name of the greater.
-#[inline(never)]
-fn unite(
-    size: Size,
-    names: &mut [u16],
-    stones: &mut [u16],
-    liberties: &mut [u16],
-    one: u16,
-    two: u16,
-)
-    requires counts { AreBoardCounts size names.old stones.old liberties.old }
-    requires chains { AreTwoChains names.old one two }
-    ensures renamed { (names.new ≡ map (renamed one two) names.old) ⊎ (names.new ≡ map (renamed two one) names.old) }
-    ensures still_counted { AreCounted size names.new stones.new liberties.new }
-{
-    if stones[root_of(one)] < stones[root_of(two)] {
-        absorb(size, names, stones, liberties, one, two);
-    } else {
-        absorb(size, names, stones, liberties, two, one);
+        rename_stones(size, names, from, to, stones)
     }
 }
 
-/// Makes the stone on `p` one with the chain of this name, where that is of its colour, another one and still there.
-#[inline(always)]
-fn join_named(
-    size: Size,
-    names: &mut [u16],
-    stones: &mut [u16],
-    liberties: &mut [u16],
-    p: usize,
-    name: u16,
-)
-    requires counts { AreBoardCounts size names.old stones.old liberties.old }
-    requires on_board { p < point_count size }
-    requires stone { 512 ≤ name_at names.old p }
-    requires in_range { root_of name < MOST_POINTS }
-    requires near { 512 ≤ name → name ≢ OFF_BOARD_NAME → name_at names.old (root_of name) ≡ name → Touches size names.old name p }
-    ensures gathered { AreGathered size names.old names.new p }
-    ensures joined { name / 512 ≡ name_at names.old p / 512 → name_at names.old (root_of name) ≡ name → name_at names.new (root_of name) ≡ name_at names.new p }
-    ensures still_counted { AreCounted size names.new stones.new liberties.new }
-{
-    let own = names[p];
-    if name / 512 == own / 512 && name != own && names[root_of(name)] == name {
-        unite(size, names, stones, liberties, name, own);
+impl ChainCounts {
+    /// Makes the chain `from` part of the chain `to`.
+    fn absorb(&mut self, size: Size, from: u16, to: u16)
+        requires counted { AreCounted size self.old }
+        requires chains { AreTwoChains self.old.names from to }
+        ensures renamed { self.new.names ≡ map (renamed from to) self.old.names }
+        ensures still_counted { AreCounted size self.new }
+    {
+        let count = self.stones[root_of(from)];
+        let gained = rename_chain(size, &mut self.names, from, to, count);
+        let root = root_of(to);
+        self.liberties[root] += gained;
+        self.stones[root] += count;
     }
-}
 
-/// Makes the stone on `p` one with the chains of its colour beside it, of which these are the names.
-pub(crate) fn join_beside(
-    size: Size,
-    names: &mut [u16],
-    stones: &mut [u16],
-    liberties: &mut [u16],
-    p: usize,
-    near: &NeighbourNames,
-)
-    requires counts { AreBoardCounts size names.old stones.old liberties.old }
-    requires on_board { p < point_count size }
-    requires stone { 512 ≤ name_at names.old p }
-    requires near { AreNear size names.old p near.now }
-    ensures joined { (c : Colouring) → AreNamesBut size c names.old p → AreNames size c names.new }
-    ensures still_counted { AreCounted size names.new stones.new liberties.new }
-{
-    join_named(size, names, stones, liberties, p, near.above);
-    join_named(size, names, stones, liberties, p, near.left);
-    join_named(size, names, stones, liberties, p, near.right);
-    join_named(size, names, stones, liberties, p, near.below);
+    /// Makes two chains one: the smaller gets the name of the greater.
+    #[inline(never)]
+    fn unite(&mut self, size: Size, one: u16, two: u16)
+        requires counted { AreCounted size self.old }
+        requires chains { AreTwoChains self.old.names one two }
+        ensures renamed { (self.new.names ≡ map (renamed one two) self.old.names) ⊎ (self.new.names ≡ map (renamed two one) self.old.names) }
+        ensures still_counted { AreCounted size self.new }
+    {
+        if self.stones[root_of(one)] < self.stones[root_of(two)] {
+            self.absorb(size, one, two);
+        } else {
+            self.absorb(size, two, one);
+        }
+    }
+
+    /// Makes the stone on `p` one with the chain of this name, where that is of its colour, another one and still there.
+    #[inline(always)]
+    fn join_named(&mut self, size: Size, p: usize, name: u16)
+        requires counted { AreCounted size self.old }
+        requires on_board { p < point_count size }
+        requires stone { 512 ≤ name_at self.old.names p }
+        requires in_range { root_of name < MOST_POINTS }
+        requires near { 512 ≤ name → name ≢ OFF_BOARD_NAME → name_at self.old.names (root_of name) ≡ name → Touches size self.old.names name p }
+        ensures gathered { AreGathered size self.old.names self.new.names p }
+        ensures joined { name / 512 ≡ name_at self.old.names p / 512 → name_at self.old.names (root_of name) ≡ name
+            → name_at self.new.names (root_of name) ≡ name_at self.new.names p }
+        ensures still_counted { AreCounted size self.new }
+    {
+        let own = self.names[p];
+        if name / 512 == own / 512 && name != own && self.names[root_of(name)] == name {
+            self.unite(size, name, own);
+        }
+    }
+
+    /// Makes the stone on `p` one with the chains of its colour beside it, of which these are the names.
+    fn join_beside(&mut self, size: Size, p: usize, near: &NeighbourNames)
+        requires counted { AreCounted size self.old }
+        requires on_board { p < point_count size }
+        requires stone { 512 ≤ name_at self.old.names p }
+        requires near { AreNear size self.old.names p near.now }
+        ensures joined { (c : Colouring) → AreNamesBut size c self.old.names p → AreNames size c self.new.names }
+        ensures still_counted { AreCounted size self.new }
+    {
+        self.join_named(size, p, near.above);
+        self.join_named(size, p, near.left);
+        self.join_named(size, p, near.right);
+        self.join_named(size, p, near.below);
+    }
+
+    /// Puts a stone on the empty point `p`, beside which are these names: it takes a liberty from each chain there, and becomes one with
+    /// those of its colour.
+    pub(crate) fn put_stone(&mut self, size: Size, colour: Colour, p: usize, near: &NeighbourNames)
+        requires counted { AreCounted size self.old }
+        requires on_board { p < point_count size }
+        requires free { name_at self.old.names p ≡ 0 }
+        requires coloured { (q : ℕ) → name_at self.old.names q ≢ OFF_BOARD_NAME }
+        requires near { AreNear size self.old.names p near.now }
+        ensures named { (c : Colouring) → length c ≡ point_count size → AreNames size c self.old.names → AreNames size (slice_set c p (Some colour)) self.new.names }
+        ensures still_counted { AreCounted size self.new }
+    {
+        let name = new_name(colour, p);
+        take_liberty_beside(&mut self.liberties, near);
+        self.names[p] = name;
+        self.stones[p] = 1;
+        self.liberties[p] = near.empty;
+        self.join_beside(size, p, near);
+    }
 }

@@ -1,11 +1,13 @@
 //! Plays that are known by four names and the counts of their chains: those by which nothing goes, and those that change nothing.
 
 ghost use Rattle.std.specs.Prelude.{◌≡◌, ◌≢◌, ℕ, ◌+◌, ◌/◌, ◌<◌, ◌≤◌, ◌⊎◌, ◌↔◌, length, IsTrue, Some, MatchOption, false};
+ghost use Rattle.tt_sgf.specs.declared.size.TheConstants.{MOST_POINTS};
 ghost use Rattle.tt_sgf.specs.Sizes.{point_count};
 ghost use Rattle.tt_board.specs.declared.counted.play_kind.TheConstants.{OFF_BOARD_NAME};
-ghost use Rattle.tt_board.specs.inside.Chains.{name_at, root_of, colour_number, IsOneName, AreNear, bare_one};
+ghost use Rattle.tt_board.specs.inside.Chains.{name_at, root_of, colour_number, IsOneName, AreNear, bare_one, AreCounted};
 
 use crate::Colour;
+use crate::counted::chain_counts::ChainCounts;
 use crate::counted::chain_names::root_of;
 use crate::near::neighbours_of;
 use tt_sgf::Size;
@@ -47,8 +49,8 @@ pub(crate) fn colour_number(colour: Colour) -> u16
 
 /// The name on a point; `OFF_BOARD_NAME` for no point.
 #[inline]
-fn name_there(names: &[u16], index: Option<usize>) -> u16
-    requires { (q : ℕ) → index ≡ Some q → q < length names.now }
+fn name_there(names: &[u16; 361], index: Option<usize>) -> u16
+    requires { (q : ℕ) → index ≡ Some q → q < MOST_POINTS }
     ensures { MatchOption index (result ≡ OFF_BOARD_NAME) (λ q. result ≡ name_at names.now q) }
 {
     match index {
@@ -57,31 +59,10 @@ fn name_there(names: &[u16], index: Option<usize>) -> u16
     }
 }
 
-/// The names beside `p`.
-#[inline]
-pub(crate) fn names_beside(size: Size, names: &[u16], p: usize) -> NeighbourNames
-    requires wide { point_count size ≤ length names.now }
-    requires on_board { p < point_count size }
-    ensures { AreNear size names.now p result }
-{
-    let near = neighbours_of(size, p);
-    let above = name_there(names, near.above);
-    let left = name_there(names, near.left);
-    let right = name_there(names, near.right);
-    let below = name_there(names, near.below);
-    NeighbourNames {
-        above,
-        left,
-        right,
-        below,
-        empty: one_if_empty(above) + one_if_empty(left) + one_if_empty(right) + one_if_empty(below),
-    }
-}
-
 /// Whether the name is of a chain of the colour of this code, with one liberty.
 #[inline]
-pub(crate) fn is_in_atari(liberties: &[u16], name: u16, code: u16) -> bool
-    requires { root_of name < length liberties.now }
+pub(crate) fn is_in_atari(liberties: &[u16; 361], name: u16, code: u16) -> bool
+    requires { root_of name < MOST_POINTS }
     ensures { IsTrue result ↔ ((name / 512 ≡ code) × (name_at liberties.now (root_of name) ≡ 1)) }
 {
     name / 512 == code && liberties[root_of(name)] == 1
@@ -89,8 +70,8 @@ pub(crate) fn is_in_atari(liberties: &[u16], name: u16, code: u16) -> bool
 
 /// Whether the name is that of an empty point, or of a chain of the colour of this code, with another number of liberties than one.
 #[inline]
-fn is_empty_or_not_in_atari(liberties: &[u16], name: u16, code: u16) -> bool
-    requires { root_of name < length liberties.now }
+fn is_empty_or_not_in_atari(liberties: &[u16; 361], name: u16, code: u16) -> bool
+    requires { root_of name < MOST_POINTS }
     ensures { IsTrue result ↔ ((name ≡ 0) ⊎ ((name / 512 ≡ code) × (name_at liberties.now (root_of name) ≢ 1))) }
 {
     name == 0 || (name / 512 == code && liberties[root_of(name)] != 1)
@@ -104,11 +85,37 @@ fn one_if_empty(name: u16) -> u16
     if name == 0 { 1 } else { 0 }
 }
 
+impl ChainCounts {
+    /// The names beside `p`.
+    #[inline]
+    pub(crate) fn names_beside(&self, size: Size, p: usize) -> NeighbourNames
+        requires counted { AreCounted size self.now }
+        requires on_board { p < point_count size }
+        ensures { AreNear size self.now.names p result }
+    {
+        let near = neighbours_of(size, p);
+        let above = name_there(&self.names, near.above);
+        let left = name_there(&self.names, near.left);
+        let right = name_there(&self.names, near.right);
+        let below = name_there(&self.names, near.below);
+        NeighbourNames {
+            above,
+            left,
+            right,
+            below,
+            empty: one_if_empty(above)
+                + one_if_empty(left)
+                + one_if_empty(right)
+                + one_if_empty(below),
+        }
+    }
+}
+
 impl NeighbourNames {
     /// Whether a chain of the colour of this code has one liberty.
     #[inline]
-    pub(crate) fn has_chain_in_atari(&self, liberties: &[u16], code: u16) -> bool
-        requires { (m : ℕ) → IsOneName self.now.above self.now.left self.now.right self.now.below m → root_of m < length liberties.now }
+    pub(crate) fn has_chain_in_atari(&self, liberties: &[u16; 361], code: u16) -> bool
+        requires { (m : ℕ) → IsOneName self.now.above self.now.left self.now.right self.now.below m → root_of m < MOST_POINTS }
         ensures { result ≡ false → (m : ℕ) → IsOneName self.now.above self.now.left self.now.right self.now.below m → m / 512 ≡ code
             → name_at liberties.now (root_of m) ≢ 1 }
     {
@@ -120,8 +127,8 @@ impl NeighbourNames {
 
     /// Whether a point is empty, or a chain of the colour of this code has not one liberty.
     #[inline]
-    pub(crate) fn has_empty_or_not_in_atari(&self, liberties: &[u16], code: u16) -> bool
-        requires { (m : ℕ) → IsOneName self.now.above self.now.left self.now.right self.now.below m → root_of m < length liberties.now }
+    pub(crate) fn has_empty_or_not_in_atari(&self, liberties: &[u16; 361], code: u16) -> bool
+        requires { (m : ℕ) → IsOneName self.now.above self.now.left self.now.right self.now.below m → root_of m < MOST_POINTS }
         ensures some { IsTrue result → (m : ℕ) × IsOneName self.now.above self.now.left self.now.right self.now.below m
             × ((m ≡ 0) ⊎ ((m / 512 ≡ code) × (name_at liberties.now (root_of m) ≢ 1))) }
         ensures none { result ≡ false → (m : ℕ) → IsOneName self.now.above self.now.left self.now.right self.now.below m → m ≢ 0 }

@@ -1,18 +1,19 @@
 use Rattle.std.proofs.Common.{inl, inr, arith}
+use Rattle.tt_sgf.specs.laws.SizeLaws.{point_count_is_bounded}
 use Rattle.tt_board.proofs.NameLemmas.{touch_at}
 use Rattle.tt_board.proofs.counted.chain_names.chains_beside.Goals as goal
 
 pub push_chain_at-requires-clause-inside : goal.push_chain_at-requires-clause-inside
-push_chain_at-requires-clause-inside c = λ q is. let n = (c.neighbours_of-near.ensures.all q).0 (inl is) in omega (arith, n.0, c.requires.wide)
+push_chain_at-requires-clause-inside c = λ q is. let n = (c.neighbours_of-near.ensures.all q).0 (inl is) in omega (arith, n.0, point_count_is_bounded c.args.size)
 
 pub push_chain_at-requires-2-clause-inside : goal.push_chain_at-requires-2-clause-inside
-push_chain_at-requires-2-clause-inside c = λ q is. let n = (c.neighbours_of-near.ensures.all q).0 (inr (inl is)) in omega (arith, n.0, c.requires.wide)
+push_chain_at-requires-2-clause-inside c = λ q is. let n = (c.neighbours_of-near.ensures.all q).0 (inr (inl is)) in omega (arith, n.0, point_count_is_bounded c.args.size)
 
 pub push_chain_at-requires-3-clause-inside : goal.push_chain_at-requires-3-clause-inside
-push_chain_at-requires-3-clause-inside c = λ q is. let n = (c.neighbours_of-near.ensures.all q).0 (inr (inr (inl is))) in omega (arith, n.0, c.requires.wide)
+push_chain_at-requires-3-clause-inside c = λ q is. let n = (c.neighbours_of-near.ensures.all q).0 (inr (inr (inl is))) in omega (arith, n.0, point_count_is_bounded c.args.size)
 
 pub push_chain_at-requires-4-clause-inside : goal.push_chain_at-requires-4-clause-inside
-push_chain_at-requires-4-clause-inside c = λ q is. let n = (c.neighbours_of-near.ensures.all q).0 (inr (inr (inr is))) in omega (arith, n.0, c.requires.wide)
+push_chain_at-requires-4-clause-inside c = λ q is. let n = (c.neighbours_of-near.ensures.all q).0 (inr (inr (inr is))) in omega (arith, n.0, point_count_is_bounded c.args.size)
 
 pub returns-clause-beside : goal.returns-clause-beside
 returns-clause-beside c m =

@@ -3,17 +3,17 @@ use Rattle.tt_board.specs.inside.Chains.{is_new}
 use Rattle.tt_board.proofs.NameLemmas.{beside_counted}
 use Rattle.tt_board.proofs.counted.chain_names.count_new_liberties.Goals as goal
 
-pub one_if_new_liberty-requires-clause-on_board : goal.one_if_new_liberty-requires-clause-on_board
-one_if_new_liberty-requires-clause-on_board c = λ q is. let n = (c.neighbours_of-near.ensures.all q).0 (inl is) in omega (arith, n.0, c.requires.wide)
+pub one_if_new_liberty-requires : goal.one_if_new_liberty-requires
+one_if_new_liberty-requires c = λ q is. ((c.neighbours_of-near.ensures.all q).0 (inl is)).0
 
-pub one_if_new_liberty-requires-2-clause-on_board : goal.one_if_new_liberty-requires-2-clause-on_board
-one_if_new_liberty-requires-2-clause-on_board c = λ q is. let n = (c.neighbours_of-near.ensures.all q).0 (inr (inl is)) in omega (arith, n.0, c.requires.wide)
+pub one_if_new_liberty-requires-2 : goal.one_if_new_liberty-requires-2
+one_if_new_liberty-requires-2 c = λ q is. ((c.neighbours_of-near.ensures.all q).0 (inr (inl is))).0
 
-pub one_if_new_liberty-requires-3-clause-on_board : goal.one_if_new_liberty-requires-3-clause-on_board
-one_if_new_liberty-requires-3-clause-on_board c = λ q is. let n = (c.neighbours_of-near.ensures.all q).0 (inr (inr (inl is))) in omega (arith, n.0, c.requires.wide)
+pub one_if_new_liberty-requires-3 : goal.one_if_new_liberty-requires-3
+one_if_new_liberty-requires-3 c = λ q is. ((c.neighbours_of-near.ensures.all q).0 (inr (inr (inl is)))).0
 
-pub one_if_new_liberty-requires-4-clause-on_board : goal.one_if_new_liberty-requires-4-clause-on_board
-one_if_new_liberty-requires-4-clause-on_board c = λ q is. let n = (c.neighbours_of-near.ensures.all q).0 (inr (inr (inr is))) in omega (arith, n.0, c.requires.wide)
+pub one_if_new_liberty-requires-4 : goal.one_if_new_liberty-requires-4
+one_if_new_liberty-requires-4 c = λ q is. ((c.neighbours_of-near.ensures.all q).0 (inr (inr (inr is)))).0
 
 pub returns : goal.returns
 returns c =

@@ -1,19 +1,20 @@
 use Rattle.std.proofs.Common.{inl, inr, refl, sym, ◌∙◌, arith}
 use Rattle.std.proofs.lemmas.Bool.{true≢false}
+use Rattle.tt_sgf.specs.laws.SizeLaws.{point_count_is_bounded}
 use Rattle.tt_board.proofs.NameLemmas.{touch_at}
 use Rattle.tt_board.proofs.counted.chain_names.touches.Goals as goal
 
 pub point_has_name-requires : goal.point_has_name-requires
-point_has_name-requires c = λ q is. let n = (c.neighbours_of-near.ensures.all q).0 (inl is) in omega (arith, n.0, c.requires.wide)
+point_has_name-requires c = λ q is. let n = (c.neighbours_of-near.ensures.all q).0 (inl is) in omega (arith, n.0, point_count_is_bounded c.args.size)
 
 pub point_has_name-requires-2 : goal.point_has_name-requires-2
-point_has_name-requires-2 c = λ q is. let n = (c.neighbours_of-near.ensures.all q).0 (inr (inl is)) in omega (arith, n.0, c.requires.wide)
+point_has_name-requires-2 c = λ q is. let n = (c.neighbours_of-near.ensures.all q).0 (inr (inl is)) in omega (arith, n.0, point_count_is_bounded c.args.size)
 
 pub point_has_name-requires-3 : goal.point_has_name-requires-3
-point_has_name-requires-3 c = λ q is. let n = (c.neighbours_of-near.ensures.all q).0 (inr (inr (inl is))) in omega (arith, n.0, c.requires.wide)
+point_has_name-requires-3 c = λ q is. let n = (c.neighbours_of-near.ensures.all q).0 (inr (inr (inl is))) in omega (arith, n.0, point_count_is_bounded c.args.size)
 
 pub point_has_name-requires-4 : goal.point_has_name-requires-4
-point_has_name-requires-4 c = λ q is. let n = (c.neighbours_of-near.ensures.all q).0 (inr (inr (inr is))) in omega (arith, n.0, c.requires.wide)
+point_has_name-requires-4 c = λ q is. let n = (c.neighbours_of-near.ensures.all q).0 (inr (inr (inr is))) in omega (arith, n.0, point_count_is_bounded c.args.size)
 
 pub returns-then-point_has_name : goal.returns-then-point_has_name
 returns-then-point_has_name c =

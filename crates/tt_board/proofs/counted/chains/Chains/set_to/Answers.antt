@@ -1,5 +1,5 @@
-use Rattle.std.proofs.Common.{◌≡◌, ℕ, ◌≤◌, length, arith, sym, ap, subst, ◌∙◌}
-use Rattle.tt_board.specs.inside.Chains.{name_at, AreNames, AreCounted}
+use Rattle.std.proofs.Common.{◌≡◌, ℕ, ◌≤◌, length, arith, rules, sym, ap, subst, ◌∙◌}
+use Rattle.tt_board.specs.inside.Chains.{name_at, AreNames}
 use Rattle.tt_board.proofs.LinkLemmas.{named_bare}
 use Rattle.tt_board.proofs.OverLemmas.{over_all, over_counted}
 use Rattle.tt_board.proofs.counted.chains.Chains.set_to.Goals as goal
@@ -13,18 +13,19 @@ invariant_of-self c =
     elim c.if-end-le-MOST_COPIED_IN_PARTS.branch [
       | then-end-le-MOST_COPIED_IN_PARTS w ↦
           let names = w.copy_first in let stones = w.copy_first-then-end-le-MOST_COPIED_IN_PARTS in let liberties = w.copy_first-then-end-le-MOST_COPIED_IN_PARTS-2 in
-          let same : names.new.entries ≡ b.counts.names = names.ensures ∙ over_all n b.counts.names a.counts.names (omega (arith, w.if-end-le-MOST_COPIED_IN_PARTS.true, i.wide.0))
-          (i.wide.0 ∙ sym j.wide.0) (sym (ap length names.ensures) ∙ names.auto.entries ∙ j.wide.0 ∙ sym i.wide.0) bare_b bare_a in
-          let counted : AreCounted b.size b.counts.names stones.new.entries liberties.new.entries = rw (stones.ensures, liberties.ensures)
-          (over_counted b.size n b.counts.names b.counts.stones b.counts.liberties a.counts.stones a.counts.liberties i.counted bare_b
-          (omega (arith, w.if-end-le-MOST_COPIED_IN_PARTS.true, i.wide.1)) (omega (arith, w.if-end-le-MOST_COPIED_IN_PARTS.true, i.wide.2))) in
+          let wide : length b.counts.names ≡ 361 = search rules in
+          let also : length a.counts.names ≡ 361 = search rules in
+          let few : length b.counts.stones ≡ 361 = search rules in
+          let most : length b.counts.liberties ≡ 361 = search rules in
+          let same : names.new.entries ≡ b.counts.names = names.ensures ∙ over_all n b.counts.names a.counts.names (omega (arith, w.if-end-le-MOST_COPIED_IN_PARTS.true, wide))
+          (wide ∙ sym also) (sym (ap length names.ensures) ∙ names.auto.entries ∙ also ∙ sym wide) bare_b bare_a in
           rw (w.self-inside-is, c.set_to.ensures) (record {
             fits = i.fits;
-            wide = (names.auto.entries ∙ j.wide.0, stones.auto.entries ∙ j.wide.1, liberties.auto.entries ∙ j.wide.2);
             named = subst (AreNames b.size b.points) (sym same) i.named;
-            counted = subst (λ ns. AreCounted b.size ns stones.new.entries liberties.new.entries) (sym same) counted;
+            counted = rw (same, stones.ensures, liberties.ensures) (over_counted b.size n b.counts a.counts.stones a.counts.liberties i.counted bare_b
+                (omega (arith, w.if-end-le-MOST_COPIED_IN_PARTS.true, few)) (omega (arith, w.if-end-le-MOST_COPIED_IN_PARTS.true, most)));
             alive = i.alive;
             rest = i.rest;
           })
-      | else-end-le-MOST_COPIED_IN_PARTS w ↦ rw (w.self-inside-is, c.set_to.ensures) (record { fits = i.fits; wide = i.wide; named = i.named; counted = i.counted; alive = i.alive; rest = i.rest })
+      | else-end-le-MOST_COPIED_IN_PARTS w ↦ rw (w.self-inside-is, c.set_to.ensures) (record { fits = i.fits; named = i.named; counted = i.counted; alive = i.alive; rest = i.rest })
     ]

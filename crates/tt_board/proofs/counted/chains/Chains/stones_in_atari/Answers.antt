@@ -13,9 +13,9 @@ loop-q-preserved c =
     let b = c.args.self.now in let q = c.loop-q.q in let stones = c.args.stones.now.words in
     let kept = c.loop-q.invariant in
     let found = c.loop-q.found.words in let made = c.if-self-root_of-eq1.found.words in
-    let count : name_at c.self.inside.counts.liberties c.root_of.result ≡ name_at b.liberties (root_of (name_at b.names q)) =
-    ap (name_at c.self.inside.counts.liberties) c.root_of.ensures.value ∙ ap (λ (v : ChainBoard). name_at v.liberties (root_of (name_at v.names q))) c.self.view_is in
-    let here : (bit_in made q ≡ true) ↔ (name_at b.liberties (root_of (name_at b.names q)) ≡ 1) = elim c.if-self-root_of-eq1.branch [
+    let count : name_at c.self.inside.counts.liberties c.root_of.result ≡ name_at b.counts.liberties (root_of (name_at b.counts.names q)) =
+    ap (name_at c.self.inside.counts.liberties) c.root_of.ensures.value ∙ ap (λ (v : ChainBoard). name_at v.counts.liberties (root_of (name_at v.counts.names q))) c.self.view_is in
+    let here : (bit_in made q ≡ true) ↔ (name_at b.counts.liberties (root_of (name_at b.counts.names q)) ≡ 1) = elim c.if-self-root_of-eq1.branch [
       | then-self-root_of-eq1 w ↦ (λ _. sym count ∙ w.if-self-root_of-eq1.true, λ _. rw w.found-is w.set.ensures.same)
       | else-self-root_of-eq1 w ↦ (λ on. absurd (true≢false (sym on ∙ rw w.found-is (kept.rest q (omega arith) c.loop-q-test.true))), λ one. absurd (w.if-self-root_of-eq1.false (count ∙ one)))
     ] in
@@ -27,8 +27,8 @@ loop-q-preserved c =
     record {
       most = next.ensures.most;
       here = next.ensures.found;
-      done = sift_done stones found made (λ r. name_at b.liberties (root_of (name_at b.names r)) ≡ 1) q next.result next.ensures.after
+      done = sift_done stones found made (λ r. name_at b.counts.liberties (root_of (name_at b.counts.names r)) ≡ 1) q next.result next.ensures.after
           (kept.here c.loop-q-test.true) next.ensures.none kept.rest here others kept.done;
-      rest = sift_rest stones found made (λ r. name_at b.liberties (root_of (name_at b.names r)) ≡ 1) q next.result next.ensures.after
+      rest = sift_rest stones found made (λ r. name_at b.counts.liberties (root_of (name_at b.counts.names r)) ≡ 1) q next.result next.ensures.after
           (kept.here c.loop-q-test.true) next.ensures.none kept.rest here others;
     }

@@ -11,6 +11,6 @@ abbrev pub invariant-loop-q : goal.invariant-loop-q
 invariant-loop-q l = record {
   most : l.q ≤ BITS;
   here : l.q < BITS → bit_in l.stones.words l.q ≡ true;
-  done : (r : ℕ) → r < l.q → r < BITS → (bit_in l.found.words r ≡ true) ↔ ((bit_in l.stones.words r ≡ true) × (name_at l.self.liberties (root_of (name_at l.self.names r)) ≡ 1));
+  done : (r : ℕ) → r < l.q → r < BITS → (bit_in l.found.words r ≡ true) ↔ ((bit_in l.stones.words r ≡ true) × (name_at l.self.counts.liberties (root_of (name_at l.self.counts.names r)) ≡ 1));
   rest : (r : ℕ) → l.q ≤ r → r < BITS → bit_in l.found.words r ≡ false;
 }
