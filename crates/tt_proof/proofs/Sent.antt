@@ -70,7 +70,7 @@ footprint_send = search (sendable, crosses, boards_send) depth 40
 pub footprint_sync : IsSync Footprint.the_row
 footprint_sync = search (sendable, crosses, boards_sync) depth 40
 
-life_proof_send : IsSend LifeProof.the_row
+pub life_proof_send : IsSend LifeProof.the_row
 life_proof_send =
     view_send _ _ _ _ _ (declared_send LifeInside.the_type (
       as_row_send Snapshot.the_field snapshot_send,
@@ -80,7 +80,7 @@ life_proof_send =
       ),
     ))
 
-life_proof_sync : IsSync LifeProof.the_row
+pub life_proof_sync : IsSync LifeProof.the_row
 life_proof_sync =
     view_sync _ _ _ _ _ (declared_sync LifeInside.the_type (
       as_row_sync Snapshot.the_field snapshot_sync,
