@@ -1,6 +1,6 @@
 //! The ways from an expanded node to its children, two bytes each.
 
-ghost use Rattle.std.specs.Prelude.{◌≡◌};
+ghost use Rattle.std.specs.Prelude.{◌≡◌, IsTrue};
 ghost use Rattle.tt_search.specs.inside.Edges.{edge_turn, edge_state_of};
 ghost use Rattle.tt_search.specs.inside.Untried.{fresh_edge};
 ghost use Rattle.tt_sgf.specs.declared.size.TheConstants.{MOST_POINTS};
@@ -20,7 +20,7 @@ pub(crate) enum EdgeState {
 /// A turn, and the state of the child behind it. The number of the turn is that of its point, or `MOST_POINTS` for a pass.
 #[derive(Clone, Copy, Default)]
 pub(crate) struct Edge {
-    pub(crate) code: u16,
+    code: u16,
 }
 
 /// What the number of a turn is below.
@@ -69,6 +69,13 @@ impl Edge {
             Some(point) => Turn::Play(point),
             None => Turn::Pass,
         }
+    }
+
+    /// Whether nothing is known of the child.
+    pub(crate) fn is_fresh(self) -> bool
+        ensures { IsTrue result → edge_state_of self ≡ EdgeState.Fresh }
+    {
+        self.code < TURN_NUMBER_BOUND
     }
 
     /// The state of the child.

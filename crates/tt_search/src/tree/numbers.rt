@@ -9,7 +9,7 @@ ghost use Rattle.tt_search.specs.MostProving.{index_of_best};
 ghost use Rattle.tt_search.specs.Settled.{first_settled_index};
 
 use crate::tree::children::{Child, ChildNodes};
-use crate::tree::edges::{Edge, EdgeState, TURN_NUMBER_BOUND};
+use crate::tree::edges::{Edge, EdgeState};
 use crate::tree::node::Node;
 use tt_game::Side;
 
@@ -199,7 +199,7 @@ fn are_fresh(edges: &[Edge]) -> bool
     ensures { IsTrue result → AreFresh edges.now × (0 < length edges.now) }
 {
     for edge in edges {
-        if edge.code >= TURN_NUMBER_BOUND {
+        if !edge.is_fresh() {
             return false;
         }
     }
