@@ -35,6 +35,20 @@ pub trait WinnerSearch {
     ) -> Result<Option<Side>, NoMemory>
         requires ready { Self.ready self.now }
         ensures fewer { visits.new.left ≤ visits.old.left };
+
+    /// Makes parts of the proof that the side wins at the line, which the certifier then finds, or nothing at all.
+    fn certify_ahead(
+        &self,
+        certifier: &mut Certifier<Advisor>,
+        line: &mut Line,
+        side: Side,
+        depth: u16,
+        attempt: u8,
+    ) -> Result<(), NoMemory>
+        requires ready { Self.ready self.now }
+        requires depth { depth ≤ MOST_DEPTH }
+        ensures fewer { certifier.new.visits.left ≤ certifier.old.visits.left }
+        ensures same { line.new ≡ line.old };
 }
 
 /// The search by one finder, in the caller's thread.
@@ -52,6 +66,17 @@ impl WinnerSearch for OneFinder {
         ensures fewer { visits.new.left ≤ visits.old.left }
     {
         advisor.winner_by_search(line, u32::MAX, visits)
+    }
+
+    fn certify_ahead(
+        &self,
+        _certifier: &mut Certifier<Advisor>,
+        _line: &mut Line,
+        _side: Side,
+        _depth: u16,
+        _attempt: u8,
+    ) -> Result<(), NoMemory> {
+        Ok(())
     }
 }
 
@@ -75,6 +100,7 @@ fn find_by_attempts<S: WinnerSearch>(
         let Some(side) = search.search_winner(line, attempt, advisor, &mut certifier.visits)? else {
             return Ok(None);
         };
+        search.certify_ahead(certifier, line, side, depth, attempt)?;
         let found = certifier.certify(line, side, depth)?;
         if found.is_some() || certifier.visits.left == 0 {
             return Ok(found);

@@ -9,7 +9,7 @@ ghost use Rattle.tt_proof.specs.declared.tree.TheConstants.{MOST_DEPTH};
 ghost use Rattle.tt_proof.specs.ProofClaim.{IsChild};
 ghost use Rattle.tt_proof.specs.Strategy.{depth};
 ghost use Rattle.tt_dfpn.specs.ProofWithin.{IsProofWithin};
-ghost use Rattle.tt_dfpn.specs.inside.Certifying.{IsChildWithin};
+ghost use Rattle.tt_dfpn.specs.inside.Certifying.{AreLegal, IsChildWithin};
 
 use crate::advice::{Advice, VisitsLeft};
 use crate::memo::Memo;
@@ -27,7 +27,7 @@ pub struct Certifier<A: Advice> {
     pub advice: A,
     pub visits: VisitsLeft,
     alloc: Global,
-    memo: Memo,
+    pub(crate) memo: Memo,
 }
 
 /// Whether two sides are the same.
@@ -128,11 +128,16 @@ impl<A: Advice> Certifier<A> {
         ensures same { line.new ≡ line.old }
     {
         self.visits.left -= 1;
+        if self.memo.has_ended() {
+            return Ok(None);
+        }
         if !is_same_side(line.to_move(), side) {
             return self.proof_by_reply(line, side, room);
         }
+        self.memo.begin(line);
         let found = self.proof_by_advice(line, side, room)?;
         self.memo.keep(line, &found);
+        self.memo.end(line);
         Ok(found)
     }
 
@@ -261,6 +266,60 @@ impl<A: Advice> Certifier<A> {
         Ok(Some(proof))
     }
 
+    /// The proof behind one of the replies, which are all legal turns. Where another certifier is at it, the replies behind it come first.
+    #[cycle(certifying)]
+    fn proof_of_reply(
+        &mut self,
+        line: &mut Line,
+        side: Side,
+        room: u16,
+        turn: &Turn,
+        replies: &[Turn],
+    ) -> Result<Option<LifeProof>, NoMemory>
+        requires room { room < MOST_DEPTH }
+        requires legal { IsLegal line.old.frame line.old.state turn.now }
+        requires replies { AreLegal line.old.frame line.old.state replies.now }
+        ensures found { IfOk result (λ o. IfSome o (IsChildWithin side room line.old.frame line.old.state turn.now)) }
+        ensures fewer { self.new.visits.left ≤ self.old.visits.left }
+        ensures same { line.new ≡ line.old }
+    {
+        if self.memo.is_begun_behind(line, turn)?
+            && !self.go_ahead(line, side, room, turn, replies)?
+        {
+            return Ok(None);
+        }
+        self.proof_after(line, side, room, turn)
+    }
+
+    /// Certifies the replies behind this one at which no other certifier is; whether each has a proof. These are only kept.
+    #[cycle(certifying)]
+    #[inline(never)]
+    fn go_ahead(
+        &mut self,
+        line: &mut Line,
+        side: Side,
+        room: u16,
+        turn: &Turn,
+        replies: &[Turn],
+    ) -> Result<bool, NoMemory>
+        requires room { room < MOST_DEPTH }
+        requires replies { AreLegal line.old.frame line.old.state replies.now }
+        ensures fewer { self.new.visits.left ≤ self.old.visits.left }
+        ensures same { line.new ≡ line.old }
+    {
+        let mut is_behind = false;
+        for other in replies {
+            if is_behind && !self.memo.is_begun_behind(line, other)? {
+                let found = self.proof_after(line, side, room, other)?;
+                if found.is_none() {
+                    return Ok(false);
+                }
+            }
+            is_behind = is_behind || *other == *turn;
+        }
+        Ok(true)
+    }
+
     /// The proof that answers each legal turn, where the other side is to move.
     #[cycle(certifying)]
     #[inline(never)]
@@ -281,7 +340,8 @@ impl<A: Advice> Certifier<A> {
         let turns = line.turns();
         let mut children = Vec::with_capacity(self.alloc, turns.len())?;
         for turn in turns.as_slice() {
-            let Some(child) = self.proof_after(line, side, room - 1, turn)? else {
+            let Some(child) = self.proof_of_reply(line, side, room - 1, turn, turns.as_slice())?
+            else {
                 return Ok(None);
             };
             children.push((*turn, child))?;

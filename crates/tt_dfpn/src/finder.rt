@@ -18,4 +18,4 @@ mod workers;
 mod zobrist;
 
 pub use advisor::Advisor;
-pub use workers::{Finding, SharedSearch};
+pub use workers::{Finding, SharedSearch, SharedWork};

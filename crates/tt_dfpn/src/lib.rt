@@ -11,6 +11,8 @@
 //! | `advice` | the trait `Advice`, by which the certifier asks the finder |
 //! | `certifier` | makes a proof from the leaves up; it may end at life |
 //! | `memo` | the proofs that the certifier keeps, and which of them it may use at a `Line` |
+//! | `shared_proofs` | proofs that several certifiers share |
+//! | `team` | several certifiers of one proof |
 //! | `no_life` | boards where the certifier need not look for life again |
 //! | `finder` | df-pn, with a board and tables of its own |
 
@@ -22,8 +24,11 @@ mod certifier;
 mod finder;
 mod memo;
 mod no_life;
+mod shared_proofs;
+mod team;
 
 pub use advice::{Advice, VisitsLeft};
 pub use attempts::{MOST_POSITIONS, OneFinder, WinnerSearch, find_life_proof, find_proof};
 pub use certifier::Certifier;
-pub use finder::{Advisor, Finding, SharedSearch};
+pub use finder::{Advisor, Finding, SharedSearch, SharedWork};
+pub use team::SharedCertification;

@@ -4,15 +4,16 @@
 ghost use Rattle.std.specs.Prelude.{◌≡◌, ◌≤◌, ◌-◌, All, IfOk, sum_by};
 ghost use Rattle.std.specs.Thread.{IsSync};
 
+use crate::certifying::certify_alone;
 use std::alloc::Global;
 use std::thread;
 use std::thread::Threads;
-use tt_dfpn::{Advisor, Finding, OneFinder, SharedSearch, VisitsLeft, WinnerSearch};
+use tt_dfpn::{Advisor, Certifier, Finding, OneFinder, SharedWork, VisitsLeft, WinnerSearch};
 use tt_game::{Line, Side};
 use tt_sgf::NoMemory;
 
 /// So many workers search at most: more don't find sooner.
-const MOST_FINDERS: usize = 8;
+pub(crate) const MOST_WORKERS: usize = 8;
 
 /// In the first attempts all workers search: the one that leaves out turns, and the one that leaves out none. In those after, the
 /// first worker has to know which lines the certifier refused.
@@ -38,7 +39,7 @@ pub struct Workers<'a, R> {
 }
 
 /// Takes the visits of all findings off those that are left.
-fn count_visits(mut findings: Vec<Finding>, visits: &mut VisitsLeft)
+pub(crate) fn count_visits(mut findings: Vec<Finding>, visits: &mut VisitsLeft)
     ensures { visits.new.left ≡ visits.old.left - sum_by (λ f. f.visited) findings.items }
 {
     while let Some(one) = findings.pop() {
@@ -61,9 +62,9 @@ fn guessed_winner(findings: &[Finding]) -> Result<Option<Side>, NoMemory> {
 
 impl<R: Threads + Sync> Workers<'_, R> {
     /// What so many workers find within a share of visits each, in a thread of its own each where one can be made.
-    fn run_workers(
+    pub(crate) fn run_workers<W: SharedWork + Sync>(
         &self,
-        search: &SharedSearch<'_>,
+        work: &W,
         workers: u32,
         share: u32,
     ) -> Result<Vec<Finding>, NoMemory>
@@ -75,7 +76,7 @@ impl<R: Threads + Sync> Workers<'_, R> {
         }
         let find = |worker: u32| -> Finding
             ensures { result.visited ≤ share }
-        { search.run_worker(worker, share) };
+        { work.run_worker(worker, share) };
         match thread::map_vec(self.rt, numbers, &find) {
             Ok(findings) => Ok(findings),
             Err(_) => Err(NoMemory),
@@ -120,7 +121,7 @@ impl<R: Threads + Sync> Workers<'_, R> {
         if alone.is_some() {
             return Ok(alone);
         }
-        let finders = self.count.min(MOST_FINDERS) as u32;
+        let finders = self.count.min(MOST_WORKERS) as u32;
         let mut most = FIRST_ROUND_VISITS;
         for _ in 0..MOST_ROUNDS {
             if visits.left == 0 {
@@ -151,5 +152,22 @@ impl<R: Threads + Sync> WinnerSearch for Workers<'_, R> {
         } else {
             self.search_in_rounds(line, advisor, visits)
         }
+    }
+
+    fn certify_ahead(
+        &self,
+        certifier: &mut Certifier<Advisor>,
+        line: &mut Line,
+        side: Side,
+        depth: u16,
+        attempt: u8,
+    ) -> Result<(), NoMemory> {
+        if self.count <= 1 || attempt >= ATTEMPTS_TOGETHER {
+            return Ok(());
+        }
+        if certify_alone(certifier, line, side, depth)? {
+            return Ok(());
+        }
+        self.certify_together(certifier, line, side, depth)
     }
 }

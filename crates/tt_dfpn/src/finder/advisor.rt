@@ -52,6 +52,11 @@ impl Advisor {
         })
     }
 
+    /// Advice by a finder, where so many positions were visited for its problem.
+    pub(crate) fn of_finder(finder: Finder, visited: u32) -> Advisor {
+        Advisor { finder, visited }
+    }
+
     /// Forgets all numbers, and leaves no turn out any more: for where what it said of the problem itself was wrong.
     pub fn restart_without_pruning(&mut self) {
         self.finder.restart_without_pruning();
@@ -86,13 +91,28 @@ impl Advisor {
         false
     }
 
-    /// Plays what led to the last board; whether it could. A suicide leaves no new stone: there it gives up.
+    /// The play that led from the finder's board, which is this one, to the next: a suicide, which leaves no new stone, is on the only
+    /// liberty of the chain that is gone.
+    fn play_or_suicide_between(&self, before: &Board, after: &Board) -> Option<(Colour, u16)> {
+        if let Some(play) = play_between(before, after) {
+            return Some(play);
+        }
+        for colour in [Colour::Black, Colour::White] {
+            if let Some(stone) = first_added_point(after.bits(colour), before.bits(colour)) {
+                let p = self.finder.board.only_liberty(stone)?;
+                return Some((colour, p));
+            }
+        }
+        None
+    }
+
+    /// Plays what led to the last board; whether it could.
     fn play_to_line(&mut self, boards: &[Board]) -> Result<bool, NoMemory> {
         for k in self.finder.board.history().len()..boards.len() {
             let (Some(before), Some(after)) = (boards.get(k.wrapping_sub(1)), boards.get(k)) else {
                 return Ok(false);
             };
-            match play_between(before, after) {
+            match self.play_or_suicide_between(before, after) {
                 Some((colour, p)) if self.finder.board.is_empty_point(p) => {
                     self.finder.board.play(colour, p)?;
                 }
@@ -151,7 +171,7 @@ impl Advisor {
         line: &'a Line,
         visits: u32,
     ) -> Result<SharedSearch<'a>, NoMemory> {
-        SharedSearch::of(&mut self.finder, line, visits)
+        SharedSearch::of(&mut self.finder, line, visits, self.visited)
     }
 
     /// Goes on from how often each turn won in a worker's search, behind so many more visits.
@@ -313,7 +333,10 @@ impl Advisor {
                 return Ok(Some(entry.best));
             }
         }
-        self.note_lost_line_and_parent(line, mover);
+        // a search that ran out of all visits says nothing
+        if visits.left > 0 {
+            self.note_lost_line_and_parent(line, mover);
+        }
         Ok(None)
     }
 }

@@ -4,6 +4,7 @@
 ghost use Rattle.std.specs.Prelude.{◌≡◌, ◌≤◌, IfOk};
 
 use crate::advice::VisitsLeft;
+use crate::finder::advisor::Advisor;
 use crate::finder::search::{COUNT_OF_WIN, Finder, Hashes, MOST_FINDER_DEPTH, NO_HASHES, Wins};
 use crate::finder::shared_table::SharedTable;
 use crate::finder::transpositions::{ProofNumbers, TranspositionTable};
@@ -16,7 +17,14 @@ use tt_sgf::NoMemory;
 /// After so many visits a worker looks round for what the others did.
 const VISITS_BETWEEN_LOOKS: u32 = 256;
 
-/// A search of a line's problem, which workers share: each calls `run_worker`, in a thread of its own.
+/// Work that workers share: each calls `run_worker`, in a thread of its own.
+pub trait SharedWork {
+    /// What the worker of a number finds within so many visits. The first that is done ends the work of all.
+    fn run_worker(&self, worker: u32, most: u32) -> Finding
+        ensures { result.visited ≤ most };
+}
+
+/// A search of a line's problem, which workers share.
 #[derive(Drop)]
 pub struct SharedSearch<'a> {
     alloc: Global,
@@ -24,6 +32,7 @@ pub struct SharedSearch<'a> {
     table: Arc<SharedTable>,
     wins: Wins,
     prunes: bool,
+    visited: u32,
 }
 
 /// What a worker found: who wins, if it knows, or that it had no memory; how many positions it visited, and how often each turn won.
@@ -65,6 +74,7 @@ impl<'a> SharedSearch<'a> {
         finder: &mut Finder,
         line: &'a Line,
         visits: u32,
+        visited: u32,
     ) -> Result<SharedSearch<'a>, NoMemory> {
         finder.main_table.grow_for(finder.alloc, visits);
         finder.main_table.shared().set_ended(false);
@@ -74,24 +84,44 @@ impl<'a> SharedSearch<'a> {
             table: Arc::try_clone(finder.main_table.shared())?,
             wins: finder.wins,
             prunes: finder.prunes,
+            visited,
         })
     }
 
-    /// What the worker of a number finds within so many visits. The first that settles the problem ends the searches of all.
-    pub fn run_worker(&self, worker: u32, most: u32) -> Finding
-        ensures { result.visited ≤ most }
+    /// What is searched.
+    pub(crate) fn line(&self) -> &Line {
+        self.line
+    }
+
+    /// The allocator.
+    pub(crate) fn alloc(&self) -> Global {
+        self.alloc
+    }
+
+    /// A finding without a winner, behind so many visits.
+    pub(crate) fn finding_without(&self, visited: u32) -> Finding
+        ensures { result.visited ≡ visited }
     {
-        match self.search_with_memory(worker, most) {
-            Ok(finding) => finding,
-            Err(NoMemory) => Finding {
-                winner: Err(NoMemory),
-                visited: 0,
-                wins: self.wins,
-            },
+        Finding {
+            winner: Ok(None),
+            visited,
+            wins: self.wins,
         }
     }
 
-    /// The same, or that there is no memory to begin.
+    /// Ends the searches of all.
+    pub(crate) fn set_ended(&self) {
+        self.table.set_ended(true);
+    }
+
+    /// An advisor over the table, with the finder of the worker of a number.
+    pub(crate) fn advisor(&self, worker: u32) -> Result<Advisor, NoMemory> {
+        let mut finder = Finder::of_worker(self.alloc, self.line, &self.table, &self.wins, worker)?;
+        finder.prunes = self.prunes;
+        Ok(Advisor::of_finder(finder, self.visited))
+    }
+
+    /// What the worker of a number finds, or that there is no memory.
     fn search_with_memory(&self, worker: u32, most: u32) -> Result<Finding, NoMemory>
         ensures { IfOk result (λ f. f.visited ≤ most) }
     {
@@ -115,6 +145,19 @@ impl<'a> SharedSearch<'a> {
             visited: most - visits.left,
             wins: finder.wins,
         })
+    }
+}
+
+impl SharedWork for SharedSearch<'_> {
+    fn run_worker(&self, worker: u32, most: u32) -> Finding {
+        match self.search_with_memory(worker, most) {
+            Ok(finding) => finding,
+            Err(NoMemory) => Finding {
+                winner: Err(NoMemory),
+                visited: 0,
+                wins: self.wins,
+            },
+        }
     }
 }
 

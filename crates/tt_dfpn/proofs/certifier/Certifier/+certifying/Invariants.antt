@@ -7,6 +7,12 @@ use Rattle.tt_dfpn.proofs.certifier.Certifier.+certifying.Given as goal
 abbrev pub decreases-proof_after : goal.decreases-proof_after
 decreases-proof_after g l = l.room * 8 + 8
 
+abbrev pub decreases-go_ahead : goal.decreases-go_ahead
+decreases-go_ahead g l = l.room * 8 + 9
+
+abbrev pub decreases-proof_of_reply : goal.decreases-proof_of_reply
+decreases-proof_of_reply g l = l.room * 8 + 10
+
 abbrev pub decreases-certify : goal.decreases-certify
 decreases-certify g l = l.room * 8 + 7
 
@@ -24,6 +30,12 @@ decreases-proof_by_turn g l = l.room * 8 + 4
 
 abbrev pub invariant-proof_by_advice-loop-refused : goal.invariant-proof_by_advice-loop-refused
 invariant-proof_by_advice-loop-refused g l = record {
+  same : l.line ≡ l.fn.line;
+  fewer : l.self.visits.left ≤ l.fn.self.visits.left;
+}
+
+abbrev pub invariant-go_ahead-loop-other : goal.invariant-go_ahead-loop-other
+invariant-go_ahead-loop-other g l = record {
   same : l.line ≡ l.fn.line;
   fewer : l.self.visits.left ≤ l.fn.self.visits.left;
 }

@@ -1,0 +1,184 @@
+//! Proofs that several certifiers share without a lock: what one of them made, the others find. Nothing is promised of what is found here: a
+//! proof is a proof, and is taken where it is seen to fit.
+
+ghost use Rattle.std.specs.Prelude.{◌≡◌, IfOk, IfSome};
+ghost use Rattle.tt_game.specs.Game.{IsLegal};
+ghost use Rattle.tt_dfpn.specs.ProofWithin.{IsProofWithin};
+
+use once_cell::race::OnceBox;
+use std::alloc::Global;
+use std::sync::atomic::{AtomicBool, AtomicU64, Ordering};
+use tt_game::{Line, Side, Turn};
+use tt_proof::LifeProof;
+use tt_sgf::NoMemory;
+
+/// How many slots there are, and how many of them a key has: those from the one on that its hash names.
+const SLOTS: usize = 262_144;
+
+const SLOTS_PER_KEY: usize = 4;
+
+/// How many boards kept proofs may hold: about 16 bytes each, so some 320 MB. Past it no more are kept here.
+pub(crate) const MOST_KEPT_BOARDS: usize = 20_000_000;
+
+/// What a kept proof counts for besides the boards of its footprint.
+const BOARDS_PER_PROOF: usize = 60;
+
+/// How many keys there is room for at which a certifier is.
+const MOST_BEGUN: usize = 4096;
+
+/// Proofs that several certifiers share. A slot is written once.
+#[derive(Drop)]
+pub(crate) struct SharedProofs {
+    slots: Vec<OnceBox<LifeProof>>,
+    begun: Vec<AtomicU64>,
+    boards: AtomicU64,
+    has_ended: AtomicBool,
+}
+
+/// For how many boards a kept proof counts.
+pub(crate) fn counted_boards(proof: &LifeProof) -> usize {
+    proof.footprint_len().saturating_add(BOARDS_PER_PROOF)
+}
+
+/// The index of a hash's first slot.
+fn first_slot(hash: u32) -> usize {
+    (hash as usize).wrapping_mul(SLOTS_PER_KEY) % SLOTS
+}
+
+/// The place of a hash among the keys at which a certifier is.
+fn begun_index(hash: u32) -> usize {
+    (hash >> 4) as usize % MOST_BEGUN
+}
+
+impl SharedProofs {
+    /// No proofs.
+    pub(crate) fn new(alloc: Global) -> Result<SharedProofs, NoMemory> {
+        let mut slots = Vec::with_capacity(alloc, SLOTS)?;
+        for _ in 0..SLOTS {
+            slots.push(OnceBox::new(alloc))?;
+        }
+        let mut begun = Vec::with_capacity(alloc, MOST_BEGUN)?;
+        for _ in 0..MOST_BEGUN {
+            begun.push(AtomicU64::new(0))?;
+        }
+        Ok(SharedProofs {
+            slots,
+            begun,
+            boards: AtomicU64::new(0),
+            has_ended: AtomicBool::new(false),
+        })
+    }
+
+    /// The proof in a slot.
+    #[inline(always)]
+    fn proof_at(&self, index: usize) -> Option<&LifeProof> {
+        self.slots.get(index)?.get()
+    }
+
+    /// A proof for the side at the line, no deeper than the room: the last one of the line's key whose footprint is known to be that there.
+    #[inline(never)]
+    pub(crate) fn known_proof(
+        &self,
+        alloc: Global,
+        line: &Line,
+        side: Side,
+        room: u16,
+    ) -> Result<Option<LifeProof>, NoMemory>
+        ensures { IfOk result (λ o. IfSome o (IsProofWithin side room line.now.frame line.now.state)) }
+    {
+        let hash = line.key_hash();
+        let first = first_slot(hash);
+        for k in (0..SLOTS_PER_KEY).rev() {
+            let Some(proof) = self.proof_at(first.wrapping_add(k)) else {
+                continue;
+            };
+            if proof.key_hash() == hash
+                && proof.side() == side
+                && proof.depth() <= room
+                && proof.has_key_of(line)
+            {
+                let moved = proof.moved_if_known(alloc, line)?;
+                if moved.is_some() {
+                    return Ok(moved);
+                }
+            }
+        }
+        Ok(None)
+    }
+
+    /// Keeps the proof for all, or hands it back where there is no room for it.
+    pub(crate) fn keep(&self, alloc: Global, proof: LifeProof) -> Option<LifeProof> {
+        if self.boards.load(Ordering::Relaxed) > MOST_KEPT_BOARDS as u64 {
+            return Some(proof);
+        }
+        let boards = counted_boards(&proof) as u64;
+        let first = first_slot(proof.key_hash());
+        let Ok(mut proof) = Box::new(alloc, proof) else {
+            return None;
+        };
+        for k in 0..SLOTS_PER_KEY {
+            let Some(slot) = self.slots.get(first.wrapping_add(k)) else {
+                break;
+            };
+            match slot.set(proof) {
+                Ok(()) => {
+                    self.boards.fetch_add(boards, Ordering::Relaxed);
+                    return None;
+                }
+                Err(back) => proof = back,
+            }
+        }
+        Some(Box::into_inner(proof))
+    }
+
+    /// Notes that a certifier is at the line, where the key's place is free: so those that are there longest stay.
+    pub(crate) fn begin(&self, line: &Line) {
+        let hash = line.key_hash();
+        if let Some(place) = self.begun.get(begun_index(hash)) {
+            if place.load(Ordering::Relaxed) == 0 {
+                place.store(u64::from(hash) + 1, Ordering::Relaxed);
+            }
+        }
+    }
+
+    /// Notes that no certifier is at the line any more.
+    pub(crate) fn end(&self, line: &Line) {
+        let hash = line.key_hash();
+        if let Some(place) = self.begun.get(begun_index(hash)) {
+            if place.load(Ordering::Relaxed) == u64::from(hash) + 1 {
+                place.store(0, Ordering::Relaxed);
+            }
+        }
+    }
+
+    /// Whether a certifier is known to be at the line behind a legal turn. The line stands as before.
+    #[inline(never)]
+    pub(crate) fn is_begun_behind(&self, line: &mut Line, turn: &Turn) -> Result<bool, NoMemory>
+        requires { IsLegal line.old.frame line.old.state turn.now }
+        ensures { line.new ≡ line.old }
+    {
+        line.push_legal(*turn)?;
+        let is_begun = self.is_begun(line);
+        line.pop();
+        Ok(is_begun)
+    }
+
+    /// Whether a certifier is known to be at the line.
+    fn is_begun(&self, line: &Line) -> bool {
+        let hash = line.key_hash();
+        match self.begun.get(begun_index(hash)) {
+            Some(place) => place.load(Ordering::Relaxed) == u64::from(hash) + 1,
+            None => false,
+        }
+    }
+
+    /// Says whether the certifiers are to end.
+    pub(crate) fn set_ended(&self, ended: bool) {
+        self.has_ended.store(ended, Ordering::Relaxed);
+    }
+
+    /// Whether the certifiers are to end.
+    pub(crate) fn has_ended(&self) -> bool {
+        self.has_ended.load(Ordering::Relaxed)
+    }
+}
