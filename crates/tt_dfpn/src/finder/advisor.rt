@@ -3,14 +3,14 @@
 ghost use Rattle.std.specs.Prelude.{◌≡◌, ◌≤◌};
 
 use crate::advice::{Advice, VisitsLeft};
-use crate::finder::board::SearchBoard;
+use crate::finder::board::{SearchBoard, SearchTurn};
 use crate::finder::search::{Finder, hashes_of};
-use crate::finder::transpositions::{LOST, NO_TURN, PASS, ProofNumbers, UNKNOWN, WON, turn_of};
+use crate::finder::transpositions::{LOST, ProofNumbers, UNKNOWN, WON};
 use crate::finder::workers::{Finding, SharedSearch, winner_by_numbers};
 use std::alloc::Global;
 use tt_board::{Board, Colour};
 use tt_game::{Line, Side, Turn};
-use tt_sgf::{Bits, NoMemory};
+use tt_sgf::{Bits, MOST_POINTS, NoMemory};
 
 /// How many plays are undone at most to follow a line.
 const MOST_UNDONE: u16 = 1024;
@@ -30,7 +30,11 @@ fn advice_visit_limit(visited: u32) -> u32 {
 /// The least point of the second set that the first has not.
 fn first_added_point(before: &Bits, after: &Bits) -> Option<u16> {
     let p = after.minus(before).first_from(0);
-    if p < 361 { Some(p as u16) } else { None }
+    if p < usize::from(MOST_POINTS) {
+        Some(p as u16)
+    } else {
+        None
+    }
 }
 
 /// The play that led from one board to the next; none where no stone is new.
@@ -183,10 +187,11 @@ impl Advisor {
     /// Notes that the line is lost for its mover, and that the line before it is won by the other colour.
     fn note_lost_line_and_parent(&mut self, line: &Line, mover: Colour) {
         let hashes = self.finder.hashes_of_position(mover);
-        self.finder.keep_line_entry(hashes, LOST, NO_TURN);
+        self.finder.keep_line_entry(hashes, LOST, None);
         if line.passes() > 0 {
             let hashes = self.finder.hashes_of_position(mover.other());
-            self.finder.keep_line_entry(hashes, WON, PASS);
+            self.finder
+                .keep_line_entry(hashes, WON, Some(SearchTurn::Pass));
             return;
         }
         let boards = line.history();
@@ -196,8 +201,8 @@ impl Advisor {
             return;
         };
         let turn = match play_between(before, after) {
-            Some((_, p)) => p,
-            None => NO_TURN,
+            Some((_, p)) => Some(SearchTurn::Play(p)),
+            None => None,
         };
         let board = &self.finder.board;
         let history = board.history().combined_hash_with(board.hash());
@@ -243,8 +248,8 @@ impl Advisor {
 
     /// The turn of the defender, whose targets live unconditionally: of the plays in enclosed areas that leave them so the one that
     /// leaves the attacker the fewest points, or a pass where there is none. A play elsewhere only makes more positions.
-    fn turn_of_living_defender(&mut self) -> u16 {
-        let mut best = PASS;
+    fn turn_of_living_defender(&mut self) -> SearchTurn {
+        let mut best = SearchTurn::Pass;
         let mut fewest = usize::MAX;
         for k in 0..self.finder.region.points.len() {
             let Some(point) = self.finder.region.points.get(k) else {
@@ -258,7 +263,7 @@ impl Advisor {
             if let Some(points) = self.attackable_count_if_alive(p) {
                 if points < fewest {
                     fewest = points;
-                    best = p;
+                    best = SearchTurn::Play(p);
                 }
             }
         }
@@ -266,36 +271,36 @@ impl Advisor {
     }
 
     /// The turn that is said first where the line stands, if one is known.
-    fn known_turn(&mut self, line: &Line, mover: Colour) -> Option<u16> {
+    fn known_turn(&mut self, line: &Line, mover: Colour) -> Option<SearchTurn> {
         if mover == self.finder.region.defender {
             if line.passes() > 0 {
-                return Some(PASS);
+                return Some(SearchTurn::Pass);
             }
             if self.finder.are_targets_alive() {
                 return Some(self.turn_of_living_defender());
             }
             if let Some(p) = self.finder.play_to_life() {
-                return Some(p);
+                return Some(SearchTurn::Play(p));
             }
         }
         let entry = self
             .finder
             .find_entry(self.finder.hashes_of_position(mover))?;
-        if entry.numbers.proof == 0 && entry.best != NO_TURN {
-            Some(entry.best)
+        if entry.numbers.proof == 0 {
+            entry.best
         } else {
             None
         }
     }
 
     /// Another turn than the best one that wins by the numbers behind it, where so many were refused.
-    fn other_winning_turn(&mut self, mover: Colour, refused: u16) -> Option<u16> {
+    fn other_winning_turn(&mut self, mover: Colour, refused: u16) -> Option<SearchTurn> {
         let best = match self
             .finder
             .find_entry(self.finder.hashes_of_position(mover))
         {
             Some(entry) => entry.best,
-            None => NO_TURN,
+            None => None,
         };
         let mut list = Vec::new(self.finder.alloc);
         if let Some(turn) = self.finder.list_turns_or_win(mover, &mut list) {
@@ -303,7 +308,7 @@ impl Advisor {
         }
         let mut left = refused;
         for child in list.as_slice() {
-            if child.numbers.disproof == 0 && child.turn != best {
+            if child.numbers.disproof == 0 && Some(child.turn) != best {
                 if left <= 1 {
                     return Some(child.turn);
                 }
@@ -320,17 +325,17 @@ impl Advisor {
         mover: Colour,
         refused: u16,
         visits: &mut VisitsLeft,
-    ) -> Result<Option<u16>, NoMemory>
+    ) -> Result<Option<SearchTurn>, NoMemory>
         ensures fewer { visits.new.left ≤ visits.old.left }
     {
         let hashes = self.finder.hashes_of_position(mover);
         if refused > 0 {
-            self.finder.keep_line_entry(hashes, UNKNOWN, NO_TURN);
+            self.finder.keep_line_entry(hashes, UNKNOWN, None);
         }
         let numbers = self.search(mover, advice_visit_limit(self.visited), visits)?;
         if numbers.proof == 0 {
             if let Some(entry) = self.finder.find_entry(hashes) {
-                return Ok(Some(entry.best));
+                return Ok(entry.best);
             }
         }
         // a search that ran out of all visits says nothing
@@ -355,13 +360,13 @@ impl Advice for Advisor {
         let mover = self.finder.colour_of_side(line.to_move());
         if refused == 0 {
             if let Some(turn) = self.known_turn(line, mover) {
-                return Ok(Some(turn_of(turn)));
+                return Ok(Some(turn.turn()));
             }
         }
         if let Some(turn) = self.other_winning_turn(mover, refused) {
-            return Ok(Some(turn_of(turn)));
+            return Ok(Some(turn.turn()));
         }
         let found = self.search_for_turn(line, mover, refused, visits)?;
-        Ok(found.map(turn_of))
+        Ok(found.map(SearchTurn::turn))
     }
 }

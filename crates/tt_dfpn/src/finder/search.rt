@@ -7,12 +7,12 @@
 ghost use Rattle.std.specs.Prelude.{◌≡◌, ◌<◌, ◌≤◌, length, true, false, IfSome};
 
 use crate::advice::VisitsLeft;
-use crate::finder::board::{SearchBoard, index};
+use crate::finder::board::{CELLS, SearchBoard, SearchTurn, index};
 use crate::finder::life::Life;
 use crate::finder::region::Region;
 use crate::finder::transpositions::{
     Entry, INFINITE, INITIAL_BUCKETS, INITIAL_PATH_BUCKETS, LOST, MOST_BUCKETS, MOST_PATH_BUCKETS,
-    NO_TURN, PASS, ProofNumbers, TranspositionTable, UNKNOWN, WON,
+    ProofNumbers, TranspositionTable, UNKNOWN, WON,
 };
 use crate::finder::zobrist::mover_key;
 use std::alloc::Global;
@@ -32,8 +32,8 @@ const PATH_ENTRY_WORK: u32 = 0x1000_0000;
 /// What a win adds to a turn's count. The counts begin below that, so that each worker has another order of turns that won as often.
 pub(crate) const COUNT_OF_WIN: u32 = 64;
 
-/// How often each turn won, by colour.
-pub(crate) type Wins = [[u32; 512]; 2];
+/// How often each turn won, by colour. A pass counts on a cell outside the board.
+pub(crate) type Wins = [[u32; CELLS]; 2];
 
 /// The hashes of a position: without its history, and with it.
 #[derive(Clone, Copy)]
@@ -51,7 +51,7 @@ pub(crate) const NO_HASHES: Hashes = Hashes {
 /// A turn, and what is known of the position behind it, from the side that moves there.
 #[derive(Clone, Copy)]
 pub(crate) struct Child {
-    pub(crate) turn: u16,
+    pub(crate) turn: SearchTurn,
     pub(crate) numbers: ProofNumbers,
     wins: u32,
 }
@@ -196,7 +196,7 @@ impl Finder {
             main_table: table,
             path_table: TranspositionTable::new(alloc, INITIAL_PATH_BUCKETS, MOST_PATH_BUCKETS)?,
             has_path_table: false,
-            wins: [[0; 512]; 2],
+            wins: [[0; CELLS]; 2],
             life: Life::none(alloc)?,
             bits_read_ahead: 0,
             left_repeat_out: false,
@@ -237,7 +237,13 @@ impl Finder {
 
     /// Keeps what is known of a position, whatever its history.
     #[inline]
-    pub(crate) fn keep_position(&mut self, key: u64, numbers: ProofNumbers, best: u16, work: u32) {
+    pub(crate) fn keep_position(
+        &mut self,
+        key: u64,
+        numbers: ProofNumbers,
+        best: Option<SearchTurn>,
+        work: u32,
+    ) {
         self.main_table.keep(key, &Entry::new(numbers, best, work));
     }
 
@@ -248,7 +254,7 @@ impl Finder {
         &mut self,
         hashes: Hashes,
         numbers: ProofNumbers,
-        best: u16,
+        best: Option<SearchTurn>,
         work: u32,
     ) {
         if self.has_path_table && self.path_table.find(hashes.line).is_some() {
@@ -273,7 +279,12 @@ impl Finder {
     }
 
     /// Gives a line an entry of its own.
-    pub(crate) fn keep_line_entry(&mut self, hashes: Hashes, numbers: ProofNumbers, best: u16) {
+    pub(crate) fn keep_line_entry(
+        &mut self,
+        hashes: Hashes,
+        numbers: ProofNumbers,
+        best: Option<SearchTurn>,
+    ) {
         self.has_path_table = true;
         self.path_table.grow_if_needed(self.alloc);
         let entry = Entry::new(numbers, best, PATH_ENTRY_WORK);
@@ -290,7 +301,13 @@ impl Finder {
 
     /// Adds a turn to a list, behind those that won more often. Without memory the search ends.
     #[inline]
-    fn add_child(&mut self, list: &mut Vec<Child>, mover: Colour, turn: u16, hashes: Hashes) {
+    fn add_child(
+        &mut self,
+        list: &mut Vec<Child>,
+        mover: Colour,
+        turn: SearchTurn,
+        hashes: Hashes,
+    ) {
         let numbers = match self.find_entry(hashes) {
             Some(entry) => entry.numbers,
             None => UNKNOWN,
@@ -298,7 +315,7 @@ impl Finder {
         let child = Child {
             turn,
             numbers,
-            wins: self.wins[colour_index(mover)][index(turn)],
+            wins: self.wins[colour_index(mover)][index(turn.cell())],
         };
         if list.push(child).is_err() {
             self.stop_search();
@@ -361,7 +378,7 @@ impl Finder {
         }
         let history = self.board.history().combined_hash_with(effect.hash);
         let hashes = hashes_of(effect.hash, mover.other(), history);
-        self.add_child(list, mover, p, hashes);
+        self.add_child(list, mover, SearchTurn::Play(p), hashes);
         false
     }
 
@@ -385,12 +402,12 @@ impl Finder {
         &mut self,
         mover: Colour,
         list: &mut Vec<Child>,
-    ) -> Option<u16> {
+    ) -> Option<SearchTurn> {
         self.left_repeat_out = false;
         let attacks = mover != self.region.defender;
         let capture = self.first_target_capture(self.region.defender.other());
         if attacks && capture.is_some() {
-            return capture;
+            return capture.map(SearchTurn::Play);
         }
         let atari = if self.prunes { capture } else { None };
         self.read_rows_ahead(mover);
@@ -400,12 +417,12 @@ impl Finder {
             };
             let p = *point;
             if self.board.is_empty_point(p) && self.add_play_or_win(list, mover, p, atari) {
-                return Some(p);
+                return Some(SearchTurn::Play(p));
             }
         }
         if !attacks && atari.is_none() {
             let hashes = self.hashes_of_position(mover.other());
-            self.add_child(list, mover, PASS, hashes);
+            self.add_child(list, mover, SearchTurn::Pass, hashes);
         }
         None
     }
@@ -414,7 +431,7 @@ impl Finder {
     #[inline(always)]
     pub(crate) fn is_new(&self, hashes: Hashes) -> bool {
         match self.find_entry(hashes) {
-            Some(entry) => entry.best == NO_TURN,
+            Some(entry) => entry.best.is_none(),
             None => true,
         }
     }
@@ -460,12 +477,12 @@ impl Finder {
     pub(crate) fn search_from_board(
         &mut self,
         mover: Colour,
-        visited: u32,
+        most_visits: u32,
         visits: &mut VisitsLeft,
     ) -> ProofNumbers
         ensures fewer { visits.new.left ≤ visits.old.left }
     {
-        self.reserve = visits.left.saturating_sub(visited);
+        self.reserve = visits.left.saturating_sub(most_visits);
         let most = ProofNumbers {
             proof: INFINITE,
             disproof: INFINITE,
@@ -501,7 +518,7 @@ impl Finder {
         let found = if let Some(numbers) = self.settle_by_life(mover, hashes) {
             numbers
         } else if let Some(turn) = self.list_turns_or_win(mover, &mut list) {
-            self.keep_entry(hashes, WON, turn, 1);
+            self.keep_entry(hashes, WON, Some(turn), 1);
             WON
         } else {
             self.refute_by_threats(mover, hashes, &mut list);
@@ -545,8 +562,8 @@ impl Finder {
                 best => {
                     let work = start.saturating_sub(visits.left).saturating_add(1);
                     let turn = match best {
-                        Some(k) => list[k].turn,
-                        None => NO_TURN,
+                        Some(k) => Some(list[k].turn),
+                        None => None,
                     };
                     self.keep_result(mover, hashes, numbers, turn, work);
                     return numbers;
@@ -578,12 +595,14 @@ impl Finder {
         mover: Colour,
         hashes: Hashes,
         numbers: ProofNumbers,
-        best: u16,
+        best: Option<SearchTurn>,
         work: u32,
     ) {
         if numbers.proof == 0 {
-            let count = &mut self.wins[colour_index(mover)][index(best)];
-            *count = count.wrapping_add(COUNT_OF_WIN);
+            if let Some(turn) = best {
+                let count = &mut self.wins[colour_index(mover)][index(turn.cell())];
+                *count = count.wrapping_add(COUNT_OF_WIN);
+            }
         }
         self.keep_entry(hashes, numbers, best, work);
     }
@@ -593,7 +612,7 @@ impl Finder {
     fn search_after_turn(
         &mut self,
         mover: Colour,
-        turn: u16,
+        turn: SearchTurn,
         most: ProofNumbers,
         room: u16,
         visits: &mut VisitsLeft,
@@ -603,10 +622,10 @@ impl Finder {
         if room == 0 {
             return LOST;
         }
-        if turn == PASS {
+        let SearchTurn::Play(p) = turn else {
             return self.search(mover.other(), most, room - 1, visits);
-        }
-        if self.board.play(mover, turn).is_err() {
+        };
+        if self.board.play(mover, p).is_err() {
             self.stop_search();
             return UNKNOWN;
         }

@@ -4,7 +4,8 @@
 //! Implementation for Parallel Search", 2002). Where two threads write one entry at once, the words of two entries may stand there:
 //! their key is another, so nothing is known by them.
 
-use crate::finder::transpositions::{Entry, INFINITE, NO_TURN, ProofNumbers, UNKNOWN};
+use crate::finder::board::SearchTurn;
+use crate::finder::transpositions::{Entry, INFINITE, ProofNumbers, UNKNOWN};
 use std::alloc::Global;
 use std::sync::atomic::{AtomicBool, AtomicU64, Ordering};
 use tt_sgf::NoMemory;
@@ -22,19 +23,46 @@ type Bucket = [Slot; 2];
 /// The bits of a number.
 const NUMBER_MASK: u64 = 0x1ff_ffff;
 
+/// The bits of a turn: its cell, or one of the numbers above.
+const TURN_MASK: u64 = 0x1ff;
+
+const PASS_BITS: u16 = 511;
+
+const NO_TURN_BITS: u16 = 510;
+
 /// What an empty slot says, with the key 0.
 const NOTHING: Entry = Entry {
     numbers: UNKNOWN,
     effort: 0,
-    best: NO_TURN,
+    best: None,
 };
+
+/// The bits of a turn, or of none.
+#[inline(always)]
+fn turn_bits(turn: Option<SearchTurn>) -> u16 {
+    match turn {
+        Some(SearchTurn::Play(p)) => p,
+        Some(SearchTurn::Pass) => PASS_BITS,
+        None => NO_TURN_BITS,
+    }
+}
+
+/// The turn whose bits these are, if there is one.
+#[inline(always)]
+fn turn_of_bits(bits: u16) -> Option<SearchTurn> {
+    match bits {
+        PASS_BITS => Some(SearchTurn::Pass),
+        NO_TURN_BITS => None,
+        p => Some(SearchTurn::Play(p)),
+    }
+}
 
 /// The second word of an entry: its numbers of 25 bits each, the best turn of 9, and the effort of 5.
 #[inline(always)]
 fn packed(entry: &Entry) -> u64 {
     let proof = u64::from(entry.numbers.proof.min(INFINITE));
     let disproof = u64::from(entry.numbers.disproof.min(INFINITE));
-    let best = u64::from(entry.best & 511);
+    let best = u64::from(turn_bits(entry.best)) & TURN_MASK;
     proof | disproof << 25 | best << 50 | u64::from(entry.effort) << 59
 }
 
@@ -47,7 +75,7 @@ fn unpacked(data: u64) -> Entry {
             disproof: (data >> 25 & NUMBER_MASK) as u32,
         },
         effort: (data >> 59) as u32,
-        best: (data >> 50 & 511) as u16,
+        best: turn_of_bits((data >> 50 & TURN_MASK) as u16),
     }
 }
 

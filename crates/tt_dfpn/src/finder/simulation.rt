@@ -15,8 +15,9 @@
 ghost use Rattle.std.specs.Prelude.{◌≤◌};
 
 use crate::advice::VisitsLeft;
+use crate::finder::board::SearchTurn;
 use crate::finder::search::{Child, Finder, Hashes};
-use crate::finder::transpositions::{LOST, NO_TURN, PASS, WON};
+use crate::finder::transpositions::{LOST, WON};
 use tt_board::Colour;
 
 /// How many replies a simulation tries. Each is a visit. With 20, 60 and 150 whole runs of 46 problems took 0.88, 0.76 and 0.86 of the
@@ -32,15 +33,15 @@ struct Simulation {
 
 impl Finder {
     /// By what a turn changes the hash of a position, where it takes nothing.
-    fn change_by_turn(&self, mover: Colour, turn: u16) -> Option<u64> {
-        if turn == PASS {
+    fn change_by_turn(&self, mover: Colour, turn: SearchTurn) -> Option<u64> {
+        let SearchTurn::Play(p) = turn else {
             return Some(0);
-        }
-        let effect = self.board.preview_play(mover, turn);
+        };
+        let effect = self.board.preview_play(mover, p);
         if effect.captures > 0 || effect.is_suicide {
             None
         } else {
-            Some(self.board.key_of_stone(mover, turn))
+            Some(self.board.key_of_stone(mover, p))
         }
     }
 
@@ -49,7 +50,7 @@ impl Finder {
     pub(crate) fn refute_alike(
         &mut self,
         mover: Colour,
-        refuted: u16,
+        refuted: SearchTurn,
         list: &mut Vec<Child>,
         visits: &mut VisitsLeft,
     )
@@ -81,17 +82,17 @@ impl Finder {
     fn is_as_twin_behind(
         &mut self,
         mover: Colour,
-        turn: u16,
+        turn: SearchTurn,
         simulation: Simulation,
         wins: bool,
         visits: &mut VisitsLeft,
     ) -> bool
         ensures fewer { visits.new.left ≤ visits.old.left }
     {
-        if turn == PASS {
+        let SearchTurn::Play(p) = turn else {
             return self.is_as_twin(mover.other(), simulation, wins, visits);
-        }
-        if self.board.play(mover, turn).is_err() {
+        };
+        if self.board.play(mover, p).is_err() {
             self.stop_search();
             return false;
         }
@@ -128,25 +129,25 @@ impl Finder {
 
     /// The attacker's play that takes a target at once, or the turn that wins at the twin, where it may be played here too; whether it
     /// wins at once.
-    fn turn_of_twin(&self, mover: Colour, twin: u64) -> Option<(u16, bool)> {
+    fn turn_of_twin(&self, mover: Colour, twin: u64) -> Option<(SearchTurn, bool)> {
         let attacks = mover != self.region.defender;
         if attacks {
             if let Some(p) = self.first_target_capture(mover) {
-                return Some((p, true));
+                return Some((SearchTurn::Play(p), true));
             }
         }
         let entry = self.main_table.find(twin)?;
-        let turn = entry.best;
         if entry.numbers.proof != 0 {
             return None;
         }
-        if turn == PASS && !attacks {
-            return Some((turn, false));
-        }
-        if !self.board.is_empty_point(turn) {
+        let turn = entry.best?;
+        let SearchTurn::Play(p) = turn else {
+            return if attacks { None } else { Some((turn, false)) };
+        };
+        if !self.board.is_empty_point(p) {
             return None;
         }
-        let effect = self.board.preview_play(mover, turn);
+        let effect = self.board.preview_play(mover, p);
         if effect.is_suicide || self.board.history().has(effect.hash) {
             return None;
         }
@@ -174,7 +175,7 @@ impl Finder {
         };
         let wins = ends || self.is_as_twin_behind(mover, turn, simulation, false, visits);
         if wins {
-            self.keep_entry(hashes, WON, turn, 1);
+            self.keep_entry(hashes, WON, Some(turn), 1);
         }
         wins
     }
@@ -196,7 +197,7 @@ impl Finder {
             && self.are_all_refuted(mover, hashes, simulation, &mut list, visits);
         self.give_list_back(list);
         if loses {
-            self.keep_entry(hashes, LOST, NO_TURN, 1);
+            self.keep_entry(hashes, LOST, None, 1);
         }
         loses
     }

@@ -9,10 +9,10 @@
 //! Problems in Go", 2005; such a set of turns is a relevance zone (C.-C. Shih, T.-R. Wu, T. H. Wei, I-C. Wu, "A Novel Approach to
 //! Solving Goal-Achieving Problems for Board Games", 2022).
 
-use crate::finder::board::{PlayPreview, index};
+use crate::finder::board::{CELLS, PlayPreview, SearchTurn, index};
 use crate::finder::region::PointFlags;
 use crate::finder::search::{Child, Finder, Hashes, hashes_of};
-use crate::finder::transpositions::{LOST, NO_TURN, ProofNumbers, WON};
+use crate::finder::transpositions::{LOST, ProofNumbers, WON};
 use tt_board::Colour;
 
 impl Finder {
@@ -38,10 +38,10 @@ impl Finder {
 
     /// Whether each point that is reached from one where no eye ends touches a stone of the defender, one on `p` too.
     fn is_part_touched(&self, start: u16, p: u16, seen: &mut PointFlags) -> bool {
-        let mut points = [start; 512];
+        let mut points = [start; CELLS];
         let mut end = 1usize;
         seen[index(start)] = true;
-        for k in 0..512usize {
+        for k in 0..CELLS {
             if k >= end {
                 break;
             }
@@ -57,7 +57,7 @@ impl Finder {
                     return false;
                 } else {
                     seen[index(q)] = true;
-                    points[end % 512] = q;
+                    points[end % CELLS] = q;
                     end = end.saturating_add(1);
                 }
             }
@@ -82,7 +82,7 @@ impl Finder {
         let mut count = touched
             .count
             .saturating_sub(usize::from(touched.points[index(p)]));
-        let mut seen: PointFlags = [false; 512];
+        let mut seen: PointFlags = [false; CELLS];
         seen[index(p)] = true;
         let beside = self.board.beside(p);
         for k in 0..4 {
@@ -162,9 +162,9 @@ impl Finder {
             return None;
         }
         let (numbers, turn) = if mover == self.region.defender {
-            (WON, self.play_to_life()?)
+            (WON, Some(SearchTurn::Play(self.play_to_life()?)))
         } else if self.are_targets_alive() {
-            (LOST, NO_TURN)
+            (LOST, None)
         } else {
             return None;
         };
@@ -172,9 +172,9 @@ impl Finder {
         Some(numbers)
     }
 
-    /// Whether the defender's play on a point makes life behind the attacker's turn too.
-    fn is_answered(&mut self, attacker: Colour, turn: u16, p: u16) -> bool {
-        if self.board.play(attacker, turn).is_err() {
+    /// Whether the defender's play on a point makes life behind the attacker's play too.
+    fn is_answered(&mut self, attacker: Colour, play: u16, p: u16) -> bool {
+        if self.board.play(attacker, play).is_err() {
             self.stop_search();
             return false;
         }
@@ -190,21 +190,24 @@ impl Finder {
         let mut left = 0usize;
         for k in 0..list.len() {
             let child = list[k];
+            let SearchTurn::Play(p) = child.turn else {
+                continue;
+            };
             if child.numbers.proof == 0 {
                 continue;
             }
-            let effect = self.board.preview_play(attacker, child.turn);
-            if child.turn == defence
+            let effect = self.board.preview_play(attacker, p);
+            if p == defence
                 || effect.captures > 0
                 || effect.is_suicide
-                || !self.is_answered(attacker, child.turn, defence)
+                || !self.is_answered(attacker, p, defence)
             {
                 left = left.saturating_add(1);
                 continue;
             }
             list[k].numbers = WON;
             let hashes = hashes_of(effect.hash, attacker.other(), 0);
-            self.keep_position(hashes.position, WON, defence, 1);
+            self.keep_position(hashes.position, WON, Some(SearchTurn::Play(defence)), 1);
         }
         left
     }

@@ -1,10 +1,10 @@
 //! The transposition table: what is known of positions, by a key of 64 bits.
 
+use crate::finder::board::SearchTurn;
 use crate::finder::shared_table::SharedTable;
 use std::alloc::Global;
 use std::sync::Arc;
-use tt_game::Turn;
-use tt_sgf::{NoMemory, Point};
+use tt_sgf::NoMemory;
 
 /// How many buckets the table of positions has at first, and at most.
 pub(crate) const INITIAL_BUCKETS: usize = 4096;
@@ -18,12 +18,6 @@ pub(crate) const MOST_PATH_BUCKETS: usize = 262_144;
 
 /// Stands for infinity: the greatest number of 25 bits.
 pub(crate) const INFINITE: u32 = 0x1ff_ffff;
-
-/// The number of a pass.
-pub(crate) const PASS: u16 = 511;
-
-/// No turn.
-pub(crate) const NO_TURN: u16 = 510;
 
 /// Proof and disproof number of a position, from the side that moves there: 0 and infinity where it wins.
 #[derive(Clone, Copy, PartialEq, Eq)]
@@ -58,32 +52,23 @@ impl ProofNumbers {
     }
 }
 
-/// What is known of a position: its numbers, how many bits the number of positions has that were visited for them, and the best
-/// turn, by its number.
+/// What is known of a position: its numbers, how many bits the number of positions has that were visited for them, and the best turn.
 #[derive(Clone, Copy)]
 pub(crate) struct Entry {
     pub(crate) numbers: ProofNumbers,
     pub(crate) effort: u32,
-    pub(crate) best: u16,
+    pub(crate) best: Option<SearchTurn>,
 }
 
 impl Entry {
     /// What is known behind so many visits.
     #[inline(always)]
-    pub(crate) fn new(numbers: ProofNumbers, best: u16, visits: u32) -> Entry {
+    pub(crate) fn new(numbers: ProofNumbers, best: Option<SearchTurn>, visits: u32) -> Entry {
         Entry {
             numbers,
             effort: u32::BITS - visits.leading_zeros(),
             best,
         }
-    }
-}
-
-/// The turn of a number: a pass where it is no point's.
-pub(crate) fn turn_of(number: u16) -> Turn {
-    match Point::new(number) {
-        Some(p) => Turn::Play(p),
-        None => Turn::Pass,
     }
 }
 

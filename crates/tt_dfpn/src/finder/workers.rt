@@ -5,6 +5,7 @@ ghost use Rattle.std.specs.Prelude.{◌≡◌, ◌≤◌, IfOk};
 
 use crate::advice::VisitsLeft;
 use crate::finder::advisor::Advisor;
+use crate::finder::board::CELLS;
 use crate::finder::search::{COUNT_OF_WIN, Finder, Hashes, MOST_FINDER_DEPTH, NO_HASHES, Wins};
 use crate::finder::shared_table::SharedTable;
 use crate::finder::transpositions::{ProofNumbers, TranspositionTable};
@@ -58,7 +59,7 @@ pub(crate) fn winner_by_numbers(numbers: ProofNumbers, mover: Side) -> Option<Si
 fn wins_of_worker(wins: &Wins, worker: u32) -> Wins {
     let mut counts = *wins;
     for colour in 0..2 {
-        for turn in 0..512usize {
+        for turn in 0..CELLS {
             let seed = (turn as u64).wrapping_mul(0x9e37_79b9_7f4a_7c15) ^ u64::from(worker);
             let tie = (mixed(seed) % u64::from(COUNT_OF_WIN)) as u32;
             counts[colour][turn] = counts[colour][turn].wrapping_add(tie);
