@@ -1,6 +1,6 @@
 //! Stones of the other colour that close the wall around a group.
 
-ghost use Rattle.std.specs.Prelude.{◌≡◌, ℕ, ◌<◌, IfSome, IfOk, IsTrue, true};
+ghost use Rattle.std.specs.Prelude.{◌≡◌, ℕ, ◌<◌, IfSome, IfOk, IsTrue, MatchOption, true};
 ghost use Rattle.std.specs.FinSet as set;
 ghost use Rattle.tt_sgf.specs.Sizes.{point_count};
 ghost use Rattle.tt_board.specs.Setup.{AllHaveLiberties};
@@ -35,8 +35,10 @@ fn are_empty(board: &Board, points: &PointSet) -> bool
 
 /// The board with stones of a colour added, where each stone has a liberty then.
 pub fn board_with_stones(board: &Board, colour: Colour, stones: &PointSet) -> Option<Board>
-    ensures { IfSome result (λ b. (b ≡ record { size = board.now.size; points = with_stones board.now.size board.now.points colour stones.now })
-        × AllHaveLiberties board.now.size (with_stones board.now.size board.now.points colour stones.now)) }
+    ensures { let points = with_stones board.now.size board.now.points colour stones.now in
+        MatchOption result
+        (AllHaveLiberties board.now.size points → ⊥)
+        (λ b. (b ≡ record { size = board.now.size; points = points }) × AllHaveLiberties board.now.size points) }
 {
     let none = PointSet::empty();
     let made = match colour {
@@ -124,37 +126,6 @@ fn list_if_closing(
     Ok(())
 }
 
-/// Lists what closes the wall with so many stones more than these. Each is on a shortest way that the others leave open.
-fn list_by(
-    board: &Board,
-    colour: Colour,
-    stone: Point,
-    ways: &Ways,
-    stones: &Bits,
-    left: usize,
-    found: &mut Vec<Closing>,
-) -> Result<(), NoMemory>
-    requires { stone < point_count board.now.size }
-    ensures { AreClosings board.now.size board.now.points colour stone found.old.items → AreClosings board.now.size board.now.points colour stone found.new.items }
-{
-    if left == 0 {
-        if !ways.are_shut_by(stones) {
-            return Ok(());
-        }
-        return list_if_closing(board, colour, stone, stones, found);
-    }
-    let way = ways.shortest(stones);
-    for p in 0..board.size().point_count() {
-        if !way.has(p) {
-            continue;
-        }
-        let mut more = *stones;
-        more.set(p);
-        list_by(board, colour, stone, ways, &more, left - 1, found)?;
-    }
-    Ok(())
-}
-
 /// The closings with so many stones, the best first.
 pub(crate) fn closings_by(
     alloc: Global,
@@ -167,16 +138,12 @@ pub(crate) fn closings_by(
     requires { stone < point_count board.now.size }
     ensures { IfOk result (λ v. AreClosings board.now.size board.now.points colour stone v.items) }
 {
+    let mut shutting = Vec::new(alloc);
+    ways.list_shutting(&Bits::none(), stones, &mut shutting)?;
     let mut found = Vec::new(alloc);
-    list_by(
-        board,
-        colour,
-        stone,
-        ways,
-        &Bits::none(),
-        stones,
-        &mut found,
-    )?;
+    for stones in shutting.as_slice() {
+        list_if_closing(board, colour, stone, stones, &mut found)?;
+    }
     found.sort_by_key(|closing| closing.rank)?;
     Ok(found)
 }

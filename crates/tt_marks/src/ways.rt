@@ -8,7 +8,7 @@ use crate::filling::{beside, reached};
 use crate::regions::{empties, set_of};
 use crate::walls::{empty_points, group_bits};
 use tt_board::{Board, Colour};
-use tt_sgf::{BITS, Bits, Point, PointSet, Size};
+use tt_sgf::{BITS, Bits, NoMemory, Point, PointSet, Size};
 
 /// What a wall shuts out is more than so many steps away. Steps are counted over empty points.
 const NEAR_STEPS: usize = 7;
@@ -21,7 +21,7 @@ const MOST_STEPS: usize = 64;
 pub(crate) struct Ways {
     size: Size,
     /// The empty points.
-    pub(crate) empty: Bits,
+    empty: Bits,
     /// These, and the stones of the group's colour.
     free: Bits,
     group: Bits,
@@ -121,7 +121,7 @@ impl Ways {
     }
 
     /// The empty points of a shortest way to what is far, past points that are shut: none where there is no way.
-    pub(crate) fn shortest(&self, shut: &Bits) -> Bits {
+    fn shortest(&self, shut: &Bits) -> Bits {
         let free = self.free.minus(shut);
         let mut layers = [Bits::none(); MOST_STEPS];
         let mut seen = self.group;
@@ -142,9 +142,34 @@ impl Ways {
     }
 
     /// Whether no way is left where these points are shut.
-    pub(crate) fn are_shut_by(&self, shut: &Bits) -> bool {
+    fn are_shut_by(&self, shut: &Bits) -> bool {
         let free = self.free.minus(shut);
         has_none(&flood(self.size, &free, &self.group).and(&self.far))
+    }
+
+    /// Lists the sets of so many points more than these that shut all ways: each is on a shortest way that the others leave open.
+    pub(crate) fn list_shutting(
+        &self,
+        shut: &Bits,
+        left: usize,
+        found: &mut Vec<Bits>,
+    ) -> Result<(), NoMemory> {
+        if left == 0 {
+            if self.are_shut_by(shut) {
+                found.push(*shut)?;
+            }
+            return Ok(());
+        }
+        let way = self.shortest(shut);
+        for p in 0..self.size.point_count() {
+            if !way.has(p) {
+                continue;
+            }
+            let mut more = *shut;
+            more.set(p);
+            self.list_shutting(&more, left - 1, found)?;
+        }
+        Ok(())
     }
 
     /// How many ways have no empty point in common, as far as the shortest tell, up to a number: at least so many points shut them.
