@@ -1,4 +1,5 @@
 mod ClosingLemmas
+mod EnclosedLemmas
 mod ReachedLemmas
 mod SetLemmas
 mod StandLemmas

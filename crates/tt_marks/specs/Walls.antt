@@ -1,5 +1,5 @@
 -- A group, the wall around it, and the region within.
-use Rattle.std.specs.Prelude.{◌≡◌, ℕ, ◌<◌, ◌≤◌, ◌↔◌, None, true, false}
+use Rattle.std.specs.Prelude.{◌≡◌, ℕ, ◌<◌, ◌≤◌, ◌↔◌, None, Some, true, false}
 use Rattle.std.specs.FinSet as set
 use Rattle.tt_sgf.specs.declared.size.Size.{Size}
 use Rattle.tt_sgf.specs.Points.{passing}
@@ -9,7 +9,7 @@ use Rattle.tt_board.specs.Near.{IsNeighbour}
 use Rattle.tt_board.specs.Play.{is_empty, is_stone_of, other}
 use Rattle.tt_board.specs.Position.{Colouring}
 use Rattle.tt_board.specs.Reach.{entry_at}
-use Rattle.tt_board.specs.Stones.{PointNumberSet}
+use Rattle.tt_board.specs.Stones.{IsSetOnBoard, PointNumberSet}
 use Rattle.tt_marks.specs.declared.regions.TheConstants.{MOST_ENCLOSED_POINTS}
 use Rattle.tt_marks.specs.Reached.{Has, IsReached, PointTest}
 
@@ -59,3 +59,18 @@ IsClosed wall points = (0 < set.len wall) × (1 < set.len points) × (set.len po
 -- no more empty points are in the region than outside: else the wall is what stands inside
 abbrev pub IsInner : Size → Colouring → PointNumberSet → Type 0
 IsInner s c points = set.len (set.intersection points (empty_set s c)) ≤ set.len (set.difference (empty_set s c) points)
+
+-- The group of the stone of colour k on q is enclosed, with this region: that is closed, within the whole wall
+pub record IsEnclosedGroup (s : Size) (c : Colouring) (k : Colour) (q : ℕ) (region : PointNumberSet) : Type 0 where
+  pub is_point : q < point_count s
+  pub stands : entry_at c q ≡ Some k
+  pub wall : PointNumberSet
+  pub wall_on_board : IsSetOnBoard s wall
+  pub whole : IsWholeWall s c k q (set.contains wall)
+  pub within : IsRegion s c k q (set.contains wall) (set.contains region)
+  pub on_board : IsSetOnBoard s region
+  pub closed : IsClosed wall region
+
+-- the group of the stone on q is enclosed, with an inner region
+abbrev pub IsOfInnerGroup : Size → Colouring → ℕ → Type 0
+IsOfInnerGroup s c q = (k : Colour) × (region : PointNumberSet) × IsEnclosedGroup s c k q region × IsInner s c region

@@ -1,8 +1,9 @@
 //! The group that is meant where nobody names one.
 
-ghost use Rattle.std.specs.Prelude.{ℕ, ◌<◌, ◌≤◌, ◌≢◌, None, IfSome, IfOk};
+ghost use Rattle.std.specs.Prelude.{◌≡◌, ◌⊎◌, ℕ, ◌<◌, ◌≤◌, ◌≢◌, None, Some, IfSome, IfOk, MatchOption};
 ghost use Rattle.tt_sgf.specs.Sizes.{point_count};
 ghost use Rattle.tt_board.specs.Reach.{entry_at};
+ghost use Rattle.tt_marks.specs.Walls.{IsOfInnerGroup};
 
 use crate::gaps::{MOST_STONES, closings_by};
 use crate::regions::{is_inner, point_numbered, region, set_of};
@@ -21,7 +22,7 @@ struct Candidate {
 
 /// The one with fewer points in its region, and of two with as many the first.
 fn smaller(first: Option<Candidate>, second: Option<Candidate>) -> Option<Candidate>
-    ensures { (n : ℕ) → IfSome first (λ m. m.stone < n) → IfSome second (λ m. m.stone < n) → IfSome result (λ m. m.stone < n) }
+    ensures { MatchOption result ((first ≡ None) × (second ≡ None)) (λ m. (first ≡ Some m) ⊎ (second ≡ Some m)) }
 {
     let Some(b) = second else {
         return first;
@@ -37,7 +38,7 @@ fn smaller(first: Option<Candidate>, second: Option<Candidate>) -> Option<Candid
 
 /// The one whose region has the other's stone in it, where it's not the other way round, else the one with fewer points.
 fn outer_or_smaller(first: Option<Candidate>, second: Option<Candidate>) -> Option<Candidate>
-    ensures { (n : ℕ) → IfSome first (λ m. m.stone < n) → IfSome second (λ m. m.stone < n) → IfSome result (λ m. m.stone < n) }
+    ensures { MatchOption result ((first ≡ None) × (second ≡ None)) (λ m. (first ≡ Some m) ⊎ (second ≡ Some m)) }
 {
     let Some(b) = second else {
         return first;
@@ -80,11 +81,16 @@ fn colour_if_first(board: &Board, stone: Point) -> Option<Colour>
 
 /// The group of a stone of this colour, where its region is closed and inner.
 fn closed_candidate(board: &Board, colour: Colour, stone: Point) -> Option<Candidate>
-    requires { stone < point_count board.now.size }
-    ensures { IfSome result (λ m. m.stone < point_count board.now.size) }
+    requires on_board { stone < point_count board.now.size }
+    requires stands { entry_at board.now.points stone ≡ Some colour }
+    ensures { MatchOption result (IsOfInnerGroup board.now.size board.now.points stone → ⊥)
+        (λ m. IsOfInnerGroup board.now.size board.now.points m.stone) }
 {
     let found = region(board, colour, stone);
-    if !found.is_closed() || !is_inner(board, &found.points) {
+    if !found.is_closed() {
+        return None;
+    }
+    if !is_inner(board, &found.points) {
         return None;
     }
     Some(Candidate {
@@ -103,7 +109,7 @@ fn open_candidate(
 ) -> Result<Option<Candidate>, NoMemory>
     requires stone { stone < point_count board.now.size }
     requires stones { stones ≤ MOST_STONES }
-    ensures { IfOk result (λ found. IfSome found (λ m. m.stone < point_count board.now.size)) }
+    ensures { IfOk result (λ found. IfSome found (λ m. m.stone ≡ stone)) }
 {
     let ways = Ways::of(board, colour, stone);
     if stones < ways.separate(stones + 1) {
@@ -120,15 +126,16 @@ fn open_candidate(
     Ok(Some(Candidate { stone, region }))
 }
 
-/// The best of the groups whose regions are closed and inner.
+/// The best of the groups whose regions are closed and inner: all stones are tried, and the first of a group comes first.
 fn best_closed(board: &Board) -> Option<Candidate>
-    ensures { IfSome result (λ m. m.stone < point_count board.now.size) }
+    ensures { MatchOption result ((q : ℕ) → IsOfInnerGroup board.now.size board.now.points q → ⊥)
+        (λ m. IsOfInnerGroup board.now.size board.now.points m.stone) }
 {
     let size = board.size();
     let mut best = None;
     for number in 0..size.point_count() {
         let stone = point_numbered(size, number);
-        if let Some(colour) = colour_if_first(board, stone) {
+        if let Some(colour) = board.at(stone) {
             best = smaller(best, closed_candidate(board, colour, stone));
         }
     }
@@ -136,9 +143,10 @@ fn best_closed(board: &Board) -> Option<Candidate>
 }
 
 /// The best of the groups whose walls so many stones close.
+#[tactic(auto, using(crate::proofs::EnclosedLemmas::one_stands))]
 fn best_open(alloc: Global, board: &Board, stones: usize) -> Result<Option<Candidate>, NoMemory>
     requires { stones ≤ MOST_STONES }
-    ensures { IfOk result (λ found. IfSome found (λ m. m.stone < point_count board.now.size)) }
+    ensures { IfOk result (λ found. IfSome found (λ m. (m.stone < point_count board.now.size) × (entry_at board.now.points m.stone ≢ None))) }
 {
     let size = board.size();
     let mut best = None;
@@ -152,18 +160,30 @@ fn best_open(alloc: Global, board: &Board, stones: usize) -> Result<Option<Candi
     Ok(best)
 }
 
-/// The first stone of the group that seems to be meant: of those with a closed region the one with the smallest; else of those whose
-/// walls the fewest stones close, without lone stones, the one with the smallest region, and of groups in each other's region the outer.
-pub fn proposed_stone(alloc: Global, board: &Board) -> Result<Option<Point>, NoMemory>
-    ensures { IfOk result (λ found. IfSome found (λ p. p < point_count board.now.size)) }
+/// The first stone of the best of the groups whose walls the fewest stones close.
+fn open_stone(alloc: Global, board: &Board) -> Result<Option<Point>, NoMemory>
+    ensures { IfOk result (λ found. IfSome found (λ p. (p < point_count board.now.size) × (entry_at board.now.points p ≢ None))) }
 {
-    if let Some(found) = best_closed(board) {
-        return Ok(Some(found.stone));
-    }
     for stones in 1..=MOST_STONES {
         if let Some(found) = best_open(alloc, board, stones)? {
             return Ok(Some(found.stone));
         }
     }
     Ok(None)
+}
+
+/// The first stone of the group that seems to be meant: of those with a closed region the one with the smallest; else of those whose
+/// walls the fewest stones close, without lone stones, the one with the smallest region, and of groups in each other's region the outer.
+/// Where a group is enclosed with an inner region, it is one of those.
+#[tactic(auto, using(crate::proofs::EnclosedLemmas::inner_proposed, crate::proofs::EnclosedLemmas::open_proposed))]
+pub fn proposed_stone(alloc: Global, board: &Board) -> Result<Option<Point>, NoMemory>
+    ensures { IfOk result (λ found. MatchOption found ((q : ℕ) → IsOfInnerGroup board.now.size board.now.points q → ⊥)
+        (λ p. (p < point_count board.now.size) × (entry_at board.now.points p ≢ None)
+        × ((q : ℕ) → IsOfInnerGroup board.now.size board.now.points q → IsOfInnerGroup board.now.size board.now.points p))) }
+{
+    if let Some(found) = best_closed(board) {
+        return Ok(Some(found.stone));
+    }
+    let found = open_stone(alloc, board)?;
+    Ok(found)
 }

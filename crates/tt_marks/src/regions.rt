@@ -6,9 +6,9 @@ ghost use Rattle.tt_sgf.specs.Points.{passing};
 ghost use Rattle.tt_sgf.specs.Sizes.{point_count};
 ghost use Rattle.tt_sgf.specs.MachineWords.{bit_in};
 ghost use Rattle.tt_board.specs.Around.{AreOn};
-ghost use Rattle.tt_board.specs.Stones.{IsSetOnBoard};
+ghost use Rattle.tt_board.specs.Stones.{IsSetOnBoard, PointNumberSet};
 ghost use Rattle.tt_marks.specs.Reached.{Has};
-ghost use Rattle.tt_marks.specs.Walls.{IsClosed, IsInner, IsOfGroup, IsRegion, IsWholeWall, empty_set};
+ghost use Rattle.tt_marks.specs.Walls.{IsClosed, IsEnclosedGroup, IsInner, IsOfGroup, IsRegion, IsWholeWall, empty_set};
 
 use crate::walls::{empty_points, group_bits, wall_bits, within};
 use tt_board::{Board, Colour};
@@ -69,6 +69,8 @@ pub fn region(board: &Board, colour: Colour, stone: Point) -> WalledRegion
     ensures points { IsRegion board.now.size board.now.points colour stone (set.contains result.wall) (set.contains result.points) }
     ensures wall_on_board { IsSetOnBoard board.now.size result.wall }
     ensures on_board { IsSetOnBoard board.now.size result.points }
+    ensures only { (points : PointNumberSet) → IsEnclosedGroup board.now.size board.now.points colour stone points
+        → IsClosed result.wall result.points × (points ≡ result.points) }
 {
     let size = board.size();
     let wall = wall_bits(board, colour, stone);

@@ -1,7 +1,5 @@
-use Rattle.std.proofs.Common.{◌<◌}
-use Rattle.std.specs.Prelude.{IfSome}
-use Rattle.tt_sgf.specs.Sizes.{point_count}
+use Rattle.tt_marks.proofs.EnclosedLemmas.{IsBestBefore}
 use Rattle.tt_marks.proofs.proposals.best_closed.Given as goal
 
 abbrev pub invariant-loop-number : goal.invariant-loop-number
-invariant-loop-number l = IfSome l.best (λ m. m.stone < point_count l.board.size)
+invariant-loop-number l = IsBestBefore l.board.size l.board.points l.number l.best

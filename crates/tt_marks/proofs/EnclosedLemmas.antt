@@ -1,0 +1,108 @@
+-- Enclosed groups, and the best of those that may be meant.
+use Rattle.std.proofs.Common.{◌≡◌, ◌≢◌, ◌⊎◌, ◌↔◌, ◌<◌, ◌≤◌, ◌+◌, ℕ, Bool, Option, Some, None, true, false, inl, inr, refl, sym, ◌∙◌, subst, arith}
+use Rattle.std.proofs.lemmas.Bool.{cases_lt}
+use Rattle.std.specs.Prelude.{IfSome, MatchOption}
+use Rattle.std.specs.Cmp.{nat_cmp_total}
+use Rattle.std.specs.FinSet as set
+use Rattle.tt_sgf.specs.declared.size.Size.{Size}
+use Rattle.tt_sgf.specs.Sizes.{point_count}
+use Rattle.tt_board.specs.declared.Colour.{Colour}
+use Rattle.tt_board.specs.Position.{Colouring}
+use Rattle.tt_board.specs.Reach.{entry_at}
+use Rattle.tt_board.specs.Stones.{IsSetOnBoard, PointNumberSet}
+use Rattle.tt_marks.specs.declared.proposals.Candidate.{Candidate}
+use Rattle.tt_marks.specs.Reached.{Has}
+use Rattle.tt_marks.specs.Walls.{IsClosed, IsEnclosedGroup, IsInner, IsOfInnerGroup, IsRegion, IsWholeWall}
+
+both_ways : (a b : Bool) → (a ≡ true → b ≡ true) → (b ≡ true → a ≡ true) → a ≡ b
+both_ways true b there back = sym (there refl)
+both_ways false true there back = back refl
+both_ways false false there back = refl
+
+same_points : (s : Size) (xs ys : PointNumberSet) → IsSetOnBoard s xs → IsSetOnBoard s ys
+    → ((p : ℕ) → p < point_count s → Has (set.contains xs) p ↔ Has (set.contains ys) p) → xs ≡ ys
+same_points s xs ys on_x on_y same = set.same_set nat_cmp_total set.nat_cmp-IsAntisymmetric xs ys
+    (λ p. both_ways (set.contains xs p) (set.contains ys p) (λ h. (same p (on_x p h)).0 h) (λ h. (same p (on_y p h)).1 h))
+
+-- a group has one whole wall, and one region
+pub only_enclosed : (s : Size) (c : Colouring) (k : Colour) (q : ℕ) (wall region : PointNumberSet) → IsSetOnBoard s wall → IsSetOnBoard s region
+    → IsWholeWall s c k q (set.contains wall) → IsRegion s c k q (set.contains wall) (set.contains region)
+    → (points : PointNumberSet) → IsEnclosedGroup s c k q points → IsClosed wall region × (points ≡ region)
+only_enclosed s c k q wall region wall_on on whole within points e =
+    let walls : e.wall ≡ wall = same_points s e.wall wall e.wall_on_board wall_on
+    (λ p in_p. (λ h. whole.whole (set.contains e.wall) e.whole.is_wall p in_p h, λ h. e.whole.whole (set.contains wall) whole.is_wall p in_p h)) in
+    let its = subst (λ (w : PointNumberSet). IsRegion s c k q (set.contains w) (set.contains points)) walls e.within in
+    let same : points ≡ region = same_points s points region e.on_board on
+    (λ p in_p. (λ h. (within p in_p).1 ((its p in_p).0 h), λ h. (its p in_p).1 ((within p in_p).0 h))) in
+    (subst (λ (r : PointNumberSet). IsClosed wall r) same (subst (λ (w : PointNumberSet). IsClosed w points) walls e.closed), same)
+
+-- so where that region isn't closed and inner, none is
+pub not_inner : (s : Size) (c : Colouring) (k : Colour) (q : ℕ) (wall region : PointNumberSet) → entry_at c q ≡ Some k
+    → ((points : PointNumberSet) → IsEnclosedGroup s c k q points → IsClosed wall region × (points ≡ region))
+    → (IsClosed wall region → IsInner s c region → ⊥) → IsOfInnerGroup s c q → ⊥
+not_inner s c k q wall region stands only never h =
+    let same : h.0 ≡ k = let e : Some h.0 ≡ Some k = sym h.2.stands ∙ stands in cc in
+    let found = only h.1 (subst (λ (x : Colour). IsEnclosedGroup s c x q h.1) same h.2) in
+    never found.0 (subst (λ (r : PointNumberSet). IsInner s c r) found.1 h.3)
+
+-- of two candidates one is taken
+abbrev pub IsOneOf : Option Candidate → Option Candidate → Option Candidate → Type 0
+IsOneOf first second made = MatchOption made ((first ≡ None) × (second ≡ None)) (λ m. (first ≡ Some m) ⊎ (second ≡ Some m))
+
+module _ (s : Size) (c : Colouring) where
+  -- the best of the stones before number n is of an inner group, or none of them is
+  abbrev pub IsBestBefore : ℕ → Option Candidate → Type 0
+  IsBestBefore n best = MatchOption best ((q : ℕ) → q < n → IsOfInnerGroup s c q → ⊥) (λ m. IsOfInnerGroup s c m.stone)
+
+  pub best_more : (n : ℕ) (best next made : Option Candidate) → IsBestBefore n best
+      → MatchOption next (IsOfInnerGroup s c n → ⊥) (λ m. IsOfInnerGroup s c m.stone) → IsOneOf best next made → IsBestBefore (n + 1) made
+  best_more n best next None before one taken = λ q lt h. elim (cases_lt q n) [
+    | inl below ↦ subst (λ (x : Option Candidate). IsBestBefore n x) taken.0 before q below h
+    | inr past ↦
+        let same : q ≡ n = omega arith in
+        subst (λ (x : Option Candidate). MatchOption x (IsOfInnerGroup s c n → ⊥) (λ m. IsOfInnerGroup s c m.stone)) taken.1 one
+        (subst (λ (x : ℕ). IsOfInnerGroup s c x) same h)
+  ]
+  best_more n best next (Some m) before one taken = elim taken [
+    | inl old ↦ subst (λ (x : Option Candidate). IsBestBefore n x) old before
+    | inr fresh ↦ subst (λ (x : Option Candidate). MatchOption x (IsOfInnerGroup s c n → ⊥) (λ m. IsOfInnerGroup s c m.stone)) fresh one
+  ]
+
+  -- where no stone stands there is no more
+  pub best_past_empty : (n : ℕ) (best : Option Candidate) → entry_at c n ≡ None → IsBestBefore n best → IsBestBefore (n + 1) best
+  best_past_empty n None bare before = λ q lt h. elim (cases_lt q n) [
+    | inl below ↦ before q below h
+    | inr past ↦
+        let same : q ≡ n = omega arith in
+        let at : IsOfInnerGroup s c n = subst (λ (x : ℕ). IsOfInnerGroup s c x) same h in
+        absurd (let e : Some at.0 ≡ None = sym at.2.stands ∙ bare in cc)
+  ]
+  best_past_empty n (Some m) bare before = before
+
+  -- all stones were tried
+  pub best_whole : (n : ℕ) (best : Option Candidate) → point_count s ≤ n → IsBestBefore n best
+      → MatchOption best ((q : ℕ) → IsOfInnerGroup s c q → ⊥) (λ m. IsOfInnerGroup s c m.stone)
+  best_whole n None all before = λ q h. before q (omega (arith, all, h.2.is_point)) h
+  best_whole n (Some m) all before = before
+
+  -- a stone of an inner group may be proposed, and any stone where there is no such group
+  abbrev pub IsProposed : ℕ → Type 0
+  IsProposed p = (p < point_count s) × (entry_at c p ≢ None) × ((q : ℕ) → IsOfInnerGroup s c q → IsOfInnerGroup s c p)
+
+  pub inner_proposed : (p : ℕ) → IsOfInnerGroup s c p → IsProposed p
+  inner_proposed p h = (h.2.is_point, λ bare. absurd (let e : Some h.0 ≡ None = sym h.2.stands ∙ bare in cc), λ q other. h)
+
+  pub open_proposed : (found : Option ℕ) → ((q : ℕ) → IsOfInnerGroup s c q → ⊥) → IfSome found (λ p. (p < point_count s) × (entry_at c p ≢ None))
+      → MatchOption found ((q : ℕ) → IsOfInnerGroup s c q → ⊥) IsProposed
+  open_proposed None never on = never
+  open_proposed (Some p) never on = (on.0, on.1, λ q h. absurd (never q h))
+
+-- what holds of both holds of the one that is taken
+pub one_stands : (s : Size) (c : Colouring) (first second made : Option Candidate) → IsOneOf first second made
+    → IfSome first (λ m. (m.stone < point_count s) × (entry_at c m.stone ≢ None)) → IfSome second (λ m. (m.stone < point_count s) × (entry_at c m.stone ≢ None))
+    → IfSome made (λ m. (m.stone < point_count s) × (entry_at c m.stone ≢ None))
+one_stands s c first second None taken a b = tt
+one_stands s c first second (Some m) taken a b = elim taken [
+  | inl one ↦ subst (λ (x : Option Candidate). IfSome x (λ m. (m.stone < point_count s) × (entry_at c m.stone ≢ None))) one a
+  | inr other ↦ subst (λ (x : Option Candidate). IfSome x (λ m. (m.stone < point_count s) × (entry_at c m.stone ≢ None))) other b
+]
