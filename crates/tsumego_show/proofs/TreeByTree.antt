@@ -17,15 +17,15 @@ IsSoFar mode input k rest refused text = (other : Bool) (behind : List ℕ) → 
 
 -- one more tree
 pub tree_more : (mode : Mode) (input : List ℕ) (k : ℕ) (rest : List ℕ) (refused : Bool) (text : List ℕ) (used : ℕ) (t : GameTree) (nodes : List Node) (bad : Bool)
-    (part : List ℕ) → IsSoFar mode input k rest refused text → FirstTreeEndsAt rest used t → nodes ≡ main_line t
-    → IsTreeRefused mode k (problem_of nodes) (take (length rest - used) (drop used rest)) bad → IsWrittenOn mode nodes (problem_of nodes) bad part
+    (given part : List ℕ) → IsSoFar mode input k rest refused text → (s : FirstTreeEndsAt rest used t) → given ≡ s.text → nodes ≡ main_line t
+    → IsTreeRefused mode k (problem_of nodes) (take (length rest - used) (drop used rest)) bad → IsWrittenOn mode given nodes (problem_of nodes) bad part
     → IsSoFar mode input (k + 1) (take (length rest - used) (drop used rest)) (refused || bad) (text ++ part)
-tree_more mode input k rest refused text used t nodes bad part far s same w on = λ other behind h.
+tree_more mode input k rest refused text used t nodes bad given part far s its_text same w on = λ other behind h.
     let all : take (length rest - used) (drop used rest) ≡ drop used rest = take_all (length rest - used) (drop used rest) (omega (arith, length-drop used rest)) in
     let its : IsTreeRefused mode k (problem_of (main_line t)) (drop used rest) bad =
     subst (λ (ns : List Node). IsTreeRefused mode k (problem_of ns) (drop used rest) bad) same (subst (λ (b : List ℕ). IsTreeRefused mode k (problem_of nodes) b bad) all w) in
-    let written : IsWrittenOn mode (main_line t) (problem_of (main_line t)) bad part =
-    subst (λ (ns : List Node). IsWrittenOn mode ns (problem_of ns) bad part) same on in
+    let written : IsWrittenOn mode s.text (main_line t) (problem_of (main_line t)) bad part =
+    subst (λ (ns : List Node). IsWrittenOn mode s.text ns (problem_of ns) bad part) same (subst (λ (g : List ℕ). IsWrittenOn mode g nodes (problem_of nodes) bad part) its_text on) in
     let one = tree k rest used t bad other part behind s its written (subst (λ (b : List ℕ). IsRestShown mode (k + 1) b other behind) all h) in
     subst (λ (r : Bool). IsRestShown mode 1 input r ((text ++ part) ++ behind)) (sym (or_assoc refused bad other))
     (subst (λ (x : List ℕ). IsRestShown mode 1 input (refused || (bad || other)) x) (sym (append_assoc text part behind)) (far _ _ one))
@@ -45,14 +45,14 @@ module _ {mode : Mode} {input rest : List ℕ} {k : ℕ} {refused : Bool} {text 
   ]
 
   -- one more tree is read
-  pub progress_step : (used : ℕ) (t : GameTree) (nodes : List Node) (bad : Bool) (part : List ℕ) → FirstTreeEndsAt rest used t → nodes ≡ main_line t
+  pub progress_step : (used : ℕ) (t : GameTree) (nodes : List Node) (bad : Bool) (given part : List ℕ) (s : FirstTreeEndsAt rest used t) → given ≡ s.text → nodes ≡ main_line t
       → length rest ≤ MAX_BYTES → IsTreeRefused mode k (problem_of nodes) (take (length rest - used) (drop used rest)) bad
-      → IsWrittenOn mode nodes (problem_of nodes) bad part
+      → IsWrittenOn mode given nodes (problem_of nodes) bad part
       → Progress mode input (take (length rest - used) (drop used rest)) (k + 1) (refused || bad) (text ++ part)
-  progress_step used t nodes bad part s same small w on = record {
+  progress_step used t nodes bad given part s its_text same small w on = record {
     some = omega (arith, p.some);
     small = inr (small_whole small);
-    far = tree_more mode input k rest refused text used t nodes bad part p.far s same w on;
+    far = tree_more mode input k rest refused text used t nodes bad given part p.far s its_text same w on;
   }
 
   -- no tree is spelled, at a bracket or before the first tree

@@ -17,7 +17,7 @@ abbrev pub IsOnlyTree : ℕ → List ℕ → Type 0
 IsOnlyTree k behind = (k ≡ 1) × (HasOpeningParenthesis behind → ⊥)
 
 -- Whether tree number k is refused, whose main line is a problem or refused, and which is followed by these bytes: a main line that is
--- no problem, and a diagram beside others. Of marks nothing is said.
+-- no problem, and a diagram beside others. Of marks `IsWrittenOn` tells it.
 abbrev pub IsTreeRefused : Mode → ℕ → Result LineWithUndo GameFault → List ℕ → Bool → Type 0
 IsTreeRefused Picture k (Ok p) behind refused = refused ≡ false
 IsTreeRefused Picture k (Err e) behind refused = refused ≡ true
@@ -31,8 +31,8 @@ IsTreeRefused (Marks wanted) k r behind refused = Unit {0}
 -- what is written on each; or no tree is left, and none was wanted; or none is spelled where one is wanted: at a `(`, or where no tree was
 -- read yet.
 pub data IsRestShown (mode : Mode) : ℕ → List ℕ → Bool → List ℕ → Type 0 where
-  tree : (k : ℕ) (bytes : List ℕ) (count : ℕ) (t : GameTree) (bad refused : Bool) (part text : List ℕ) → FirstTreeEndsAt bytes count t
-      → IsTreeRefused mode k (problem_of (main_line t)) (drop count bytes) bad → IsWrittenOn mode (main_line t) (problem_of (main_line t)) bad part
+  tree : (k : ℕ) (bytes : List ℕ) (count : ℕ) (t : GameTree) (bad refused : Bool) (part text : List ℕ) (ends : FirstTreeEndsAt bytes count t)
+      → IsTreeRefused mode k (problem_of (main_line t)) (drop count bytes) bad → IsWrittenOn mode ends.text (main_line t) (problem_of (main_line t)) bad part
       → IsRestShown mode (k + 1) (drop count bytes) refused text → IsRestShown mode k bytes (bad || refused) (part ++ text)
   ended : (k : ℕ) (bytes : List ℕ) → 1 < k → (HasOpeningParenthesis bytes → ⊥) → IsRestShown mode k bytes false []
   stopped : (k : ℕ) (bytes text : List ℕ) → (k ≡ 1) ⊎ HasOpeningParenthesis bytes → HasNoTree bytes → IsWrittenOnNoTree mode text
@@ -51,10 +51,10 @@ IsTextWithStatus mode input text status = (refused : Bool) × IsInputShown mode 
 abbrev pub HasStatus : Mode → List ℕ → ℕ → Type 0
 HasStatus mode input status = (text : List ℕ) × IsTextWithStatus mode input text status
 
--- the mode isn't that of marks
-abbrev pub WantsNoMarks : Mode → Type 0
-WantsNoMarks mode = (wanted : WantedMarks) → mode ≡ Marks wanted → ⊥
+-- no stones may be added that close a wall
+abbrev pub AddsNoStones : Mode → Type 0
+AddsNoStones mode = (wanted : WantedMarks) → mode ≡ Marks wanted → wanted.closes ≡ true → ⊥
 
 -- an input has one status then
 abbrev pub InputHasOneStatus : Type 0
-InputHasOneStatus = (mode : Mode) (input : List ℕ) (m n : ℕ) → WantsNoMarks mode → HasStatus mode input m → HasStatus mode input n → m ≡ n
+InputHasOneStatus = (mode : Mode) (input : List ℕ) (m n : ℕ) → AddsNoStones mode → HasStatus mode input m → HasStatus mode input n → m ≡ n

@@ -1,24 +1,27 @@
 -- What the game trees that are written are when they are read.
-use Rattle.std.specs.Prelude.{◌≡◌, ◌⊎◌, ◌<◌, ◌≤◌, ◌+◌, ◌-◌, ◌*◌, ℕ, Bool, true, false, List, [], length, Ok, Err, Option, None, Some}
+use Rattle.std.specs.Prelude.{◌≡◌, ◌⊎◌, ◌<◌, ◌≤◌, ◌+◌, ◌-◌, ◌*◌, ◌++◌, ◌==◌, ℕ, Bool, true, false, not, List, [], ◌∷◌, length, take, slice_get, Ok, Err, Option, None, Some, MatchOption, if◌then◌else◌}
+use Rattle.std.specs.List.{list_any}
 use Rattle.std.specs.declared.result.Result.{Result}
 use Rattle.std.specs.FinSet as set
 use Rattle.tt_sgf.specs.declared.nodes.Node.{Node}
 use Rattle.tt_sgf.specs.declared.size.Size.{Size}
 use Rattle.tt_sgf.specs.declared.trees.TheConstants.{MAX_BYTES}
+use Rattle.tt_sgf.specs.Bytes.{newline, open_tree}
+use Rattle.tt_sgf.specs.Sizes.{point_count}
 use Rattle.tt_sgf.specs.Grammar.{GameTree, FirstTreeEndsAt, main_line}
 use Rattle.tt_board.specs.declared.Colour.{Colour}
 use Rattle.tt_board.specs.Play.{other}
 use Rattle.tt_board.specs.Position.{Colouring}
-use Rattle.tt_board.specs.Reach.{entry_at}
-use Rattle.tt_board.specs.Stones.{IsSetOnBoard, PointNumberSet}
+use Rattle.tt_board.specs.Stones.{PointNumberSet}
 use Rattle.tt_game.specs.declared.faults.GameFault.{GameFault}
 use Rattle.tt_game.specs.declared.frame.Frame.{Frame}
 use Rattle.tt_game.specs.declared.frame.Side.{Side}
 use Rattle.tt_game.specs.Games.{GameState}
 use Rattle.tt_game.specs.Line.{LineWithUndo}
-use Rattle.tt_game.specs.Problems.{game_of, posed_problem, problem_of, side_of}
+use Rattle.tt_game.specs.Nodes.{SQ, TR, has}
+use Rattle.tt_game.specs.Problems.{game_of, node_count_before_solution, posed_problem, problem_of, side_of}
 use Rattle.tt_marks.specs.Closings.{ClosesWall, with_stones}
-use Rattle.tt_marks.specs.Walls.{IsClosed, IsInner, IsRegion, IsWholeWall}
+use Rattle.tt_marks.specs.Walls.{IsEnclosedGroup, IsInner}
 use Rattle.tsumego_show.specs.declared.mode.Mode.{Mode}
 use Rattle.tsumego_show.specs.declared.mode.Mode.TheVariants.{Picture, Diagram, Marks, Variations}
 use Rattle.tsumego_show.specs.declared.mode.PointName.{PointName}
@@ -39,16 +42,6 @@ abbrev pub IsSetupText : List ℕ → Frame → Colouring → Side → Type 0
 IsSetupText text f stones side = length text ≤ MAX_BYTES → (q : LineWithUndo) × IsProblemText text q × (q.frame ≡ f)
     × (q.state ≡ record { earlier = []; present = stones; to_move = side; passes = 0 })
 
--- a triangle on the stone of colour k on q and squares on these points mark its group: they are the region within the whole wall, closed
-pub record IsMarkOf (s : Size) (c : Colouring) (q : ℕ) (k : Colour) (squares : PointNumberSet) : Type 0 where
-  pub stands : entry_at c q ≡ Some k
-  pub wall : PointNumberSet
-  pub wall_on_board : IsSetOnBoard s wall
-  pub whole : IsWholeWall s c k q (set.contains wall)
-  pub within : IsRegion s c k q (set.contains wall) (set.contains squares)
-  pub on_board : IsSetOnBoard s squares
-  pub closed : IsClosed wall squares
-
 -- the one target of marks
 abbrev pub target : ℕ → PointNumberSet
 target q = set.insert set.empty q
@@ -68,9 +61,21 @@ abbrev pub IsInnerUnlessNamed : Option PointName → Size → Colouring → Poin
 IsInnerUnlessNamed None s c squares = IsInner s c squares
 IsInnerUnlessNamed (Some name) s c squares = Unit {0}
 
+-- the stone on q marks no group: its group isn't enclosed or, where nobody names the stone, its region isn't inner
+abbrev pub MarksNoGroup : Option PointName → Size → Colouring → ℕ → Type 0
+MarksNoGroup name s c q = (k : Colour) (squares : PointNumberSet) → IsEnclosedGroup s c k q squares → IsInnerUnlessNamed name s c squares → ⊥
+
+-- no stone that may be meant marks a group
+abbrev pub HasNoGroup : Option PointName → Size → Colouring → Type 0
+HasNoGroup name s c = (q : ℕ) → IsMeant s name q → MarksNoGroup name s c q
+
+-- what is taken for the stone that is meant: one that may be meant, and marks a group if any of those does; or none, where none does
+abbrev pub IsTaken : Option PointName → Size → Colouring → Option ℕ → Type 0
+IsTaken name s c found = MatchOption found (HasNoGroup name s c) (λ p. (p < point_count s) × IsMeant s name p × (MarksNoGroup name s c p → HasNoGroup name s c))
+
 -- a text is the game with a triangle on q and with squares that mark the group of its stone, all else as it was
 abbrev pub IsEnclosedText : Option PointName → List ℕ → GameState → ℕ → Type 0
-IsEnclosedText name text g q = (k : Colour) × (squares : PointNumberSet) × IsMarkOf g.size g.present q k squares × IsInnerUnlessNamed name g.size g.present squares
+IsEnclosedText name text g q = (k : Colour) × (squares : PointNumberSet) × IsEnclosedGroup g.size g.present k q squares × IsInnerUnlessNamed name g.size g.present squares
     × IsTextOf text (posed_problem g squares (target q) k)
 
 -- a text is the game with more stones, which close the wall around the group of the stone on q, with such marks too, and who moves stays
@@ -82,6 +87,47 @@ IsClosedText text g q = (k : Colour) × (squares : PointNumberSet) × (stones : 
 abbrev pub IsMarkedText : WantedMarks → List ℕ → GameState → Type 0
 IsMarkedText wanted text g = (q : ℕ) × IsMeant g.size wanted.name q × (IsEnclosedText wanted.name text g q ⊎ ((wanted.closes ≡ true) × IsClosedText text g q))
 
+-- the bytes from the first `(` on
+abbrev pub from_open : List ℕ → List ℕ
+from_open [] = []
+from_open (b ∷ bs) = if b == open_tree then b ∷ bs else from_open bs
+
+-- the bytes of a tree as they were given, and a newline
+abbrev pub as_given : List ℕ → List ℕ
+as_given given = given ++ (newline ∷ [])
+
+-- the same with more bytes in one place
+abbrev pub IsGivenWithMore : List ℕ → List ℕ → Type 0
+IsGivenWithMore given text = (front : List ℕ) × (more : List ℕ) × (behind : List ℕ) × (given ≡ front ++ behind) × (text ≡ front ++ (more ++ as_given behind))
+
+-- the nodes of a main line but those of a solution
+abbrev pub asking_nodes : List Node → List Node
+asking_nodes nodes = take (node_count_before_solution false nodes) nodes
+
+-- the last of some nodes has squares
+abbrev pub has_squares : Option Node → Bool
+has_squares None = false
+has_squares (Some n) = has SQ n
+
+abbrev pub last_has_squares : List Node → Bool
+last_has_squares nodes = has_squares (slice_get nodes (length nodes - 1))
+
+-- the first node with triangles has no squares
+abbrev pub has_triangles_alone : List Node → Bool
+has_triangles_alone [] = false
+has_triangles_alone (n ∷ ns) = if has TR n then not (has SQ n) else has_triangles_alone ns
+
+-- no marks stand where a main line asks: no triangles up to there, and no squares there
+abbrev pub AsksUnmarked : List Node → Type 0
+AsksUnmarked nodes = (list_any (has TR) (asking_nodes nodes) ≡ false) × (last_has_squares (asking_nodes nodes) ≡ false)
+
+-- A tree without a problem, with these bytes and nodes, gets marks; or it is refused, and stays as it was. It is refused only where marks
+-- stand there already, its game can't be played, or no stone that may be meant marks a group.
+abbrev pub IsMarkedOrKept : WantedMarks → List ℕ → List Node → Bool → List ℕ → Type 0
+IsMarkedOrKept wanted given nodes false text = AsksUnmarked nodes × IsGivenWithMore given text × ((g : GameState) × (game_of nodes ≡ Ok g) × IsMarkedText wanted text g)
+IsMarkedOrKept wanted given nodes true text = (text ≡ as_given given)
+    × (AsksUnmarked nodes → (g : GameState) → game_of nodes ≡ Ok g → HasNoGroup wanted.name g.size g.present)
+
 -- what is written where no tree is spelled: a picture's words are for people, and else nothing is
 abbrev pub IsWrittenOnNoTree : Mode → List ℕ → Type 0
 IsWrittenOnNoTree Picture text = Unit {0}
@@ -89,12 +135,12 @@ IsWrittenOnNoTree Diagram text = text ≡ []
 IsWrittenOnNoTree (Variations depth) text = text ≡ []
 IsWrittenOnNoTree (Marks wanted) text = text ≡ []
 
--- What is written on a tree with these nodes, which is a problem or refused: variations begin with the problem, and problems keep their
--- marks. Another game gets marks where it asks, if the tree isn't refused.
-abbrev pub IsWrittenOn : Mode → List Node → Result LineWithUndo GameFault → Bool → List ℕ → Type 0
-IsWrittenOn Picture nodes r refused text = Unit {0}
-IsWrittenOn Diagram nodes r refused text = Unit {0}
-IsWrittenOn (Variations depth) nodes (Ok p) refused text = IsTextOf text p
-IsWrittenOn (Variations depth) nodes (Err e) refused text = Unit {0}
-IsWrittenOn (Marks wanted) nodes (Ok p) refused text = IsTextOf text p
-IsWrittenOn (Marks wanted) nodes (Err e) refused text = refused ≡ false → (g : GameState) × (game_of nodes ≡ Ok g) × IsMarkedText wanted text g
+-- What is written on a tree with these bytes and nodes, which is a problem or refused: variations begin with the problem. Of marks it tells
+-- too whether the tree is refused: a problem keeps its marks, and is refused where its triangles have no squares.
+abbrev pub IsWrittenOn : Mode → List ℕ → List Node → Result LineWithUndo GameFault → Bool → List ℕ → Type 0
+IsWrittenOn Picture given nodes r refused text = Unit {0}
+IsWrittenOn Diagram given nodes r refused text = Unit {0}
+IsWrittenOn (Variations depth) given nodes (Ok p) refused text = IsTextOf text p
+IsWrittenOn (Variations depth) given nodes (Err e) refused text = text ≡ as_given given
+IsWrittenOn (Marks wanted) given nodes (Ok p) refused text = (text ≡ as_given given) × IsTextOf text p × (refused ≡ has_triangles_alone nodes)
+IsWrittenOn (Marks wanted) given nodes (Err e) refused text = IsMarkedOrKept wanted given nodes refused text

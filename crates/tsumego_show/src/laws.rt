@@ -1,7 +1,7 @@
 //! The law of the exit status. It is a function that does nothing, whose contract is the law.
 ghost use Rattle.tsumego_show.specs.Shown.{InputHasOneStatus};
 
-/// An input has one status, unless marks are wanted.
+/// An input has one status, unless stones may be added.
 pub fn input_has_one_status()
     ensures { InputHasOneStatus }
 {

@@ -14,7 +14,7 @@
 //! | `marking`, `unmarked` | `--mark`: the tree with marks, and with stones that close the wall; why a tree has none, and how its wall may be closed |
 //! | `reading_back` | sees that the game trees which are written read as the problems that are meant |
 //! | `tree_bytes`, `points` | the bytes of a tree, points by number |
-//! | `laws` | an input has one status, unless marks are wanted |
+//! | `laws` | an input has one status, unless stones may be added |
 #![tactic(auto)]
 
 mod answers;

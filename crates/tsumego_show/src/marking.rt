@@ -1,19 +1,21 @@
 //! Writes problems with the marks that are proposed for them.
-ghost use Rattle.std.specs.Prelude.{◌≡◌, ◌<◌, IfOk, IfSome, Ok, false, true};
+ghost use Rattle.std.specs.Prelude.{◌≡◌, ◌<◌, ◌↔◌, IfOk, IfSome, IsTrue, MatchOption, Ok, false, is_some, true};
+ghost use Rattle.std.specs.List.{list_any};
 ghost use Rattle.tt_sgf.specs.Sizes.{point_count};
-ghost use Rattle.tt_game.specs.Games.{GameState};
+ghost use Rattle.tt_game.specs.Nodes.{TR, has};
 ghost use Rattle.tt_game.specs.Problems.{game_of, posed_problem};
-ghost use Rattle.tt_marks.specs.Closings.{ClosesWall};
-ghost use Rattle.tsumego_show.specs.Written.{IsClosedText, IsMarkedText, IsMeant, IsTextOf, target};
+ghost use Rattle.tt_marks.specs.Walls.{IsClosed};
+ghost use Rattle.tsumego_show.specs.Written.{HasNoGroup, IsClosedText, IsGivenWithMore, IsInnerUnlessNamed, IsMarkedOrKept, IsMarkedText, IsMeant, IsSetupText, IsTaken};
+ghost use Rattle.tsumego_show.specs.Written.{IsTextOf, MarksNoGroup, as_given, asking_nodes, has_triangles_alone, last_has_squares, target};
 
 use crate::hints::{put_hints, put_missing_mover_line, put_unclosed_comment_lines};
-use crate::mode::WantedMarks;
-use crate::picture::colour_name;
+use crate::mode::{PointName, WantedMarks};
+use crate::picture::{colour_name, side_colour};
 use crate::points::{PointForm, point_numbered, point_of_name, put_points, put_points_line_if_any};
 use crate::reading_back::{check_problem, check_setup};
 use crate::refusals::{put_refusal_and_why, put_refusal_line};
 use crate::shown::{ShowFault, Shown};
-use crate::tree_bytes::{GivenTree, node_end, put_tree_as_given, semicolon_end};
+use crate::tree_bytes::{GivenTree, node_end, semicolon_end};
 use crate::unmarked::{
     put_wall_in_danger_line, put_ways, put_why_no_group_enclosed, put_why_unmarked_at_point,
 };
@@ -22,7 +24,9 @@ use std::alloc::Global;
 use std::io::Write;
 use tt_board::{Board, Colour};
 use tt_game::{Game, GameFault, Line, game_before_solution, has_value, node_count_before_solution};
-use tt_marks::{Closing, board_with_stones, closings, group, is_inner, proposed_stone, region};
+use tt_marks::{
+    Closing, WalledRegion, board_with_stones, closings, group, is_inner, proposed_stone, region,
+};
 use tt_sgf::{Node, Point, PointSet, Size};
 
 /// The first stones of the enclosed chains that are neither that of a stone of this colour nor in its squares.
@@ -62,60 +66,81 @@ fn put_marks(out: &mut Vec<u8>, line: &Line) -> Result<(), ShowFault> {
     put_points(out, frame.size, &frame.region, PointForm::Value)
 }
 
-/// Writes a tree with the marks of a problem at the head of the node where it asks behind the text.
-fn put_tree_with_marks(out: &mut Vec<u8>, line: &Line, tree: &GivenTree) -> Result<(), ShowFault> {
-    let at = semicolon_end(tree.bytes, node_count_before_solution(tree.nodes()));
-    out.extend_from_slice(&tree.bytes[..at])?;
-    put_marks(out, line)?;
-    out.extend_from_slice(&tree.bytes[at..])?;
-    Ok(out.push(b'\n')?)
-}
-
-/// Writes a tree behind the text, with a node behind that where it asks that adds stones of the attacker, and has the side to move, the
-/// marks of a problem, and a comment that names the stones. It is a node of its own, so that the given position stays, and no setup
-/// stands beside a move.
-fn put_tree_with_stones(
-    out: &mut Vec<u8>,
-    line: &Line,
-    added: &PointSet,
-    mover: Colour,
-    tree: &GivenTree,
-) -> Result<(), ShowFault> {
+/// Writes a node that adds stones of the attacker, and has the side to move, the marks of a problem, and a comment that names the stones,
+/// behind the text.
+fn put_node_with_stones(out: &mut Vec<u8>, line: &Line, added: &PointSet) -> Result<(), ShowFault> {
     let size = line.frame().size;
     let colour = line.frame().defender.other();
-    let at = node_end(tree.bytes, node_count_before_solution(tree.nodes()));
-    out.extend_from_slice(&tree.bytes[..at])?;
     let letter = colour_letter(colour);
     write!(out, ";A{letter}")?;
     put_points(out, size, added, PointForm::Value)?;
-    let letter = colour_letter(mover);
+    let letter = colour_letter(side_colour(line, line.to_move()));
     write!(out, "PL[{letter}]")?;
     put_marks(out, line)?;
     let name = colour_name(colour);
     write!(out, "C[{name} stones added to close the wall:")?;
     put_points(out, size, added, PointForm::Editor)?;
-    out.push(b']')?;
-    out.extend_from_slice(&tree.bytes[at..])?;
-    Ok(out.push(b'\n')?)
+    Ok(out.push(b']')?)
+}
+
+/// The tree with the marks of a problem at the head of the node where it asks.
+fn tree_with_marks(alloc: Global, tree: &GivenTree, line: &Line) -> Result<Vec<u8>, ShowFault>
+    ensures given { IfOk result (λ text. IsGivenWithMore tree.now.bytes.now text.items) }
+    ensures reads { IfOk result (λ text. IsTextOf text.items line.now) }
+{
+    let mut marks = Vec::new(alloc);
+    put_marks(&mut marks, line)?;
+    let at = semicolon_end(tree.bytes, node_count_before_solution(tree.nodes()));
+    let text = tree.with_more(alloc, at, marks.as_slice())?;
+    check_problem(alloc, text.as_slice(), line)?;
+    Ok(text)
+}
+
+/// The tree with added stones, with which the board is this, and the marks of a problem behind the node where it asks: in a node of their
+/// own, so that the given position stays, and no setup stands beside a move.
+fn tree_with_stones(
+    alloc: Global,
+    tree: &GivenTree,
+    line: &Line,
+    board: &Board,
+    added: &PointSet,
+) -> Result<Vec<u8>, ShowFault>
+    ensures given { IfOk result (λ text. IsGivenWithMore tree.now.bytes.now text.items) }
+    ensures reads { IfOk result (λ text. IsSetupText text.items line.now.frame board.now.points line.now.state.to_move) }
+{
+    let mut node = Vec::new(alloc);
+    put_node_with_stones(&mut node, line, added)?;
+    let at = node_end(tree.bytes, node_count_before_solution(tree.nodes()));
+    let text = tree.with_more(alloc, at, node.as_slice())?;
+    check_setup(alloc, text.as_slice(), line.frame(), board, line.to_move())?;
+    Ok(text)
 }
 
 /// The nodes up to where a main line asks.
-fn nodes_before_solution(nodes: &[Node]) -> &[Node] {
+fn nodes_before_solution(nodes: &[Node]) -> &[Node]
+    ensures { result.now ≡ asking_nodes nodes.now }
+{
     &nodes[..node_count_before_solution(nodes)]
 }
 
 /// Whether a main line has triangles up to where it asks.
-fn has_triangles(nodes: &[Node]) -> bool {
+fn has_triangles(nodes: &[Node]) -> bool
+    ensures { result ≡ list_any (has TR) (asking_nodes nodes.now) }
+{
     nodes_before_solution(nodes)
         .iter()
         .any(|node| has_value(node.props.as_slice(), b"TR"))
 }
 
 /// Whether the node that is to get the marks has squares.
-fn is_last_problem_node_squared(nodes: &[Node]) -> bool {
-    nodes_before_solution(nodes)
-        .last()
-        .is_some_and(|node| has_value(node.props.as_slice(), b"SQ"))
+#[tactic(auto, using(crate::proofs::Marked::last_squared))]
+fn is_last_problem_node_squared(nodes: &[Node]) -> bool
+    ensures { result ≡ last_has_squares (asking_nodes nodes.now) }
+{
+    match nodes_before_solution(nodes).last() {
+        Some(node) => has_value(node.props.as_slice(), b"SQ"),
+        None => false,
+    }
 }
 
 /// Writes that other groups of a board than that of a stone of this colour are enclosed too, where they are, behind the text.
@@ -150,26 +175,6 @@ fn marked_problem(
     Ok(game.into_problem(squares, PointSet::empty().with(stone), colour)?)
 }
 
-/// Writes the hints on a game with marks for a group of this colour, and its tree with the marks.
-fn put_enclosed_group(
-    alloc: Global,
-    out: &mut Vec<u8>,
-    hints: &mut Vec<u8>,
-    tree: &GivenTree,
-    game: Game,
-    colour: Colour,
-    stone: Point,
-    squares: PointSet,
-) -> Result<(), ShowFault>
-    requires { stone < point_count game.size }
-    ensures { IfOk result (λ _. IsTextOf out.new.items (posed_problem game squares (target stone) colour)) }
-{
-    let line = marked_problem(game, colour, stone, squares)?;
-    put_hints(hints, &line)?;
-    put_tree_with_marks(out, &line, tree)?;
-    check_problem(alloc, out.as_slice(), &line)
-}
-
 /// Writes which stones close the wall around a group, and the other ways, the best first.
 fn put_closing_hint(
     hints: &mut Vec<u8>,
@@ -188,38 +193,41 @@ fn put_closing_hint(
     put_ways(hints, board.size(), others, b",")
 }
 
-/// Writes a tree with stones that close the wall around a group of this colour, and the marks in a node of its own.
-fn put_closed_group(
+/// The tree with the best stones that close the wall around a group of this colour, and marks, where such stones are found; with the other
+/// ways among the hints.
+fn closed_tree(
     alloc: Global,
-    out: &mut Vec<u8>,
+    hints: &mut Vec<u8>,
     tree: &GivenTree,
     game: Game,
     colour: Colour,
     stone: Point,
-    closing: &Closing,
-) -> Result<(), ShowFault>
-    requires on_board { stone < point_count game.size }
-    requires closes { ClosesWall game.size game.present colour stone closing.now.stones closing.now.region }
-    ensures { IfOk result (λ _. IsClosedText out.new.items game stone) }
+) -> Result<Option<Vec<u8>>, ShowFault>
+    requires { stone < point_count game.size }
+    ensures { IfOk result (λ made. IfSome made (λ text. IsGivenWithMore tree.now.bytes.now text.items × IsClosedText text.items game stone)) }
 {
-    let added = &closing.stones;
-    let Some(board) = board_with_stones(game.present(), colour.other(), added) else {
+    let board = game.present();
+    let ways = closings(alloc, board, colour, stone)?;
+    let Some((best, others)) = ways.as_slice().split_first() else {
+        return Ok(None);
+    };
+    put_closing_hint(hints, board, colour, best, others)?;
+    let Some(next) = board_with_stones(board, colour.other(), &best.stones) else {
         return Err(ShowFault::OtherProblem);
     };
-    let mover = game.to_move();
-    let line = marked_problem(game, colour, stone, closing.region.copy())?;
-    put_tree_with_stones(out, &line, added, mover, tree)?;
-    check_setup(alloc, out.as_slice(), line.frame(), &board, line.to_move())
+    let line = marked_problem(game, colour, stone, best.region.copy())?;
+    let text = tree_with_stones(alloc, tree, &line, &next, &best.stones)?;
+    Ok(Some(text))
 }
 
 /// The stone in a place where the board has it, or a stone of the group that seems to be meant.
+#[tactic(auto, using(crate::proofs::Taken::named_taken))]
 fn stone_meant(
     alloc: Global,
     board: &Board,
     wanted: WantedMarks,
 ) -> Result<Option<Point>, ShowFault>
-    ensures on_board { IfOk result (λ found. IfSome found (λ p. p < point_count board.now.size)) }
-    ensures meant { IfOk result (λ found. IfSome found (IsMeant board.now.size wanted.name)) }
+    ensures { IfOk result (IsTaken wanted.name board.now.size board.now.points) }
 {
     match wanted.name {
         Some(name) => Ok(point_of_name(board.size(), name)),
@@ -227,44 +235,76 @@ fn stone_meant(
     }
 }
 
-/// Writes a tree with the marks for the group of the stone on a point, where its region is closed and, where nobody named the stone, an
-/// inner one; or with the best stones that close its wall, where they are wanted and were found. Says whether it did.
-fn put_proposal(
+/// Whether a region is closed and, where nobody names the stone, inner.
+fn is_enclosed(board: &Board, found: &WalledRegion, name: Option<PointName>) -> bool
+    ensures { IsTrue result ↔ (IsClosed found.now.wall found.now.points
+        × IsInnerUnlessNamed name board.now.size board.now.points found.now.points) }
+{
+    match name {
+        Some(_) => found.is_closed(),
+        None => found.is_closed() && is_inner(board, &found.points),
+    }
+}
+
+/// The tree with the marks for the group of the stone on a point, where its region is closed and, where nobody named the stone, an inner
+/// one; or with the best stones that close its wall, where they are wanted and are found.
+#[tactic(auto, using(crate::proofs::Marked::empty_marks_none, crate::proofs::Marked::closed_marked))]
+fn marked_tree(
     alloc: Global,
-    out: &mut Vec<u8>,
     hints: &mut Vec<u8>,
     wanted: WantedMarks,
     tree: &GivenTree,
     game: Game,
     stone: Point,
-) -> Result<bool, ShowFault>
+) -> Result<Option<Vec<u8>>, ShowFault>
     requires on_board { stone < point_count game.size }
     requires meant { IsMeant game.size wanted.name stone }
-    ensures { IfOk result (λ made. made ≡ true → IsMarkedText wanted out.new.items game) }
+    ensures { IfOk result (λ made. MatchOption made (MarksNoGroup wanted.name game.size game.present stone)
+        (λ text. IsGivenWithMore tree.now.bytes.now text.items × IsMarkedText wanted text.items game)) }
 {
     let board = game.present();
     let Some(colour) = board.at(stone) else {
-        return Ok(false);
+        return Ok(None);
     };
     let found = region(board, colour, stone);
-    let is_named = wanted.name.is_some();
-    if found.is_closed() && (is_named || is_inner(board, &found.points)) {
-        if !is_named {
+    if is_enclosed(board, &found, wanted.name) {
+        if wanted.name.is_none() {
             put_other_groups_hint(hints, board, colour, stone, &found.points)?;
         }
-        put_enclosed_group(alloc, out, hints, tree, game, colour, stone, found.points)?;
-        return Ok(true);
+        let line = marked_problem(game, colour, stone, found.points)?;
+        put_hints(hints, &line)?;
+        let text = tree_with_marks(alloc, tree, &line)?;
+        return Ok(Some(text));
     }
     if !wanted.closes {
-        return Ok(false);
+        return Ok(None);
     }
-    let ways = closings(alloc, board, colour, stone)?;
-    let Some((best, others)) = ways.as_slice().split_first() else {
-        return Ok(false);
+    match closed_tree(alloc, hints, tree, game, colour, stone)? {
+        Some(text) => Ok(Some(text)),
+        None => Ok(None),
+    }
+}
+
+/// The tree with marks for what is taken for the stone that is meant.
+fn tree_with_any_marks(
+    alloc: Global,
+    hints: &mut Vec<u8>,
+    wanted: WantedMarks,
+    tree: &GivenTree,
+    game: Game,
+    stone: Option<Point>,
+) -> Result<Option<Vec<u8>>, ShowFault>
+    requires { IsTaken wanted.name game.size game.present stone }
+    ensures { IfOk result (λ made. MatchOption made (HasNoGroup wanted.name game.size game.present)
+        (λ text. IsGivenWithMore tree.now.bytes.now text.items × IsMarkedText wanted text.items game)) }
+{
+    let Some(stone) = stone else {
+        return Ok(None);
     };
-    put_closing_hint(hints, board, colour, best, others)?;
-    put_closed_group(alloc, out, tree, game, colour, stone, best)?;
-    Ok(true)
+    match marked_tree(alloc, hints, wanted, tree, game, stone)? {
+        Some(text) => Ok(Some(text)),
+        None => Ok(None),
+    }
 }
 
 /// Writes that a tree has no marks, why for a stone, and the tree as it was.
@@ -277,6 +317,7 @@ fn put_reason(
     is_named: bool,
 ) -> Result<(), ShowFault>
     requires { IfSome stone.now (λ p. p < point_count board.now.size) }
+    ensures { IfOk result (λ _. shown.new.text.items ≡ as_given tree.now.bytes.now) }
 {
     put_refusal_line(&mut shown.said, tree.number, GameFault::NoTarget.code())?;
     if is_named {
@@ -285,11 +326,13 @@ fn put_reason(
         put_why_no_group_enclosed(alloc, &mut shown.said, board, stone)?;
     }
     put_wall_in_danger_line(&mut shown.said, board, stone)?;
-    put_tree_as_given(&mut shown.text, tree)
+    shown.text = tree.as_given(alloc)?;
+    Ok(())
 }
 
 /// Writes a tree with the mark for a stone of its game, or with the stones that close its wall too, or why there is none, and says
 /// whether there is none.
+#[tactic(auto, using(crate::proofs::Marked::kept_with_squares, crate::proofs::Taken::taken_on_board))]
 fn put_proposal_or_reason(
     alloc: Global,
     shown: &mut Shown,
@@ -298,22 +341,23 @@ fn put_proposal_or_reason(
     tree: &GivenTree,
     game: Game,
 ) -> Result<bool, ShowFault>
-    ensures { IfOk result (λ refused. refused ≡ false → IsMarkedText wanted shown.new.text.items game) }
+    requires no_triangles { list_any (has TR) (asking_nodes tree.now.main.nodes) ≡ false }
+    requires game { game_of tree.now.main.nodes ≡ Ok game }
+    ensures { IfOk result (λ refused. IsMarkedOrKept wanted tree.now.bytes.now tree.now.main.nodes refused shown.new.text.items) }
 {
     if is_last_problem_node_squared(tree.nodes()) {
         put_refusal_line(&mut shown.said, tree.number, GameFault::NoTarget.code())?;
         shown.said.extend_from_slice(
             b"squares stand there already: put a triangle on a stone of the group, or take SQ out\n",
         )?;
-        put_tree_as_given(&mut shown.text, tree)?;
+        shown.text = tree.as_given(alloc)?;
         return Ok(true);
     }
     let board = game.present().copy();
     let stone = stone_meant(alloc, &board, wanted)?;
-    if let Some(stone) = stone {
-        if put_proposal(alloc, &mut shown.text, hints, wanted, tree, game, stone)? {
-            return Ok(false);
-        }
+    if let Some(text) = tree_with_any_marks(alloc, hints, wanted, tree, game, stone)? {
+        shown.text = text;
+        return Ok(false);
     }
     put_reason(alloc, shown, tree, &board, &stone, wanted.name.is_some())?;
     Ok(true)
@@ -340,7 +384,9 @@ fn put_game_marked_or_kept(
     tree: &GivenTree,
     game: Game,
 ) -> Result<bool, ShowFault>
-    ensures { IfOk result (λ refused. refused ≡ false → IsMarkedText wanted shown.new.text.items game) }
+    requires no_triangles { list_any (has TR) (asking_nodes tree.now.main.nodes) ≡ false }
+    requires game { game_of tree.now.main.nodes ≡ Ok game }
+    ensures { IfOk result (λ refused. IsMarkedOrKept wanted tree.now.bytes.now tree.now.main.nodes refused shown.new.text.items) }
 {
     let mut hints = Vec::new(alloc);
     put_missing_mover_line(&mut hints, nodes_before_solution(tree.nodes()))?;
@@ -350,8 +396,23 @@ fn put_game_marked_or_kept(
     Ok(refused)
 }
 
+/// Writes why a tree is refused, by this fault, and the tree as it was.
+pub fn put_refused_tree(
+    alloc: Global,
+    shown: &mut Shown,
+    tree: &GivenTree,
+    fault: &GameFault,
+) -> Result<(), ShowFault>
+    ensures { IfOk result (λ _. shown.new.text.items ≡ as_given tree.now.bytes.now) }
+{
+    put_refusal_and_why(&mut shown.said, tree.number, tree.nodes(), fault)?;
+    shown.text = tree.as_given(alloc)?;
+    Ok(())
+}
+
 /// Writes a tree that is no problem, by this fault, with the mark for a stone, or why there is none, and says whether it is left without
 /// a proposal.
+#[tactic(auto, using(crate::proofs::Marked::kept_with_triangles, crate::proofs::Marked::kept_unplayed))]
 pub fn put_tree_marked_or_kept(
     alloc: Global,
     shown: &mut Shown,
@@ -359,35 +420,39 @@ pub fn put_tree_marked_or_kept(
     tree: &GivenTree,
     fault: &GameFault,
 ) -> Result<bool, ShowFault>
-    ensures { IfOk result (λ refused. refused ≡ false → (g : GameState) × (game_of tree.now.main.nodes ≡ Ok g) × IsMarkedText wanted shown.new.text.items g) }
+    ensures { IfOk result (λ refused. IsMarkedOrKept wanted tree.now.bytes.now tree.now.main.nodes refused shown.new.text.items) }
 {
     if has_triangles(tree.nodes()) {
-        put_refusal_and_why(&mut shown.said, tree.number, tree.nodes(), fault)?;
-        put_tree_as_given(&mut shown.text, tree)?;
+        put_refused_tree(alloc, shown, tree, fault)?;
         return Ok(true);
     }
     match game_before_solution(alloc, &tree.main) {
         Ok(game) => put_game_marked_or_kept(alloc, shown, wanted, tree, game),
         Err(GameFault::NoMemory) => Err(ShowFault::NoMemory),
         Err(fault) => {
-            put_refusal_and_why(&mut shown.said, tree.number, tree.nodes(), &fault)?;
-            put_tree_as_given(&mut shown.text, tree)?;
+            put_refused_tree(alloc, shown, tree, &fault)?;
             Ok(true)
         }
     }
 }
 
 /// The number of the first node with triangles, counted from 1, where it has no squares.
-fn unsquared_triangle_node(nodes: &[Node]) -> Option<usize> {
-    for i in 0..nodes.len() {
-        let properties = nodes[i].props.as_slice();
+#[tactic(auto, using(crate::proofs::Marked::triangles_here, crate::proofs::Marked::triangles_behind))]
+fn unsquared_triangle_node(nodes: &[Node]) -> Option<usize>
+    ensures { is_some result ≡ has_triangles_alone nodes.now }
+{
+    let mut rest = nodes;
+    while let Some((node, behind)) = rest.split_first() {
+        let properties = node.props.as_slice();
         if has_value(properties, b"TR") {
+            let number = nodes.len() - behind.len();
             return if has_value(properties, b"SQ") {
                 None
             } else {
-                Some(i + 1)
+                Some(number)
             };
         }
+        rest = behind;
     }
     None
 }
@@ -399,7 +464,8 @@ pub fn put_kept_problem(
     tree: &GivenTree,
     line: &Line,
 ) -> Result<bool, ShowFault>
-    ensures { IfOk result (λ _. IsTextOf shown.new.text.items line.now) }
+    ensures { IfOk result (λ refused. (shown.new.text.items ≡ as_given tree.now.bytes.now) × IsTextOf shown.new.text.items line.now
+        × (refused ≡ has_triangles_alone tree.now.main.nodes)) }
 {
     let number = tree.number;
     let unsquared = unsquared_triangle_node(tree.nodes());
@@ -413,7 +479,7 @@ pub fn put_kept_problem(
             "{number} keeps its marks: take TR and SQ out to have others proposed"
         )?,
     }
-    put_tree_as_given(&mut shown.text, tree)?;
+    shown.text = tree.as_given(alloc)?;
     check_problem(alloc, shown.text.as_slice(), line)?;
     Ok(unsquared.is_some())
 }

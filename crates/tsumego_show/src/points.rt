@@ -1,5 +1,5 @@
 //! Points by their numbers, and their names.
-ghost use Rattle.std.specs.Prelude.{◌≡◌, ◌<◌, IfSome};
+ghost use Rattle.std.specs.Prelude.{◌≡◌, ◌<◌, ℕ, IfSome, MatchOption};
 ghost use Rattle.tt_sgf.specs.Sizes.{point_count};
 ghost use Rattle.tsumego_show.specs.Written.{HasName};
 
@@ -34,7 +34,7 @@ pub fn point_numbered(size: Size, number: usize) -> Point
 /// The point of a place, where the board has it.
 pub fn point_of_name(size: Size, name: PointName) -> Option<Point>
     ensures on_board { IfSome result (λ q. q < point_count size) }
-    ensures name { IfSome result (HasName size name) }
+    ensures name { MatchOption result ((q : ℕ) → HasName size name q → ⊥) (HasName size name) }
 {
     let (column, row) = match name {
         PointName::FromAbove(column, row) => (column, row),

@@ -8,12 +8,12 @@ ghost use Rattle.tsumego_show.specs.Written.{IsWrittenOn};
 use crate::answers::put_answer_lines;
 use crate::diagram::{put_svg, put_unmarked_svg};
 use crate::hints::{put_hints, put_missing_mover_line, put_unclosed_comment_lines};
-use crate::marking::{put_kept_problem, put_tree_marked_or_kept};
+use crate::marking::{put_kept_problem, put_refused_tree, put_tree_marked_or_kept};
 use crate::mode::Mode;
 use crate::picture::{put_board, put_picture, unmarked_frame};
 use crate::refusals::{put_no_tree, put_refusal_and_why, put_unread};
 use crate::shown::{ShowFault, Shown};
-use crate::tree_bytes::{GivenTree, from_first_parenthesis, put_tree_as_given};
+use crate::tree_bytes::{GivenTree, from_first_parenthesis};
 use crate::variations::put_sgf;
 use std::alloc::Global;
 use std::io::Write;
@@ -73,7 +73,7 @@ fn put_problem(
     line: &Line,
 ) -> Result<bool, ShowFault>
     ensures refused { (p : LineWithUndo) → IfOk result (IsTreeRefused mode tree.now.number (Ok p) tree.now.behind.now) }
-    ensures written { IfOk result (λ refused. IsWrittenOn mode tree.now.main.nodes (Ok line.now) refused shown.new.text.items) }
+    ensures written { IfOk result (λ refused. IsWrittenOn mode tree.now.bytes.now tree.now.main.nodes (Ok line.now) refused shown.new.text.items) }
 {
     match mode {
         Mode::Picture => put_problem_and_strategy(alloc, &mut shown.text, tree, line)?,
@@ -128,7 +128,7 @@ fn put_refused_board(
     }
 }
 
-/// Writes why a tree is no problem, by this fault, and its board or the tree as far as it goes.
+/// Writes why a tree is no problem, by this fault, and its board, as far as it can be drawn.
 fn put_refused(
     alloc: Global,
     shown: &mut Shown,
@@ -141,8 +141,7 @@ fn put_refused(
     shown.add_words(mode, words.as_slice())?;
     match mode {
         Mode::Diagram if !is_only(&tree) => Ok(()),
-        Mode::Picture | Mode::Diagram => put_refused_board(alloc, shown, mode, tree.main, fault),
-        Mode::Variations(_) | Mode::Marks(_) => put_tree_as_given(&mut shown.text, &tree),
+        _ => put_refused_board(alloc, shown, mode, tree.main, fault),
     }
 }
 
@@ -155,19 +154,25 @@ fn put_non_problem(
     fault: &GameFault,
 ) -> Result<bool, ShowFault>
     ensures refused { IfOk result (IsTreeRefused mode tree.entry.number (Err fault.now) tree.entry.behind.now) }
-    ensures written { IfOk result (λ refused. IsWrittenOn mode tree.entry.main.nodes (Err fault.now) refused shown.new.text.items) }
+    ensures written { IfOk result (λ refused. IsWrittenOn mode tree.entry.bytes.now tree.entry.main.nodes (Err fault.now) refused shown.new.text.items) }
 {
-    if let Mode::Marks(wanted) = mode {
-        return put_tree_marked_or_kept(alloc, shown, wanted, &tree, fault);
+    match mode {
+        Mode::Marks(wanted) => put_tree_marked_or_kept(alloc, shown, wanted, &tree, fault),
+        Mode::Variations(_) => {
+            put_refused_tree(alloc, shown, &tree, fault)?;
+            Ok(true)
+        }
+        Mode::Picture | Mode::Diagram => {
+            put_refused(alloc, shown, mode, tree, fault)?;
+            Ok(true)
+        }
     }
-    put_refused(alloc, shown, mode, tree, fault)?;
-    Ok(true)
 }
 
 /// What is shown of a tree.
 pub fn show_tree(alloc: Global, mode: Mode, tree: GivenTree) -> Result<Shown, ShowFault>
     ensures refused { IfOk result (λ r. IsTreeRefused mode tree.entry.number (problem_of tree.entry.main.nodes) tree.entry.behind.now r.refused) }
-    ensures written { IfOk result (λ r. IsWrittenOn mode tree.entry.main.nodes (problem_of tree.entry.main.nodes) r.refused r.text.items) }
+    ensures written { IfOk result (λ r. IsWrittenOn mode tree.entry.bytes.now tree.entry.main.nodes (problem_of tree.entry.main.nodes) r.refused r.text.items) }
 {
     let mut shown = Shown::nothing(alloc);
     match problem(alloc, &tree.main) {

@@ -1,7 +1,9 @@
 //! A tree as it was given.
-ghost use Rattle.std.specs.Prelude.{◌≡◌, ◌≤◌, length};
+ghost use Rattle.std.specs.Prelude.{◌≡◌, ◌≤◌, IfOk, length};
+ghost use Rattle.tsumego_show.specs.Written.{IsGivenWithMore, as_given, from_open};
 
 use crate::shown::ShowFault;
+use std::alloc::Global;
 use tt_sgf::{MainLine, Node};
 
 /// A game tree of an input: its number, counted from 1, its bytes from its first `(` on, its main line, and the bytes behind it.
@@ -19,6 +21,29 @@ impl<'a> GivenTree<'a> {
         ensures { result.now ≡ self.now.main.nodes }
     {
         self.main.nodes.as_slice()
+    }
+
+    /// The tree as it was.
+    pub fn as_given(&self, alloc: Global) -> Result<Vec<u8>, ShowFault>
+        ensures { IfOk result (λ text. text.items ≡ as_given self.now.bytes.now) }
+    {
+        let mut text = Vec::new(alloc);
+        text.extend_from_slice(self.bytes)?;
+        text.push(b'\n')?;
+        Ok(text)
+    }
+
+    /// The tree with more bytes in front of that of this index.
+    pub fn with_more(&self, alloc: Global, at: usize, more: &[u8]) -> Result<Vec<u8>, ShowFault>
+        requires { at ≤ length self.now.bytes.now }
+        ensures { IfOk result (λ text. IsGivenWithMore self.now.bytes.now text.items) }
+    {
+        let mut text = Vec::new(alloc);
+        text.extend_from_slice(&self.bytes[..at])?;
+        text.extend_from_slice(more)?;
+        text.extend_from_slice(&self.bytes[at..])?;
+        text.push(b'\n')?;
+        Ok(text)
     }
 }
 
@@ -64,19 +89,17 @@ pub fn node_end(tree: &[u8], number: usize) -> usize
 }
 
 /// The bytes from the first `(` on.
+#[tactic(auto, using(crate::proofs::GivenBytes::opened_here, crate::proofs::GivenBytes::opened_behind))]
 pub fn from_first_parenthesis(bytes: &[u8]) -> &[u8]
-    ensures { length result.now ≤ length bytes.now }
+    ensures begun { result.now ≡ from_open bytes.now }
+    ensures within { length result.now ≤ length bytes.now }
 {
-    for i in 0..bytes.len() {
-        if bytes[i] == b'(' {
-            return &bytes[i..];
+    let mut rest = bytes;
+    while let Some((first, behind)) = rest.split_first() {
+        if *first == b'(' {
+            return rest;
         }
+        rest = behind;
     }
-    &bytes[bytes.len()..]
-}
-
-/// Writes a tree as it was behind the text.
-pub fn put_tree_as_given(out: &mut Vec<u8>, tree: &GivenTree) -> Result<(), ShowFault> {
-    out.extend_from_slice(tree.bytes)?;
-    Ok(out.push(b'\n')?)
+    rest
 }

@@ -1,7 +1,8 @@
-use Rattle.std.proofs.Common.{◌≡◌, ◌⊎◌, ℕ, List, true, inl, inr, rules, arith, length, subst, sym, take, drop, ◌++◌, ◌-◌}
+use Rattle.std.proofs.Common.{◌≡◌, ◌⊎◌, ◌∙◌, ℕ, List, true, inl, inr, rules, arith, length, subst, sym, take, drop, ◌++◌, ◌-◌}
 use Rattle.std.proofs.lemmas.List.{length-drop, length-take-le}
 use Rattle.tt_sgf.specs.Grammar.{HasOpeningParenthesis}
 use Rattle.tsumego_show.specs.Shown.{IsInputShown}
+use Rattle.tsumego_show.proofs.GivenBytes.{given_text}
 use Rattle.tsumego_show.proofs.TreeByTree.{progress_ended, progress_long, progress_step, progress_stopped}
 use Rattle.tsumego_show.proofs.showing.show.Goals as goal
 use Rattle.tsumego_show.proofs.showing.show.Goals.{then-number-eq1, else-number-eq1+then-has_tree}
@@ -24,7 +25,8 @@ loop-number-preserved c =
     let grown : c.extend_from_slice.new.self.items ≡ c.loop-number.all.text.items ++ c.in_ok-one-in-Ok.one.text.items = search rules in
     record {
       bound = omega (arith, left, within.0, within.1, c.loop-number.invariant.bound);
-      progress = rw grown (progress_step c.loop-number.invariant.progress used found.0 c.in-Ok.main.nodes _ c.in_ok-one-in-Ok.one.text.items found.1 found.2
+      progress = rw grown (progress_step c.loop-number.invariant.progress used found.0 c.in-Ok.main.nodes _ c.from_first_parenthesis-bytes.result.now
+          c.in_ok-one-in-Ok.one.text.items found.1 (c.from_first_parenthesis-bytes.ensures.begun ∙ given_text rest used found.0 found.1) found.2
           c.in-Ok.ensures.within.2 (search rules) (search rules));
     }
 

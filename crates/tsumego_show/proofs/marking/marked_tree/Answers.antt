@@ -1,0 +1,48 @@
+use Rattle.std.proofs.Common.{◌<◌, ◌∙◌, inl, subst, sym}
+use Rattle.std.proofs.lemmas.Bool.{false≢true}
+use Rattle.tt_sgf.specs.declared.size.Size.{Size}
+use Rattle.tt_sgf.specs.Sizes.{point_count}
+use Rattle.tt_game.specs.Line.{LineWithUndo}
+use Rattle.tt_marks.specs.Walls.{IsEnclosedGroup}
+use Rattle.tsumego_show.proofs.Marked.{marked_board, open_marks_none}
+use Rattle.tsumego_show.specs.Written.{IsTextOf}
+use Rattle.tsumego_show.proofs.marking.marked_tree.Goals as goal
+
+pub returns-then-is_enclosed : goal.returns-then-is_enclosed
+returns-then-is_enclosed c =
+    let board = c.present-board.result.now in
+    let squares = c.region-found.result.points in
+    let closed = c.is_enclosed.ensures.0 c.if-is_enclosed.true in
+    let enclosed : IsEnclosedGroup board.size board.points c.in-Some.colour c.args.stone squares = record {
+      is_point = subst (λ (s : Size). c.args.stone < point_count s) (sym c.present-board.ensures.size) c.requires.on_board;
+      stands = sym c.in-Some.ensures;
+      wall = c.region-found.result.wall;
+      wall_on_board = c.region-found.ensures.wall_on_board;
+      whole = c.region-found.ensures.wall;
+      within = c.region-found.ensures.points;
+      on_board = c.region-found.ensures.on_board;
+      closed = closed.0;
+    } in (
+      c.in_ok-text.ensures.given,
+      (
+        c.args.stone,
+        c.requires.meant,
+        inl (marked_board c.args.wanted.name c.in_ok-text.text.items c.args.game c.args.stone c.in-Some.colour squares board.size board.points
+            c.present-board.ensures.size c.present-board.ensures.points enclosed closed.1
+            (subst (λ (l : LineWithUndo). IsTextOf c.in_ok-text.text.items l) c.in_ok-line.ensures c.in_ok-text.ensures.reads)),
+      ),
+    )
+
+pub returns-then-not-wanted : goal.returns-then-not-wanted
+returns-then-not-wanted c =
+    let board = c.present-board.result.now in
+    open_marks_none c.args.wanted.name c.args.game c.args.stone board.size board.points c.present-board.ensures.size c.present-board.ensures.points c.in-Some.colour
+    c.region-found.result.wall c.region-found.result.points (sym c.in-Some.ensures) c.region-found.ensures.only
+    (λ h. false≢true (sym c.if-is_enclosed.false ∙ c.is_enclosed.ensures.1 h))
+
+pub returns-in-None : goal.returns-in-None
+returns-in-None c =
+    let board = c.present-board.result.now in
+    open_marks_none c.args.wanted.name c.args.game c.args.stone board.size board.points c.present-board.ensures.size c.present-board.ensures.points c.in-Some.colour
+    c.region-found.result.wall c.region-found.result.points (sym c.in-Some.ensures) c.region-found.ensures.only
+    (λ h. false≢true (sym c.if-is_enclosed.false ∙ c.is_enclosed.ensures.1 h))

@@ -1,0 +1,13 @@
+use Rattle.std.proofs.Common.{rules, ◌≡◌, ◌∙◌, ◌++◌, ◌-◌, ap, arith, drop, length, length-drop, sym, take}
+use Rattle.std.proofs.lemmas.List.{take-append-drop, take_all}
+use Rattle.tsumego_show.proofs.GivenBytes.{laid}
+use Rattle.tsumego_show.proofs.tree_bytes.GivenTree.with_more.Goals as goal
+
+pub returns : goal.returns
+returns c =
+    let given = c.args.self.now.bytes.now in
+    let at = c.args.at in
+    let front = take at given in
+    let behind = take (length given - at) (drop at given) in
+    let all : behind ≡ drop at given = take_all (length given - at) (drop at given) (omega (arith, length-drop at given)) in
+    (front, c.args.more.now, behind, sym (take-append-drop at given) ∙ ap (λ l. front ++ l) (sym all), laid front c.args.more.now behind _ (search rules))
