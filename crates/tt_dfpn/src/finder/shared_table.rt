@@ -122,7 +122,21 @@ impl Slot {
 #[derive(Drop)]
 pub(crate) struct SharedTable {
     buckets: Vec<Bucket>,
+    /// How many workers search a position now, by some bits of its key.
+    workers: Vec<AtomicU64>,
     has_ended: AtomicBool,
+}
+
+/// How many counts of workers there are: one for each number of 16 bits.
+const PLACES: usize = 65_536;
+
+/// So many workers at a place count at most.
+const MOST_COUNTED: u64 = 8;
+
+/// Where the workers at a key's position are counted: by bits that tell no buckets apart.
+#[inline(always)]
+pub(crate) fn place_of(key: u64) -> u16 {
+    (key >> 48) as u16
 }
 
 impl SharedTable {
@@ -132,8 +146,13 @@ impl SharedTable {
         for _ in 0..count {
             buckets.push([Slot::empty(), Slot::empty()])?;
         }
+        let mut workers = Vec::with_capacity(alloc, PLACES)?;
+        for _ in 0..PLACES {
+            workers.push(AtomicU64::new(0))?;
+        }
         Ok(SharedTable {
             buckets,
+            workers,
             has_ended: AtomicBool::new(false),
         })
     }
@@ -222,6 +241,24 @@ impl SharedTable {
         } else {
             bucket[0].put(key, data);
             first == 0
+        }
+    }
+
+    /// How many workers search at a place.
+    #[inline(always)]
+    pub(crate) fn workers_at(&self, place: u16) -> u32 {
+        match self.workers.get(usize::from(place)) {
+            Some(count) => count.load(Ordering::Relaxed).min(MOST_COUNTED) as u32,
+            None => 0,
+        }
+    }
+
+    /// Notes that a worker begins to search at a place, or ends.
+    #[inline(always)]
+    pub(crate) fn count_worker(&self, place: u16, begins: bool) {
+        if let Some(count) = self.workers.get(usize::from(place)) {
+            let change = if begins { 1 } else { u64::MAX };
+            count.fetch_add(change, Ordering::Relaxed);
         }
     }
 
