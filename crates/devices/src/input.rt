@@ -17,7 +17,8 @@ pub fn read_input<R: Read>(
     most: usize,
 ) -> Result<Vec<u8>, RunFault>
     requires { reader.old.failed ≡ false }
-    ensures read { IfOk result (λ input. IsReadInput most (R.remaining reader.old.device) input.items) }
+    ensures read { IfOk result
+        (λ input. IsReadInput most (R.remaining reader.old.device) input.items) }
     ensures taken { TakesAtMost most (R.remaining reader.old.device) (R.remaining reader.new.device) }
     ensures failed { reader.new.failed ≡ is_input_fault result }
     ensures fault { is_output_fault result ≡ false }

@@ -55,7 +55,8 @@ pub fn certificate(alloc: Global, line: &Line, bytes: usize) -> Option<ItemList<
 
 /// Whether the text is the certificate of a strategy that wins at the line and goes at most 512 turns deep. The line stands as before.
 pub fn is_valid_certificate(alloc: Global, line: &mut Line, text: &[u8]) -> Result<bool, NoMemory>
-    ensures wins { IfOk result (λ wins. IsTrue wins ↔ ((IsTooDeep line.old.frame.size text.now → ⊥) × IsValidCertificate line.old text.now)) }
+    ensures wins { IfOk result (λ wins. IsTrue wins
+        ↔ ((IsTooDeep line.old.frame.size text.now → ⊥) × IsValidCertificate line.old text.now)) }
     ensures same { line.new ≡ line.old }
 {
     let size = line.frame().size;

@@ -325,7 +325,8 @@ fn contradiction_text(matches: &ArgMatches<'_>) -> &'static str
 
 /// The fault of flags that don't go together. The text is empty where memory was refused.
 fn contradiction_fault(alloc: Global, matches: &ArgMatches<'_>) -> ArgFault
-    ensures { (string_bytes result.0 ≡ []) ⊎ HasContradictingFlags (subcommand_rows_of matches.now) }
+    ensures { (string_bytes result.0 ≡ [])
+        ⊎ HasContradictingFlags (subcommand_rows_of matches.now) }
 {
     match String::from_str(alloc, contradiction_text(matches)) {
         Ok(text) => ArgFault(text),
@@ -340,7 +341,8 @@ pub fn command(alloc: Global, words: &[String]) -> Result<Command, ArgFault>
     ensures in_range { IfOk result IsInRange }
     ensures clean { OnOk result (fault_of tsumego_app (map string_bytes words.now) ≡ []) }
     ensures taken { takes tsumego_app (map string_bytes words.now) ≡ true
-        → IfErr result (λ fault. (string_bytes fault.0 ≡ []) ⊎ HasContradictingFlags (subcommand_of tsumego_app (map string_bytes words.now))) }
+        → IfErr result (λ fault. (string_bytes fault.0 ≡ [])
+        ⊎ HasContradictingFlags (subcommand_of tsumego_app (map string_bytes words.now))) }
 {
     let Ok(parser) = parser(alloc) else {
         return Err(ArgFault(String::new(alloc)));

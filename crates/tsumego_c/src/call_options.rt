@@ -48,7 +48,8 @@ fn cert_kind_numbered(n: u32) -> CertKind
 
 /// The limits, where budget and depth lie in their ranges.
 fn limits_of(budget: u32, depth: u32) -> Option<Limits>
-    ensures made { IsSome result ↔ ((1 ≤ budget) × (budget ≤ MOST_EXPANDED) × (1 ≤ depth) × (depth ≤ MOST_DEPTH)) }
+    ensures made { IsSome result
+        ↔ ((1 ≤ budget) × (budget ≤ MOST_EXPANDED) × (1 ≤ depth) × (depth ≤ MOST_DEPTH)) }
     ensures limits { IfSome result (λ l. (l.budget ≡ budget) × (l.depth ≡ depth) × (1 ≤ l.depth)) }
 {
     if depth == 0 || depth > u32::from(tt_proof::MOST_DEPTH) {

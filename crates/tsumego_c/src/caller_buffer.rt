@@ -23,7 +23,8 @@ fn copy_to_front(text: &[u8], out: &mut [u8])
 /// Says how many bytes a text takes, writes it where it has room, and answers whether it has.
 fn tell_length_and_copy_if_room(text: &[u8], out: &mut [u8], taken: &mut usize) -> bool
     ensures taken { taken.new ≡ length text.now }
-    ensures written { result ≡ true → (length text.now ≤ length out.old) × (out.new ≡ text.now ++ drop (length text.now) out.old) }
+    ensures written { result ≡ true → (length text.now ≤ length out.old)
+        × (out.new ≡ text.now ++ drop (length text.now) out.old) }
     ensures no_room { result ≡ false → (length out.old < length text.now) × (out.new ≡ out.old) }
 {
     *taken = text.len();
@@ -36,7 +37,8 @@ fn tell_length_and_copy_if_room(text: &[u8], out: &mut [u8], taken: &mut usize) 
 
 /// Says how many bytes a text takes, hands it over where it has room, and answers the status.
 pub fn hand_over_text(text: &[u8], status: u32, out: &mut [u8], taken: &mut usize) -> u32
-    ensures { CallEnds (λ bytes s. (bytes ≡ text.now) × (s ≡ status)) out.old out.new taken.new result }
+    ensures { CallEnds
+        (λ bytes s. (bytes ≡ text.now) × (s ≡ status)) out.old out.new taken.new result }
 {
     let has_room = tell_length_and_copy_if_room(text, out, taken);
     if has_room { status } else { NO_ROOM }
@@ -44,7 +46,8 @@ pub fn hand_over_text(text: &[u8], status: u32, out: &mut [u8], taken: &mut usiz
 
 /// Hands over the text that was made, where memory wasn't refused to it.
 pub fn hand_over(made: &Result<TextAndStatus, NoMemory>, out: &mut [u8], taken: &mut usize) -> u32
-    ensures { CallEnds (λ bytes status. (t : TextAndStatus) × (made.now ≡ Ok t) × (bytes ≡ t.bytes.items) × (status ≡ t.status)) out.old out.new taken.new result }
+    ensures { CallEnds (λ bytes status. (t : TextAndStatus) × (made.now ≡ Ok t)
+        × (bytes ≡ t.bytes.items) × (status ≡ t.status)) out.old out.new taken.new result }
 {
     match made {
         Ok(text) => hand_over_text(text.bytes.as_slice(), text.status, out, taken),

@@ -38,7 +38,8 @@ fn solve_first_tree(alloc: Global, sgf: &[u8], options: Options) -> Result<TreeO
 
 /// The line of an outcome, with its status.
 fn text_and_status_of(alloc: Global, outcome: &TreeOutcome) -> Result<TextAndStatus, NoMemory>
-    ensures { IfOk result (λ t. (t.bytes.items ≡ outcome_line 1 outcome.now) × (t.status ≡ status_of (outcome.now ∷ []))) }
+    ensures { IfOk result (λ t. (t.bytes.items ≡ outcome_line 1 outcome.now)
+        × (t.status ≡ status_of (outcome.now ∷ []))) }
 {
     let bytes = line(alloc, 1, outcome)?;
     let status = if outcome.is_refused() { REFUSED } else { DONE };

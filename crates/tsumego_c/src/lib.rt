@@ -75,8 +75,10 @@ pub extern "C" fn tsumego_c_solve(
     out: &mut [u8],
     taken: &mut usize,
 ) -> u32
-    ensures solved { AreInRange options.now → CallEnds (IsSolveText options.now sgf.now) out.old out.new taken.new result }
-    ensures refused { ¬ AreInRange options.now → (result ≡ BAD_OPTION) × WritesNothing out.old out.new taken.new }
+    ensures solved { AreInRange options.now
+        → CallEnds (IsSolveText options.now sgf.now) out.old out.new taken.new result }
+    ensures refused { ¬ AreInRange options.now
+        → (result ≡ BAD_OPTION) × WritesNothing out.old out.new taken.new }
 {
     match options_of(options) {
         Some(options) => {

@@ -255,14 +255,16 @@ fn flag_of(matches: &ArgMatches<'_>, name: &str) -> bool
 
 /// The texts of a word that may stand more than once, where there is one.
 fn texts_of<'m, 'a>(matches: &'m ArgMatches<'a>, name: &str) -> Option<&'m [&'a str]>
-    ensures { all_of name.now (rows_of (found_of matches.now)) ≡ option_map (λ s. map (λ w. w.now) s.now) result }
+    ensures { all_of name.now (rows_of (found_of matches.now))
+        ≡ option_map (λ s. map (λ w. w.now) s.now) result }
 {
     matches.get_strs(name)
 }
 
 /// The words that are no options.
 fn words_of<'a>(alloc: Global, matches: &ArgMatches<'a>) -> Result<Vec<&'a str>, AllocError>
-    ensures { IfOk result (λ words. map (λ w. w.now) words.items ≡ words_in (rows_of (found_of matches.now))) }
+    ensures { IfOk result
+        (λ words. map (λ w. w.now) words.items ≡ words_in (rows_of (found_of matches.now))) }
 {
     let mut words = Vec::new(alloc);
     let Some(found) = texts_of(matches, "words") else {
@@ -287,7 +289,9 @@ fn mode_of(matches: &ArgMatches<'_>, words: &[&str]) -> Option<Mode>
 
 /// The files among these words.
 fn files_of<'a>(mark: bool, words: Vec<&'a str>) -> Vec<&'a str>
-    ensures { map (λ f. f.now) result.items ≡ files_behind_point (named_point mark (map (λ w. w.now) words.entry.items)) (map (λ w. w.now) words.entry.items) }
+    ensures { map (λ f. f.now) result.items
+        ≡ files_behind_point (named_point mark (map (λ w. w.now) words.entry.items)) (map
+        (λ w. w.now) words.entry.items) }
 {
     let mut files = words;
     if named_point(mark, files.as_slice()).is_none() {
@@ -299,7 +303,8 @@ fn files_of<'a>(mark: bool, words: Vec<&'a str>) -> Vec<&'a str>
 
 /// What is said of an error of the parser: help and version were asked for, or words are refused.
 fn told_of_error(alloc: Global, error: &Error) -> Told
-    ensures asked { result.status ≡ 0 → (kind_of error.now ≡ ErrorKind.DisplayHelp) ⊎ (kind_of error.now ≡ ErrorKind.DisplayVersion) }
+    ensures asked { result.status ≡ 0 → (kind_of error.now ≡ ErrorKind.DisplayHelp)
+        ⊎ (kind_of error.now ≡ ErrorKind.DisplayVersion) }
     ensures memory { kind_of error.now ≡ ErrorKind.OutOfMemory → string_bytes result.text ≡ [] }
 {
     if error.kind() == ErrorKind::OutOfMemory {
@@ -345,8 +350,10 @@ fn unsaid(alloc: Global) -> Told
 /// What a parse asks for; or what is said in its place.
 fn asked_by_matches<'a>(alloc: Global, matches: &ArgMatches<'a>) -> Result<Asked<'a>, Told>
     ensures asked { IfOk result (λ a. mode_in (rows_of (found_of matches.now)) ≡ Some a.mode) }
-    ensures files { IfOk result (λ a. map (λ f. f.now) a.files.items ≡ files_in (rows_of (found_of matches.now))) }
-    ensures told { IfErr result (λ told. (told.status ≡ 2) × ((string_bytes told.text ≡ []) ⊎ (mode_in (rows_of (found_of matches.now)) ≡ None))) }
+    ensures files { IfOk result
+        (λ a. map (λ f. f.now) a.files.items ≡ files_in (rows_of (found_of matches.now))) }
+    ensures told { IfErr result (λ told. (told.status ≡ 2)
+        × ((string_bytes told.text ≡ []) ⊎ (mode_in (rows_of (found_of matches.now)) ≡ None))) }
 {
     let Ok(words) = words_of(alloc, matches) else {
         return Err(unsaid(alloc));
@@ -360,13 +367,18 @@ fn asked_by_matches<'a>(alloc: Global, matches: &ArgMatches<'a>) -> Result<Asked
 
 /// What the words ask for, of which the first is the program's name; or what is said in its place.
 pub fn asked_by_words<'a>(alloc: Global, words: &'a [String]) -> Result<Asked<'a>, Told>
-    ensures asked { IfOk result (λ a. mode_in (matches_of show_app (map string_bytes words.now)) ≡ Some a.mode) }
-    ensures files { IfOk result (λ a. map (λ f. f.now) a.files.items ≡ files_in (matches_of show_app (map string_bytes words.now))) }
+    ensures asked { IfOk result
+        (λ a. mode_in (matches_of show_app (map string_bytes words.now)) ≡ Some a.mode) }
+    ensures files { IfOk result
+        (λ a. map (λ f. f.now) a.files.items
+        ≡ files_in (matches_of show_app (map string_bytes words.now))) }
     ensures clean { OnOk result (fault_of show_app (map string_bytes words.now) ≡ []) }
-    ensures told { IfErr result (λ told. told.status ≡ 0 → IsAmong ErrorKind.DisplayHelp (fault_of show_app (map string_bytes words.now))
+    ensures told { IfErr result (λ told. told.status ≡ 0
+        → IsAmong ErrorKind.DisplayHelp (fault_of show_app (map string_bytes words.now))
         ⊎ IsAmong ErrorKind.DisplayVersion (fault_of show_app (map string_bytes words.now))) }
     ensures taken { takes show_app (map string_bytes words.now) ≡ true
-        → IfErr result (λ told. (string_bytes told.text ≡ []) ⊎ (mode_in (matches_of show_app (map string_bytes words.now)) ≡ None)) }
+        → IfErr result (λ told. (string_bytes told.text ≡ [])
+        ⊎ (mode_in (matches_of show_app (map string_bytes words.now)) ≡ None)) }
 {
     let Ok(parser) = parser(alloc) else {
         return Err(unsaid(alloc));

@@ -106,7 +106,8 @@ fn tree_with_stones(
     added: &PointSet,
 ) -> Result<Vec<u8>, ShowFault>
     ensures given { IfOk result (λ text. IsGivenWithMore tree.now.bytes.now text.items) }
-    ensures reads { IfOk result (λ text. IsSetupText text.items line.now.frame board.now.points line.now.state.to_move) }
+    ensures reads { IfOk result
+        (λ text. IsSetupText text.items line.now.frame board.now.points line.now.state.to_move) }
 {
     let mut node = Vec::new(alloc);
     put_node_with_stones(&mut node, line, added)?;
@@ -204,7 +205,9 @@ fn closed_tree(
     stone: Point,
 ) -> Result<Option<Vec<u8>>, ShowFault>
     requires { stone < point_count game.size }
-    ensures { IfOk result (λ made. IfSome made (λ text. IsGivenWithMore tree.now.bytes.now text.items × IsClosedText text.items game stone)) }
+    ensures { IfOk result
+        (λ made. IfSome made (λ text. IsGivenWithMore tree.now.bytes.now text.items
+        × IsClosedText text.items game stone)) }
 {
     let board = game.present();
     let ways = closings(alloc, board, colour, stone)?;
@@ -259,8 +262,10 @@ fn marked_tree(
 ) -> Result<Option<Vec<u8>>, ShowFault>
     requires on_board { stone < point_count game.size }
     requires meant { IsMeant game.size wanted.name stone }
-    ensures { IfOk result (λ made. MatchOption made (MarksNoGroup wanted.name game.size game.present stone)
-        (λ text. IsGivenWithMore tree.now.bytes.now text.items × IsMarkedText wanted text.items game)) }
+    ensures { IfOk result
+        (λ made. MatchOption made (MarksNoGroup wanted.name game.size game.present stone)
+        (λ text. IsGivenWithMore tree.now.bytes.now text.items
+        × IsMarkedText wanted text.items game)) }
 {
     let board = game.present();
     let Some(colour) = board.at(stone) else {
@@ -296,7 +301,8 @@ fn tree_with_any_marks(
 ) -> Result<Option<Vec<u8>>, ShowFault>
     requires { IsTaken wanted.name game.size game.present stone }
     ensures { IfOk result (λ made. MatchOption made (HasNoGroup wanted.name game.size game.present)
-        (λ text. IsGivenWithMore tree.now.bytes.now text.items × IsMarkedText wanted text.items game)) }
+        (λ text. IsGivenWithMore tree.now.bytes.now text.items
+        × IsMarkedText wanted text.items game)) }
 {
     let Some(stone) = stone else {
         return Ok(None);
@@ -343,7 +349,8 @@ fn put_proposal_or_reason(
 ) -> Result<bool, ShowFault>
     requires no_triangles { list_any (has TR) (asking_nodes tree.now.main.nodes) ≡ false }
     requires game { game_of tree.now.main.nodes ≡ Ok game }
-    ensures { IfOk result (λ refused. IsMarkedOrKept wanted tree.now.bytes.now tree.now.main.nodes refused shown.new.text.items) }
+    ensures { IfOk result
+        (λ refused. IsMarkedOrKept wanted tree.now.bytes.now tree.now.main.nodes refused shown.new.text.items) }
 {
     if is_last_problem_node_squared(tree.nodes()) {
         put_refusal_line(&mut shown.said, tree.number, GameFault::NoTarget.code())?;
@@ -386,7 +393,8 @@ fn put_game_marked_or_kept(
 ) -> Result<bool, ShowFault>
     requires no_triangles { list_any (has TR) (asking_nodes tree.now.main.nodes) ≡ false }
     requires game { game_of tree.now.main.nodes ≡ Ok game }
-    ensures { IfOk result (λ refused. IsMarkedOrKept wanted tree.now.bytes.now tree.now.main.nodes refused shown.new.text.items) }
+    ensures { IfOk result
+        (λ refused. IsMarkedOrKept wanted tree.now.bytes.now tree.now.main.nodes refused shown.new.text.items) }
 {
     let mut hints = Vec::new(alloc);
     put_missing_mover_line(&mut hints, nodes_before_solution(tree.nodes()))?;
@@ -420,7 +428,8 @@ pub fn put_tree_marked_or_kept(
     tree: &GivenTree,
     fault: &GameFault,
 ) -> Result<bool, ShowFault>
-    ensures { IfOk result (λ refused. IsMarkedOrKept wanted tree.now.bytes.now tree.now.main.nodes refused shown.new.text.items) }
+    ensures { IfOk result
+        (λ refused. IsMarkedOrKept wanted tree.now.bytes.now tree.now.main.nodes refused shown.new.text.items) }
 {
     if has_triangles(tree.nodes()) {
         put_refused_tree(alloc, shown, tree, fault)?;
@@ -464,7 +473,8 @@ pub fn put_kept_problem(
     tree: &GivenTree,
     line: &Line,
 ) -> Result<bool, ShowFault>
-    ensures { IfOk result (λ refused. (shown.new.text.items ≡ as_given tree.now.bytes.now) × IsTextOf shown.new.text.items line.now
+    ensures { IfOk result (λ refused. (shown.new.text.items ≡ as_given tree.now.bytes.now)
+        × IsTextOf shown.new.text.items line.now
         × (refused ≡ has_triangles_alone tree.now.main.nodes)) }
 {
     let number = tree.number;

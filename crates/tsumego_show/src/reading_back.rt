@@ -45,7 +45,9 @@ pub fn check_problem(alloc: Global, text: &[u8], line: &Line) -> Result<(), Show
 
 /// Whether a line stands on this board with this side to move, and nothing was before.
 fn is_first_position(line: &Line, board: &Board, mover: Side) -> bool
-    ensures { IsTrue result → line.now.state ≡ record { earlier = []; present = board.now.points; to_move = mover; passes = 0 } }
+    ensures { IsTrue result
+        → line.now.state
+        ≡ record { earlier = []; present = board.now.points; to_move = mover; passes = 0 } }
 {
     line.present().same(board)
         && line.to_move() == mover

@@ -50,7 +50,8 @@ fn put_diagram(
     tree: &GivenTree,
     line: &Line,
 ) -> Result<bool, ShowFault>
-    ensures { IfOk result (λ refused. IsTrue refused ↔ (IsOnlyTree tree.now.number tree.now.behind.now → ⊥)) }
+    ensures { IfOk result (λ refused. IsTrue refused
+        ↔ (IsOnlyTree tree.now.number tree.now.behind.now → ⊥)) }
 {
     if is_only(tree) {
         put_svg(alloc, &mut shown.text, line, tree.behind)?;
@@ -72,8 +73,10 @@ fn put_problem(
     tree: &GivenTree,
     line: &Line,
 ) -> Result<bool, ShowFault>
-    ensures refused { (p : LineWithUndo) → IfOk result (IsTreeRefused mode tree.now.number (Ok p) tree.now.behind.now) }
-    ensures written { IfOk result (λ refused. IsWrittenOn mode tree.now.bytes.now tree.now.main.nodes (Ok line.now) refused shown.new.text.items) }
+    ensures refused { (p : LineWithUndo)
+        → IfOk result (IsTreeRefused mode tree.now.number (Ok p) tree.now.behind.now) }
+    ensures written { IfOk result
+        (λ refused. IsWrittenOn mode tree.now.bytes.now tree.now.main.nodes (Ok line.now) refused shown.new.text.items) }
 {
     match mode {
         Mode::Picture => put_problem_and_strategy(alloc, &mut shown.text, tree, line)?,
@@ -154,7 +157,8 @@ fn put_non_problem(
     fault: &GameFault,
 ) -> Result<bool, ShowFault>
     ensures refused { IfOk result (IsTreeRefused mode tree.entry.number (Err fault.now) tree.entry.behind.now) }
-    ensures written { IfOk result (λ refused. IsWrittenOn mode tree.entry.bytes.now tree.entry.main.nodes (Err fault.now) refused shown.new.text.items) }
+    ensures written { IfOk result
+        (λ refused. IsWrittenOn mode tree.entry.bytes.now tree.entry.main.nodes (Err fault.now) refused shown.new.text.items) }
 {
     match mode {
         Mode::Marks(wanted) => put_tree_marked_or_kept(alloc, shown, wanted, &tree, fault),
@@ -171,8 +175,10 @@ fn put_non_problem(
 
 /// What is shown of a tree.
 pub fn show_tree(alloc: Global, mode: Mode, tree: GivenTree) -> Result<Shown, ShowFault>
-    ensures refused { IfOk result (λ r. IsTreeRefused mode tree.entry.number (problem_of tree.entry.main.nodes) tree.entry.behind.now r.refused) }
-    ensures written { IfOk result (λ r. IsWrittenOn mode tree.entry.bytes.now tree.entry.main.nodes (problem_of tree.entry.main.nodes) r.refused r.text.items) }
+    ensures refused { IfOk result
+        (λ r. IsTreeRefused mode tree.entry.number (problem_of tree.entry.main.nodes) tree.entry.behind.now r.refused) }
+    ensures written { IfOk result
+        (λ r. IsWrittenOn mode tree.entry.bytes.now tree.entry.main.nodes (problem_of tree.entry.main.nodes) r.refused r.text.items) }
 {
     let mut shown = Shown::nothing(alloc);
     match problem(alloc, &tree.main) {

@@ -74,7 +74,8 @@ impl Shown {
 
     /// Adds the words of a refusal: in front of a picture, which is for people, and else beside the text.
     pub fn add_words(&mut self, mode: Mode, words: &[u8]) -> Result<(), ShowFault>
-        ensures { IfOk result (λ _. (text : List ℕ) × IsWrittenOnNoTree mode text × (self.new.text.items ≡ self.old.text.items ++ text)) }
+        ensures { IfOk result (λ _. (text : List ℕ) × IsWrittenOnNoTree mode text
+            × (self.new.text.items ≡ self.old.text.items ++ text)) }
     {
         match mode {
             Mode::Picture => self.text.extend_from_slice(words)?,

@@ -114,14 +114,16 @@ impl Board {
 
     /// The stones of a colour as bits, in place.
     pub fn bits(&self, colour: Colour) -> &Bits
-        ensures { AreBitsOf result.now.words (point_count self.now.size) (λ p. is_stone_of (entry_at self.now.points p) colour) }
+        ensures { AreBitsOf result.now.words (point_count self.now.size)
+            (λ p. is_stone_of (entry_at self.now.points p) colour) }
     {
         self.points.bits(colour)
     }
 
     /// The stones of a colour as bits: that of the point `p` is bit `p % 64` of word `p / 64`, and bits of no point are 0.
     pub fn words(&self, colour: Colour) -> [u64; 6]
-        ensures { AreBitsOf result (point_count self.now.size) (λ p. is_stone_of (entry_at self.now.points p) colour) }
+        ensures { AreBitsOf result (point_count self.now.size)
+            (λ p. is_stone_of (entry_at self.now.points p) colour) }
     {
         self.bits(colour).words()
     }
@@ -146,8 +148,10 @@ impl Board {
     pub fn put_stone(&mut self, colour: Colour, p: Point)
         requires on_board { p < point_count self.old.size }
         requires free { entry_at self.old.points p ≡ None }
-        requires no_capture { play_of self.old.size self.old.points colour p ≡ slice_set self.old.points p (Some colour) }
-        ensures { self.new ≡ record { size = self.old.size; points = play_of self.old.size self.old.points colour p } }
+        requires no_capture { play_of self.old.size self.old.points colour p
+            ≡ slice_set self.old.points p (Some colour) }
+        ensures { self.new
+            ≡ record { size = self.old.size; points = play_of self.old.size self.old.points colour p } }
     {
         self.points.set(usize::from(p.number()), Some(colour));
     }
@@ -164,7 +168,8 @@ impl Board {
     ) -> Result<Board, Lifeless>
         ensures { let points = placed self.now.size self.now.points black.now white.now clear.now in
             MatchResult result
-            (λ b. (b ≡ record { size = self.now.size; points = points }) × AllHaveLiberties self.now.size points)
+            (λ b. (b ≡ record { size = self.now.size; points = points })
+            × AllHaveLiberties self.now.size points)
             (λ e. IsLeastWithoutLiberty self.now.size points e.0) }
     {
         let mut points = self.points.copy();

@@ -117,7 +117,8 @@ impl Colouring {
 
     /// The stones of a colour as bits.
     pub(crate) fn bits(&self, colour: Colour) -> &Bits
-        ensures { AreBitsOf result.now.words (length self.now) (λ p. is_stone_of (entry_at self.now p) colour) }
+        ensures { AreBitsOf result.now.words (length self.now)
+            (λ p. is_stone_of (entry_at self.now p) colour) }
     {
         match colour {
             Colour::Black => &self.black,
@@ -141,7 +142,8 @@ impl Colouring {
     /// Bits that are 1 wherever the entries differ. Contracts say that where a bit is 0 they are alike, which is all that
     /// keeping boards rests on.
     pub(crate) fn differing_points(&self, other: &Colouring) -> Bits
-        ensures { (q : ℕ) → q < BITS → bit_in result.words q ≡ false → entry_at self.now q ≡ entry_at other.now q }
+        ensures { (q : ℕ) → q < BITS → bit_in result.words q ≡ false
+            → entry_at self.now q ≡ entry_at other.now q }
     {
         self.black
             .xor(&other.black)

@@ -92,10 +92,13 @@ impl CountedBoard {
 
     /// Some of these empty points on which a play of `colour` puts a stone and takes none off, by what is beside them.
     pub fn some_noncapturing_plays(&self, colour: Colour, points: &Bits) -> Bits
-        requires { (q : ℕ) → q < point_count self.now.size → bit_in points.now.words q ≡ true → entry_at self.now.points q ≡ None }
+        requires { (q : ℕ) → q < point_count self.now.size → bit_in points.now.words q ≡ true
+            → entry_at self.now.points q ≡ None }
         ensures fits { length self.now.points ≡ point_count self.now.size }
-        ensures no_capture { (p : ℕ) → p < BITS → bit_in result.words p ≡ true → (bit_in points.now.words p ≡ true)
-            × (play_of self.now.size self.now.points colour p ≡ slice_set self.now.points p (Some colour)) }
+        ensures no_capture { (p : ℕ) → p < BITS → bit_in result.words p ≡ true
+            → (bit_in points.now.words p ≡ true)
+            × (play_of self.now.size self.now.points colour p
+            ≡ slice_set self.now.points p (Some colour)) }
     {
         self.chains.some_noncapturing_plays(colour, points)
     }
@@ -105,7 +108,8 @@ impl CountedBoard {
     pub fn after(&self, colour: Colour, p: Point) -> Board
         requires on_board { p < point_count self.now.size }
         requires free { entry_at self.now.points p ≡ None }
-        ensures { result ≡ record { size = self.now.size; points = play_of self.now.size self.now.points colour p } }
+        ensures { result
+            ≡ record { size = self.now.size; points = play_of self.now.size self.now.points colour p } }
     {
         self.after_of_kind(colour, p, self.play_kind(colour, p))
     }
@@ -115,7 +119,8 @@ impl CountedBoard {
         requires on_board { p < point_count self.now.size }
         requires free { entry_at self.now.points p ≡ None }
         requires kind { IsPlayOfKind kind self.now.size self.now.points colour p }
-        ensures { result ≡ record { size = self.now.size; points = play_of self.now.size self.now.points colour p } }
+        ensures { result
+            ≡ record { size = self.now.size; points = play_of self.now.size self.now.points colour p } }
     {
         let points = self
             .chains
@@ -127,7 +132,8 @@ impl CountedBoard {
     pub fn play(&mut self, colour: Colour, p: Point)
         requires on_board { p < point_count self.old.size }
         requires free { entry_at self.old.points p ≡ None }
-        ensures { self.new ≡ record { size = self.old.size; points = play_of self.old.size self.old.points colour p } }
+        ensures { self.new
+            ≡ record { size = self.old.size; points = play_of self.old.size self.old.points colour p } }
     {
         self.chains.play_and_clear(colour, usize::from(p.number()));
     }
@@ -136,7 +142,8 @@ impl CountedBoard {
     pub fn become_after(&mut self, other: &CountedBoard, colour: Colour, p: Point)
         requires on_board { p < point_count other.now.size }
         requires free { entry_at other.now.points p ≡ None }
-        ensures { self.new ≡ record { size = other.now.size; points = play_of other.now.size other.now.points colour p } }
+        ensures { self.new
+            ≡ record { size = other.now.size; points = play_of other.now.size other.now.points colour p } }
     {
         self.chains.set_to(&other.chains);
         self.play(colour, p);

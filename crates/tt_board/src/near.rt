@@ -37,7 +37,8 @@ fn point_after_if(there: bool, p: usize, distance: usize) -> Option<usize>
 #[inline]
 pub(crate) fn neighbours_of(size: Size, p: usize) -> Neighbours
     requires { p < point_count size }
-    ensures all { (q : ℕ) → IsOneOf result.above result.left result.right result.below q ↔ IsNeighbour size p q }
+    ensures all { (q : ℕ)
+        → IsOneOf result.above result.left result.right result.below q ↔ IsNeighbour size p q }
     ensures once { IsEachOnce (neighbours_there result.above result.left result.right result.below) }
 {
     let count = size.point_count();

@@ -85,7 +85,8 @@ impl<A: Advice> Certifier<A> {
         room: u16,
     ) -> Result<Option<LifeProof>, NoMemory>
         requires room { room ≤ MOST_DEPTH }
-        ensures found { IfOk result (λ o. IfSome o (IsProofWithin side room line.old.frame line.old.state)) }
+        ensures found { IfOk result
+            (λ o. IfSome o (IsProofWithin side room line.old.frame line.old.state)) }
         ensures fewer { self.new.visits.left ≤ self.old.visits.left }
         ensures same { line.new ≡ line.old }
     {
@@ -123,7 +124,8 @@ impl<A: Advice> Certifier<A> {
         requires some { 0 < room }
         requires left { 0 < self.old.visits.left }
         requires nobody { winner_of line.old.frame line.old.state ≡ None }
-        ensures found { IfOk result (λ o. IfSome o (IsProofWithin side room line.old.frame line.old.state)) }
+        ensures found { IfOk result
+            (λ o. IfSome o (IsProofWithin side room line.old.frame line.old.state)) }
         ensures counts { self.new.visits.left < self.old.visits.left }
         ensures same { line.new ≡ line.old }
     {
@@ -180,7 +182,8 @@ impl<A: Advice> Certifier<A> {
     ) -> Result<Option<LifeProof>, NoMemory>
         requires room { room < MOST_DEPTH }
         requires legal { IsLegal line.old.frame line.old.state turn.now }
-        ensures found { IfOk result (λ o. IfSome o (IsChildWithin side room line.old.frame line.old.state turn.now)) }
+        ensures found { IfOk result
+            (λ o. IfSome o (IsChildWithin side room line.old.frame line.old.state turn.now)) }
         ensures fewer { self.new.visits.left ≤ self.old.visits.left }
         ensures same { line.new ≡ line.old }
     {
@@ -203,7 +206,8 @@ impl<A: Advice> Certifier<A> {
         requires room { room ≤ MOST_DEPTH }
         requires some { 0 < room }
         requires to_move { line.old.state.to_move ≡ side }
-        ensures found { IfOk result (λ o. IfSome o (IsProofWithin side room line.old.frame line.old.state)) }
+        ensures found { IfOk result
+            (λ o. IfSome o (IsProofWithin side room line.old.frame line.old.state)) }
         ensures fewer { self.new.visits.left ≤ self.old.visits.left }
         ensures same { line.new ≡ line.old }
     {
@@ -235,7 +239,8 @@ impl<A: Advice> Certifier<A> {
         requires room { room ≤ MOST_DEPTH }
         requires some { 0 < room }
         requires to_move { line.old.state.to_move ≡ side }
-        ensures found { IfOk result (λ o. IfSome o (IsProofWithin side room line.old.frame line.old.state)) }
+        ensures found { IfOk result
+            (λ o. IfSome o (IsProofWithin side room line.old.frame line.old.state)) }
         ensures fewer { self.new.visits.left ≤ self.old.visits.left }
         ensures same { line.new ≡ line.old }
     {
@@ -257,7 +262,8 @@ impl<A: Advice> Certifier<A> {
         requires legal { IsLegal line.now.frame line.now.state turn.now }
         requires child { IfSome child (IsChild line.now.frame line.now.state line.now.state.to_move turn.now) }
         ensures { (room : ℕ) → IfSome child (λ p. depth p.tree < room)
-            → IfOk result (λ o. IfSome o (IsProofWithin line.now.state.to_move room line.now.frame line.now.state)) }
+            → IfOk result
+            (λ o. IfSome o (IsProofWithin line.now.state.to_move room line.now.frame line.now.state)) }
     {
         let Some(child) = child else {
             return Ok(None);
@@ -279,7 +285,8 @@ impl<A: Advice> Certifier<A> {
         requires room { room < MOST_DEPTH }
         requires legal { IsLegal line.old.frame line.old.state turn.now }
         requires replies { AreLegal line.old.frame line.old.state replies.now }
-        ensures found { IfOk result (λ o. IfSome o (IsChildWithin side room line.old.frame line.old.state turn.now)) }
+        ensures found { IfOk result
+            (λ o. IfSome o (IsChildWithin side room line.old.frame line.old.state turn.now)) }
         ensures fewer { self.new.visits.left ≤ self.old.visits.left }
         ensures same { line.new ≡ line.old }
     {
@@ -333,7 +340,8 @@ impl<A: Advice> Certifier<A> {
         requires some { 0 < room }
         requires nobody { winner_of line.old.frame line.old.state ≡ None }
         requires to_move { side ≡ opponent line.old.state.to_move }
-        ensures found { IfOk result (λ o. IfSome o (IsProofWithin side room line.old.frame line.old.state)) }
+        ensures found { IfOk result
+            (λ o. IfSome o (IsProofWithin side room line.old.frame line.old.state)) }
         ensures fewer { self.new.visits.left ≤ self.old.visits.left }
         ensures same { line.new ≡ line.old }
     {

@@ -84,7 +84,8 @@ impl SharedProofs {
         side: Side,
         room: u16,
     ) -> Result<Option<LifeProof>, NoMemory>
-        ensures { IfOk result (λ o. IfSome o (IsProofWithin side room line.now.frame line.now.state)) }
+        ensures { IfOk result
+            (λ o. IfSome o (IsProofWithin side room line.now.frame line.now.state)) }
     {
         let hash = line.key_hash();
         let first = first_slot(hash);

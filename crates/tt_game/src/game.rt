@@ -144,7 +144,8 @@ impl Game {
     fn board_after_move(&self, p: Point) -> Result<Board, Why>
         requires { p < point_count self.now.size }
         ensures { MatchResult result
-            (λ b. (move_refusal self.now p ≡ None) × (b ≡ record { size = self.now.size; points = colouring_after_move self.now p }))
+            (λ b. (move_refusal self.now p ≡ None)
+            × (b ≡ record { size = self.now.size; points = colouring_after_move self.now p }))
             (λ why. move_refusal self.now p ≡ Some why) }
     {
         let next = match self.present().play(self.to_move, p) {
@@ -185,7 +186,8 @@ impl Game {
     fn push_play(&mut self, p: Point) -> Result<(), Refused>
         requires on_board { p < point_count self.old.size }
         requires open { self.old.passes < 2 }
-        ensures ok { OnOk result ((refusal_of self.old (Turn.Play p) ≡ None) × (self.new ≡ game_after_turn self.old (Turn.Play p))) }
+        ensures ok { OnOk result ((refusal_of self.old (Turn.Play p) ≡ None)
+            × (self.new ≡ game_after_turn self.old (Turn.Play p))) }
         ensures err { OnErr result (self.new ≡ self.old) }
         ensures why { IfErr result (λ e. IsGamePushError self.old (Turn.Play p) e) }
     {
@@ -213,7 +215,8 @@ impl Game {
     /// was; the game is then as it was.
     pub fn push(&mut self, t: Turn) -> Result<(), Refused>
         requires { IsTurnOnBoardOfSize self.old.size t }
-        ensures ok { OnOk result ((refusal_of self.old t ≡ None) × (self.new ≡ game_after_turn self.old t)) }
+        ensures ok { OnOk result ((refusal_of self.old t ≡ None)
+            × (self.new ≡ game_after_turn self.old t)) }
         ensures err { OnErr result (self.new ≡ self.old) }
         ensures why { IfErr result (λ e. IsGamePushError self.old t e) }
     {

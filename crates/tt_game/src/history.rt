@@ -66,7 +66,8 @@ fn repeats(boards: &[Board], next: &Board) -> bool
 /// Whether a stone of this colour stands on `p` on one of the boards.
 fn stone_stood(boards: &[Board], colour: Colour, p: Point) -> bool
     requires { All (λ b. p < point_count b.size) boards.now }
-    ensures { (c : Colouring) → IsInHistory (colourings boards.now) c → entry_at c p ≡ Some colour → IsTrue result }
+    ensures { (c : Colouring) → IsInHistory (colourings boards.now) c → entry_at c p ≡ Some colour
+        → IsTrue result }
 {
     for board in boards {
         if board.has_stone_of(colour, p) {
@@ -165,7 +166,8 @@ impl History {
     pub(crate) fn stone_has_stood(&self, from: usize, colour: Colour, p: Point) -> bool
         requires on_board { p < point_count self.now.size }
         requires within { from ≤ length (so_far self.now) }
-        ensures { (c : Colouring) → IsInHistory (drop from (so_far self.now)) c → entry_at c p ≡ Some colour → IsTrue result }
+        ensures { (c : Colouring) → IsInHistory (drop from (so_far self.now)) c
+            → entry_at c p ≡ Some colour → IsTrue result }
     {
         stone_stood(&self.boards()[from..], colour, p)
     }
@@ -242,7 +244,8 @@ impl History {
 
     /// The same boards, and no pass counted.
     pub(crate) fn without_passes(self) -> History
-        ensures { result ≡ record { size = self.size; earlier = self.earlier; present = self.present; passes = 0 } }
+        ensures { result
+            ≡ record { size = self.size; earlier = self.earlier; present = self.present; passes = 0 } }
     {
         History { passes: 0, ..self }
     }

@@ -76,7 +76,8 @@ fn hash_of_board_and_mover(board: u64, turn: u64) -> u32
 /// The key of a position.
 pub(crate) fn key_from_parts(frame: &Frame, board: &Board, to_move: Side, passes: u8) -> Key
     requires { board.now.size ≡ frame.now.size }
-    ensures { result ≡ key_of frame.now (record { earlier = []; present = board.now.points; to_move = to_move; passes = passes }) }
+    ensures { result
+        ≡ key_of frame.now (record { earlier = []; present = board.now.points; to_move = to_move; passes = passes }) }
 {
     Key {
         size: frame.size,

@@ -88,7 +88,8 @@ impl Line {
         requires size { history.size ≡ frame.size }
         requires targets { HasTargetsOnBoard frame }
         requires board { board ≡ board_on frame.size history.present }
-        ensures { IfOk result (λ l. l ≡ record { frame = frame; state = state_at history to_move; before = [] }) }
+        ensures { IfOk result
+            (λ l. l ≡ record { frame = frame; state = state_at history to_move; before = [] }) }
     {
         let alloc = history.alloc();
         let root = Arc::new(alloc, Root::of(&frame, &history)?)?;
@@ -162,7 +163,8 @@ impl Line {
     pub(crate) fn board_after_play(&self, p: Point) -> Board
         requires on_board { p < point_count self.now.frame.size }
         requires free { entry_at self.now.state.present p ≡ None }
-        ensures { result ≡ record { size = self.now.frame.size; points = colouring_after_play self.now.frame self.now.state p } }
+        ensures { result
+            ≡ record { size = self.now.frame.size; points = colouring_after_play self.now.frame self.now.state p } }
     {
         self.stack.present().after(self.colour_to_move(), p)
     }
@@ -170,7 +172,8 @@ impl Line {
     /// The board after a turn that is known to be legal. Nothing is pushed, and it takes no memory.
     pub fn board_after_turn(&self, t: Turn) -> Board
         requires { IsLegal self.now.frame self.now.state t }
-        ensures { result ≡ record { size = self.now.frame.size; points = (after self.now.frame self.now.state t).present } }
+        ensures { result
+            ≡ record { size = self.now.frame.size; points = (after self.now.frame self.now.state t).present } }
     {
         match t {
             Turn::Play(p) => self.board_after_play(p),
@@ -181,7 +184,8 @@ impl Line {
     /// Whether a stone of this colour stood on `p` on some board so far.
     fn stone_has_stood(&self, colour: Colour, p: Point) -> bool
         requires { p < point_count self.now.frame.size }
-        ensures { (c : Colouring) → IsInHistory (history self.now.state) c → entry_at c p ≡ Some colour → IsTrue result }
+        ensures { (c : Colouring) → IsInHistory (history self.now.state) c
+            → entry_at c p ≡ Some colour → IsTrue result }
     {
         if self.root.stone_has_stood(colour, p) {
             return true;
@@ -207,7 +211,8 @@ impl Line {
     fn repeats(&self, p: Point) -> bool
         requires on_board { p < point_count self.now.frame.size }
         requires free { entry_at self.now.state.present p ≡ None }
-        ensures { IsTrue result ↔ IsInHistory (history self.now.state) (colouring_after_play self.now.frame self.now.state p) }
+        ensures { IsTrue result
+            ↔ IsInHistory (history self.now.state) (colouring_after_play self.now.frame self.now.state p) }
     {
         self.has_been(p, &self.board_after_play(p))
     }
@@ -266,7 +271,8 @@ impl Line {
         requires fits { length self.now.state.present ≡ point_count self.now.frame.size }
         requires on_board { p < point_count self.now.frame.size }
         requires free { entry_at self.now.state.present p ≡ None }
-        ensures { IsTrue result → IsInHistory (history self.now.state) (slice_set self.now.state.present p (Some colour)) → ⊥ }
+        ensures { IsTrue result
+            → IsInHistory (history self.now.state) (slice_set self.now.state.present p (Some colour)) → ⊥ }
     {
         if self
             .root
@@ -301,7 +307,8 @@ impl Line {
     /// colouring; none where the history hasn't, and for any other point. It takes no memory.
     pub fn repeated_board(&self, p: Point) -> Option<Board>
         ensures { MatchOption result (IsBarredBySuperko self.now.frame self.now.state p → ⊥)
-            (λ b. IsBarredBySuperko self.now.frame self.now.state p × (b ≡ record { size = self.now.frame.size; points = colouring_after_play self.now.frame self.now.state p })) }
+            (λ b. IsBarredBySuperko self.now.frame self.now.state p
+            × (b ≡ record { size = self.now.frame.size; points = colouring_after_play self.now.frame self.now.state p })) }
     {
         if !self.frame.size.holds(p)
             || !self.frame.region.has(p)
@@ -370,9 +377,11 @@ impl Line {
     fn push_play(&mut self, p: Point) -> Result<(), Refused>
         requires on_board { p < point_count self.old.frame.size }
         requires open { winner_of self.old.frame self.old.state ≡ None }
-        ensures ok { OnOk result (IsLegal self.old.frame self.old.state (Turn.Play p) × IsLineAfterTurn self.old self.new (Turn.Play p)) }
+        ensures ok { OnOk result (IsLegal self.old.frame self.old.state (Turn.Play p)
+            × IsLineAfterTurn self.old self.new (Turn.Play p)) }
         ensures err { OnErr result (self.new ≡ self.old) }
-        ensures why { IfErr result (λ e. IsPushError self.old.frame self.old.state (Turn.Play p) e) }
+        ensures why { IfErr result
+            (λ e. IsPushError self.old.frame self.old.state (Turn.Play p) e) }
     {
         if let Some(why) = self.play_refusal(p) {
             return Err(Refused::Illegal(why));
@@ -387,7 +396,8 @@ impl Line {
     /// memory was refused; the line is then as it was.
     pub fn push(&mut self, t: Turn) -> Result<(), Refused>
         requires { IsTurnOnBoard self.old.frame t }
-        ensures ok { OnOk result (IsLegal self.old.frame self.old.state t × IsLineAfterTurn self.old self.new t) }
+        ensures ok { OnOk result (IsLegal self.old.frame self.old.state t
+            × IsLineAfterTurn self.old self.new t) }
         ensures err { OnErr result (self.new ≡ self.old) }
         ensures why { IfErr result (λ e. IsPushError self.old.frame self.old.state t e) }
     {
@@ -464,7 +474,8 @@ impl Line {
     /// The same line, with nothing to undo. What is kept of both shares one root.
     #[tactic(auto, using(crate::proofs::RootLemmas::rooted_here))]
     pub fn try_clone(&self) -> Result<Line, NoMemory>
-        ensures { IfOk result (λ l. l ≡ record { frame = self.now.frame; state = self.now.state; before = [] }) }
+        ensures { IfOk result
+            (λ l. l ≡ record { frame = self.now.frame; state = self.now.state; before = [] }) }
     {
         let history = self.history.copy()?;
         let alloc = history.alloc();

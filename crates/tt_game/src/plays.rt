@@ -66,8 +66,10 @@ impl<'a> LegalPlays<'a> {
         ensures same { (self.new.frame ≡ self.old.frame) × (self.new.state ≡ self.old.state) }
         ensures inside { self.new.from ≤ point_count self.old.frame.size }
         ensures next { MatchOption result
-            (turns_with_winners_from self.old.frame self.old.state self.old.from ≡ turn_with_winner self.old.frame self.old.state Turn.Pass ∷ [])
-            (λ x. (self.old.from ≤ x.0) × (x.0 < point_count self.old.frame.size) × (self.new.from ≡ x.0 + 1)
+            (turns_with_winners_from self.old.frame self.old.state self.old.from
+            ≡ turn_with_winner self.old.frame self.old.state Turn.Pass ∷ [])
+            (λ x. (self.old.from ≤ x.0) × (x.0 < point_count self.old.frame.size)
+            × (self.new.from ≡ x.0 + 1)
             × (x.1 ≡ winner_of self.old.frame (after self.old.frame self.old.state (Turn.Play x.0)))
             × (turns_with_winners_from self.old.frame self.old.state self.old.from
             ≡ turn_with_winner self.old.frame self.old.state (Turn.Play x.0) ∷ turns_with_winners_from self.old.frame self.old.state (x.0 + 1))) }
@@ -90,7 +92,8 @@ impl<'a> LegalPlays<'a> {
 
     /// Who has won after the pass, which is legal too.
     pub fn winner_by_pass(&self) -> Option<Side>
-        ensures { result ≡ winner_of self.now.frame (after self.now.frame self.now.state Turn.Pass) }
+        ensures { result
+            ≡ winner_of self.now.frame (after self.now.frame self.now.state Turn.Pass) }
     {
         let line = self.line;
         line.frame().winner_on(line.present(), line.passes() + 1)

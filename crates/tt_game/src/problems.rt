@@ -31,7 +31,8 @@ fn read_region(number: usize, node: &Node, size: Size) -> Result<PointSet, GameF
 /// The colour of all these targets, which have stones.
 fn defender_of(node: usize, board: &Board, targets: &PointSet) -> Result<Colour, GameFault>
     requires { IsSetOnBoard board.now.size targets.now }
-    ensures { result ≡ defender_of node (least_with_entry targets.now board.now.points (Some White)) (least_with_entry targets.now board.now.points (Some Black)) }
+    ensures { result
+        ≡ defender_of node (least_with_entry targets.now board.now.points (Some White)) (least_with_entry targets.now board.now.points (Some Black)) }
 {
     let Some(point) = least_with_entry(targets, board, Some(Colour::White)) else {
         return Ok(Colour::Black);

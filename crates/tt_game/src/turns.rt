@@ -30,7 +30,8 @@ impl Line {
     /// The legal turns, rising by their numbers.
     pub fn turns(&self) -> Turns
         ensures list { result.items ≡ legal_turns self.now.frame self.now.state }
-        ensures legal { (t : Turn) → Contains result.items t ↔ IsLegal self.now.frame self.now.state t }
+        ensures legal { (t : Turn)
+            → Contains result.items t ↔ IsLegal self.now.frame self.now.state t }
         ensures rising { IsRising self.now.frame result.items }
         ensures few { length result.items ≤ MOST_LEGAL }
     {

@@ -43,7 +43,8 @@ pub(crate) fn linked_to(size: Size, own: &Bits, p: usize) -> Bits
 fn is_touched_eye(size: Size, first: &Bits, eye: &Bits, stones: &Bits, near: &Bits) -> bool
     requires first { AreFirstColumn size first.now.words }
     requires on_board { AreOn size eye.now.words }
-    ensures { IsTrue result ↔ (IsWalled size (points_in size stones.now.words) (points_in size eye.now.words)
+    ensures { IsTrue result
+        ↔ (IsWalled size (points_in size stones.now.words) (points_in size eye.now.words)
         × IsSubset (points_in size eye.now.words) (points_in size near.now.words)) }
 {
     let around = adjacent_points(size, first, eye).truncated_to(size.point_count());
@@ -91,7 +92,8 @@ fn is_alive(frame: &Frame, ground: &Ground, first: &Bits, stones: &Bits, chain: 
     requires first { AreFirstColumn frame.now.size first.now.words }
     requires sound { IsSoundGround frame.now.size ground.now }
     requires on_board { AreOn frame.now.size chain.now.words }
-    ensures { (c : Colouring) → IsGroundOf frame.now c ground.now → AreDefenders frame.now c (points_in frame.now.size stones.now.words)
+    ensures { (c : Colouring) → IsGroundOf frame.now c ground.now
+        → AreDefenders frame.now c (points_in frame.now.size stones.now.words)
         → (p : ℕ) → IsTrue (points_in frame.now.size stones.now.words p)
         → IsLinkedSet frame.now.size (points_in frame.now.size stones.now.words) p (points_in frame.now.size chain.now.words)
         → IsTrue result ↔ IsAliveAmong frame.now c (points_in frame.now.size stones.now.words) p }
@@ -114,9 +116,11 @@ fn survivors(frame: &Frame, ground: &Ground, first: &Bits, stones: &Bits) -> Bit
     requires first { AreFirstColumn frame.now.size first.now.words }
     requires sound { IsSoundGround frame.now.size ground.now }
     requires on_board { AreOn frame.now.size stones.now.words }
-    ensures alive { (c : Colouring) → IsGroundOf frame.now c ground.now → AreDefenders frame.now c (points_in frame.now.size stones.now.words)
+    ensures alive { (c : Colouring) → IsGroundOf frame.now c ground.now
+        → AreDefenders frame.now c (points_in frame.now.size stones.now.words)
         → (q : ℕ) → IsTrue (points_in frame.now.size result.words q)
-        ↔ (IsTrue (points_in frame.now.size stones.now.words q) × IsAliveAmong frame.now c (points_in frame.now.size stones.now.words) q) }
+        ↔ (IsTrue (points_in frame.now.size stones.now.words q)
+        × IsAliveAmong frame.now c (points_in frame.now.size stones.now.words) q) }
     ensures within { IsSubset (points_in frame.now.size result.words) (points_in frame.now.size stones.now.words) }
     ensures still_on_board { AreOn frame.now.size result.words }
 {
@@ -145,7 +149,8 @@ pub(crate) fn eliminate(frame: &Frame, ground: &Ground, first: &Bits, stones: &B
     requires first { AreFirstColumn frame.now.size first.now.words }
     requires sound { IsSoundGround frame.now.size ground.now }
     requires on_board { AreOn frame.now.size stones.now.words }
-    ensures most { (c : Colouring) → IsGroundOf frame.now c ground.now → AreDefenders frame.now c (points_in frame.now.size stones.now.words)
+    ensures most { (c : Colouring) → IsGroundOf frame.now c ground.now
+        → AreDefenders frame.now c (points_in frame.now.size stones.now.words)
         → AreMostAlive frame.now c (points_in frame.now.size stones.now.words) (points_in frame.now.size result.words) }
     ensures still_on_board { AreOn frame.now.size result.words }
 {

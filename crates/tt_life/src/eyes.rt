@@ -11,7 +11,8 @@ use tt_sgf::Point;
 /// Two eyes of the first target, by their least empty points. Stones that are unconditionally alive wall them in, and the target touches
 /// each of their points. None where the target is no such stone, and where it has no two eyes.
 pub fn two_eyes(line: &Line) -> Option<(Point, Point)>
-    ensures { IfSome result (λ eyes. (eyes.0 < point_count line.now.frame.size) × (eyes.1 < point_count line.now.frame.size)) }
+    ensures { IfSome result (λ eyes. (eyes.0 < point_count line.now.frame.size)
+        × (eyes.1 < point_count line.now.frame.size)) }
 {
     let frame = line.frame();
     let size = frame.size;

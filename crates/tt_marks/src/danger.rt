@@ -30,9 +30,11 @@ pub fn stones_in_danger(board: &Board, wall_colour: Colour, region: &PointSet) -
 /// in: then these stones are why its wall isn't closed.
 pub fn wall_in_danger(board: &Board, colour: Colour, stone: Point) -> PointSet
     requires { stone < point_count board.now.size }
-    ensures taken { (p : ℕ) → p < point_count board.now.size → Has (set.contains result) p → HasStone board.now.size board.now.points (other colour) p
+    ensures taken { (p : ℕ) → p < point_count board.now.size → Has (set.contains result) p
+        → HasStone board.now.size board.now.points (other colour) p
         × (HasOuterLiberty board.now.size board.now.points (other colour)
-        (IsWithin board.now.size stone (λ r. is_stone_of (entry_at board.now.points r) (other colour))) p → ⊥) }
+        (IsWithin board.now.size stone
+        (λ r. is_stone_of (entry_at board.now.points r) (other colour))) p → ⊥) }
     ensures on_board { IsSetOnBoard board.now.size result }
 {
     let size = board.size();

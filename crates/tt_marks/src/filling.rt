@@ -12,7 +12,8 @@ use tt_sgf::{Bits, Size};
 /// The points of the board beside those of a set.
 pub(crate) fn beside(size: Size, points: &Bits) -> Bits
     requires { AreOn size points.now.words }
-    ensures beside { (p : ℕ) → p < point_count size → Has (bit_in result.words) p ↔ IsBesideSome size points.now.words p }
+    ensures beside { (p : ℕ) → p < point_count size
+        → Has (bit_in result.words) p ↔ IsBesideSome size points.now.words p }
     ensures on_board { AreOn size result.words }
 {
     adjacent_points(size, &first_column(size), points).truncated_to(size.point_count())
@@ -23,7 +24,8 @@ pub(crate) fn reached(size: Size, free: &Bits, first: &Bits) -> Bits
     requires free { AreOn size free.now.words }
     requires first { AreOn size first.now.words }
     ensures reached { (p : ℕ) → p < point_count size
-        → Has (bit_in result.words) p ↔ IsReached size (Has (bit_in free.now.words)) (Has (bit_in first.now.words)) p }
+        → Has (bit_in result.words) p
+        ↔ IsReached size (Has (bit_in free.now.words)) (Has (bit_in first.now.words)) p }
     ensures on_board { AreOn size result.words }
 {
     reaching(size, &free.minus(first), first).or(first)

@@ -38,7 +38,8 @@ pub fn board_with_stones(board: &Board, colour: Colour, stones: &PointSet) -> Op
     ensures { let points = with_stones board.now.size board.now.points colour stones.now in
         MatchOption result
         (AllHaveLiberties board.now.size points → ⊥)
-        (λ b. (b ≡ record { size = board.now.size; points = points }) × AllHaveLiberties board.now.size points) }
+        (λ b. (b ≡ record { size = board.now.size; points = points })
+        × AllHaveLiberties board.now.size points) }
 {
     let none = PointSet::empty();
     let made = match colour {
@@ -61,7 +62,8 @@ fn rank_of(board: &Board, colour: Colour, stones: &Bits, region: &PointSet) -> u
 
 /// Whether all points of a set are of another.
 fn are_among(points: &PointSet, others: &PointSet) -> bool
-    ensures { IsTrue result → (p : ℕ) → set.contains points.now p ≡ true → set.contains others.now p ≡ true }
+    ensures { IsTrue result → (p : ℕ) → set.contains points.now p ≡ true
+        → set.contains others.now p ≡ true }
 {
     points.minus(others).same(&PointSet::empty())
 }
@@ -69,7 +71,8 @@ fn are_among(points: &PointSet, others: &PointSet) -> bool
 /// The closing by these stones, where they close the wall around the group of a stone of this colour.
 fn closing_by(board: &Board, colour: Colour, stone: Point, stones: &Bits) -> Option<Closing>
     requires { stone < point_count board.now.size }
-    ensures { IfSome result (λ m. ClosesWall board.now.size board.now.points colour stone m.stones m.region) }
+    ensures { IfSome result
+        (λ m. ClosesWall board.now.size board.now.points colour stone m.stones m.region) }
 {
     let points = set_of(board.size(), stones);
     let count = usize::from(points.count());
@@ -116,7 +119,8 @@ fn list_if_closing(
     found: &mut Vec<Closing>,
 ) -> Result<(), NoMemory>
     requires { stone < point_count board.now.size }
-    ensures { AreClosings board.now.size board.now.points colour stone found.old.items → AreClosings board.now.size board.now.points colour stone found.new.items }
+    ensures { AreClosings board.now.size board.now.points colour stone found.old.items
+        → AreClosings board.now.size board.now.points colour stone found.new.items }
 {
     if let Some(closing) = closing_by(board, colour, stone, stones) {
         if !are_listed(found.as_slice(), &closing.stones) {

@@ -12,12 +12,15 @@ ghost use Rattle.tt_marks.specs.Walls.{IsWall, IsWithin};
 
 /// No path that avoids the wall leads out: what begins within ends within.
 pub fn no_path_leads_out()
-    ensures { (s : Size) (q : ℕ) (wall : PointTest) (p : ℕ) (path : List ℕ) → p < point_count s → IsWithin s q wall p
+    ensures { (s : Size) (q : ℕ) (wall : PointTest) (p : ℕ) (path : List ℕ) → p < point_count s
+        → IsWithin s q wall p
         → IsPath s p path → All (λ r. wall r ≡ false) path → IsWithin s q wall (path_end p path) }
 {}
 
 /// A wall stands: whatever is played within it, by either colour, it is a wall still. So no number of plays within takes one of its stones.
 pub fn walls_stand()
-    ensures { (s : Size) (c : Colouring) (k : Colour) (q : ℕ) (wall : PointTest) → IsWall s c k q wall
-        → (j : Colour) (p : ℕ) → entry_at c p ≡ None → IsWithin s q wall p → IsWall s (play_of s c j p) k q wall }
+    ensures { (s : Size) (c : Colouring) (k : Colour) (q : ℕ) (wall : PointTest)
+        → IsWall s c k q wall
+        → (j : Colour) (p : ℕ)
+        → entry_at c p ≡ None → IsWithin s q wall p → IsWall s (play_of s c j p) k q wall }
 {}

@@ -23,7 +23,8 @@ pub fn stones_of_colour(board: &Board, colour: Colour) -> PointSet
 
 /// The points of the board beside those of a set.
 pub fn points_beside(size: Size, points: &PointSet) -> PointSet
-    ensures those { (p : ℕ) → p < point_count size → Has (set.contains result) p ↔ IsBeside size (Has (set.contains points.now)) p }
+    ensures those { (p : ℕ) → p < point_count size
+        → Has (set.contains result) p ↔ IsBeside size (Has (set.contains points.now)) p }
     ensures on_board { IsSetOnBoard size result }
 {
     let first = points.bits().truncated_to(size.point_count());
@@ -34,7 +35,8 @@ pub fn points_beside(size: Size, points: &PointSet) -> PointSet
 pub fn chains(board: &Board, colour: Colour, points: &PointSet) -> PointSet
     ensures those { (p : ℕ) → p < point_count board.now.size → Has (set.contains result) p
         ↔ IsReached board.now.size (HasStone board.now.size board.now.points colour)
-        (λ r. HasStone board.now.size board.now.points colour r × Has (set.contains points.now) r) p }
+        (λ r. HasStone board.now.size board.now.points colour r
+        × Has (set.contains points.now) r) p }
     ensures on_board { IsSetOnBoard board.now.size result }
 {
     let stones = board.bits(colour);

@@ -22,7 +22,8 @@ struct Candidate {
 
 /// The one with fewer points in its region, and of two with as many the first.
 fn smaller(first: Option<Candidate>, second: Option<Candidate>) -> Option<Candidate>
-    ensures { MatchOption result ((first ≡ None) × (second ≡ None)) (λ m. (first ≡ Some m) ⊎ (second ≡ Some m)) }
+    ensures { MatchOption result ((first ≡ None) × (second ≡ None))
+        (λ m. (first ≡ Some m) ⊎ (second ≡ Some m)) }
 {
     let Some(b) = second else {
         return first;
@@ -38,7 +39,8 @@ fn smaller(first: Option<Candidate>, second: Option<Candidate>) -> Option<Candid
 
 /// The one whose region has the other's stone in it, where it's not the other way round, else the one with fewer points.
 fn outer_or_smaller(first: Option<Candidate>, second: Option<Candidate>) -> Option<Candidate>
-    ensures { MatchOption result ((first ≡ None) × (second ≡ None)) (λ m. (first ≡ Some m) ⊎ (second ≡ Some m)) }
+    ensures { MatchOption result ((first ≡ None) × (second ≡ None))
+        (λ m. (first ≡ Some m) ⊎ (second ≡ Some m)) }
 {
     let Some(b) = second else {
         return first;
@@ -146,7 +148,9 @@ fn best_closed(board: &Board) -> Option<Candidate>
 #[tactic(auto, using(crate::proofs::EnclosedLemmas::one_stands))]
 fn best_open(alloc: Global, board: &Board, stones: usize) -> Result<Option<Candidate>, NoMemory>
     requires { stones ≤ MOST_STONES }
-    ensures { IfOk result (λ found. IfSome found (λ m. (m.stone < point_count board.now.size) × (entry_at board.now.points m.stone ≢ None))) }
+    ensures { IfOk result
+        (λ found. IfSome found (λ m. (m.stone < point_count board.now.size)
+        × (entry_at board.now.points m.stone ≢ None))) }
 {
     let size = board.size();
     let mut best = None;
@@ -162,7 +166,9 @@ fn best_open(alloc: Global, board: &Board, stones: usize) -> Result<Option<Candi
 
 /// The first stone of the best of the groups whose walls the fewest stones close.
 fn open_stone(alloc: Global, board: &Board) -> Result<Option<Point>, NoMemory>
-    ensures { IfOk result (λ found. IfSome found (λ p. (p < point_count board.now.size) × (entry_at board.now.points p ≢ None))) }
+    ensures { IfOk result
+        (λ found. IfSome found
+        (λ p. (p < point_count board.now.size) × (entry_at board.now.points p ≢ None))) }
 {
     for stones in 1..=MOST_STONES {
         if let Some(found) = best_open(alloc, board, stones)? {
@@ -177,9 +183,11 @@ fn open_stone(alloc: Global, board: &Board) -> Result<Option<Point>, NoMemory>
 /// Where a group is enclosed with an inner region, it is one of those.
 #[tactic(auto, using(crate::proofs::EnclosedLemmas::inner_proposed, crate::proofs::EnclosedLemmas::open_proposed))]
 pub fn proposed_stone(alloc: Global, board: &Board) -> Result<Option<Point>, NoMemory>
-    ensures { IfOk result (λ found. MatchOption found ((q : ℕ) → IsOfInnerGroup board.now.size board.now.points q → ⊥)
+    ensures { IfOk result
+        (λ found. MatchOption found ((q : ℕ) → IsOfInnerGroup board.now.size board.now.points q → ⊥)
         (λ p. (p < point_count board.now.size) × (entry_at board.now.points p ≢ None)
-        × ((q : ℕ) → IsOfInnerGroup board.now.size board.now.points q → IsOfInnerGroup board.now.size board.now.points p))) }
+        × ((q : ℕ) → IsOfInnerGroup board.now.size board.now.points q
+        → IsOfInnerGroup board.now.size board.now.points p))) }
 {
     if let Some(found) = best_closed(board) {
         return Ok(Some(found.stone));

@@ -69,7 +69,8 @@ pub fn region(board: &Board, colour: Colour, stone: Point) -> WalledRegion
     ensures points { IsRegion board.now.size board.now.points colour stone (set.contains result.wall) (set.contains result.points) }
     ensures wall_on_board { IsSetOnBoard board.now.size result.wall }
     ensures on_board { IsSetOnBoard board.now.size result.points }
-    ensures only { (points : PointNumberSet) → IsEnclosedGroup board.now.size board.now.points colour stone points
+    ensures only { (points : PointNumberSet)
+        → IsEnclosedGroup board.now.size board.now.points colour stone points
         → IsClosed result.wall result.points × (points ≡ result.points) }
 {
     let size = board.size();

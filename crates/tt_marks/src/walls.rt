@@ -28,7 +28,8 @@ pub(crate) fn whole(size: Size) -> Bits
 
 /// The empty points.
 pub(crate) fn empty_points(board: &Board) -> Bits
-    ensures those { (p : ℕ) → p < point_count board.now.size → Has (bit_in result.words) p ↔ (entry_at board.now.points p ≡ None) }
+    ensures those { (p : ℕ) → p < point_count board.now.size
+        → Has (bit_in result.words) p ↔ (entry_at board.now.points p ≡ None) }
     ensures on_board { AreOn board.now.size result.words }
 {
     whole(board.size())
@@ -38,7 +39,8 @@ pub(crate) fn empty_points(board: &Board) -> Bits
 
 /// The set of one point, which is on each board that has it.
 fn alone(point: Point) -> Bits
-    ensures those { (size : Size) (p : ℕ) → p < point_count size → Has (bit_in result.words) p ↔ (p ≡ point) }
+    ensures those { (size : Size) (p : ℕ) → p < point_count size
+        → Has (bit_in result.words) p ↔ (p ≡ point) }
     ensures on_board { (size : Size) → point < point_count size → AreOn size result.words }
 {
     let mut made = Bits::none();
@@ -49,7 +51,8 @@ fn alone(point: Point) -> Bits
 /// The group of a stone of this colour: its chain.
 pub(crate) fn group_bits(board: &Board, colour: Colour, stone: Point) -> Bits
     requires { stone < point_count board.now.size }
-    ensures those { (p : ℕ) → p < point_count board.now.size → Has (bit_in result.words) p ↔ IsOfGroup board.now.size board.now.points colour stone p }
+    ensures those { (p : ℕ) → p < point_count board.now.size
+        → Has (bit_in result.words) p ↔ IsOfGroup board.now.size board.now.points colour stone p }
     ensures on_board { AreOn board.now.size result.words }
 {
     reached(board.size(), board.bits(colour), &alone(stone))
@@ -58,7 +61,8 @@ pub(crate) fn group_bits(board: &Board, colour: Colour, stone: Point) -> Bits
 /// What is reached from a point without passing one of these stones.
 pub(crate) fn within(size: Size, stones: &Bits, point: Point) -> Bits
     requires { point < point_count size }
-    ensures those { (p : ℕ) → p < point_count size → Has (bit_in result.words) p ↔ IsWithin size point (bit_in stones.now.words) p }
+    ensures those { (p : ℕ) → p < point_count size
+        → Has (bit_in result.words) p ↔ IsWithin size point (bit_in stones.now.words) p }
     ensures on_board { AreOn size result.words }
 {
     reached(size, &whole(size).minus(stones), &alone(point))

@@ -44,8 +44,10 @@ fn read_digits(bytes: &[u8]) -> (u32, &[u8])
 /// The name at the front of the bytes, and what follows, which is no digit.
 fn read_name(bytes: &[u8]) -> Option<(usize, &[u8])>
     ensures { MatchOption result
-        ((k : ℕ) (y : List ℕ) → k < 1000000000 → HasNoDigitInFront y → bytes.now ≡ decimal k ++ y → ⊥)
-        (λ r. (r.0 < 1000000000) × HasNoDigitInFront r.1.now × (bytes.now ≡ decimal r.0 ++ r.1.now)) }
+        ((k : ℕ) (y : List ℕ)
+        → k < 1000000000 → HasNoDigitInFront y → bytes.now ≡ decimal k ++ y → ⊥)
+        (λ r. (r.0 < 1000000000) × HasNoDigitInFront r.1.now
+        × (bytes.now ≡ decimal r.0 ++ r.1.now)) }
 {
     let (number, rest) = read_digits(bytes);
     let length = bytes.len() - rest.len();
@@ -242,9 +244,11 @@ fn read_shared_cert_for_side(
     most_depth: u16,
 ) -> Result<(Side, Outline), CertFault>
     requires { most_depth ≤ MOST_DEPTH }
-    ensures certificate { IfOk result (λ r. IsSharedCertificate size (side_prefix s ++ rest.now) r.0 (outline_of r.1)) }
+    ensures certificate { IfOk result
+        (λ r. IsSharedCertificate size (side_prefix s ++ rest.now) r.0 (outline_of r.1)) }
     ensures shallow { IfOk result (λ r. depth (unfolded [] (outline_of r.1)) ≤ most_depth) }
-    ensures fault { IfErr result (λ e. IsSharedCertFault size most_depth (side_prefix s ++ rest.now) e) }
+    ensures fault { IfErr result
+        (λ e. IsSharedCertFault size most_depth (side_prefix s ++ rest.now) e) }
 {
     let mut depths = Vec::new(alloc);
     let (outline, _, more) = read_outline(alloc, rest, size, most_depth, &mut depths)?;
@@ -263,7 +267,8 @@ pub(crate) fn read_shared_cert_to_depth(
     most_depth: u16,
 ) -> Result<(Side, Outline), CertFault>
     requires { most_depth ≤ MOST_DEPTH }
-    ensures certificate { IfOk result (λ r. IsSharedCertificate size bytes.now r.0 (outline_of r.1)) }
+    ensures certificate { IfOk result
+        (λ r. IsSharedCertificate size bytes.now r.0 (outline_of r.1)) }
     ensures shallow { IfOk result (λ r. depth (unfolded [] (outline_of r.1)) ≤ most_depth) }
     ensures fault { IfErr result (λ e. IsSharedCertFault size most_depth bytes.now e) }
 {

@@ -202,7 +202,9 @@ fn has_branch(list: &[(Turn, Outline)], turn: Turn) -> bool
 
 /// Whether each legal turn has a branch.
 fn has_branch_for_each_turn(list: &[(Turn, Outline)], line: &Line) -> bool
-    ensures { IsTrue result ↔ ((t : Turn) → IsLegal line.now.frame line.now.state t → HasBranch (branches_of_reply list.now) t) }
+    ensures { IsTrue result
+        ↔ ((t : Turn)
+        → IsLegal line.now.frame line.now.state t → HasBranch (branches_of_reply list.now) t) }
 {
     let turns = line.turns();
     for turn in turns.as_slice() {
@@ -241,7 +243,8 @@ fn replay_branch(
 ) -> Result<ReplayResult, NoMemory>
     requires on_board { IsTurnOnBoardOfSize line.old.frame.size turn }
     requires orderly { IsOutlineInOrder line.old.frame.size (outline_of child.now) }
-    ensures found { IfOk result (λ r. FindsBranch s line.old.frame names.old.items turn (outline_of child.now) line.old.state r names.new.items) }
+    ensures found { IfOk result
+        (λ r. FindsBranch s line.old.frame names.old.items turn (outline_of child.now) line.old.state r names.new.items) }
     ensures same { line.new ≡ line.old }
 {
     match line.push(turn) {
@@ -271,7 +274,8 @@ fn replay_branches(
     names: &mut Vec<Option<PositionFootprint>>,
 ) -> Result<ReplayResult, NoMemory>
     requires orderly { AreBranchesInOrder line.old.frame.size 0 (branches_of_reply list.now) }
-    ensures found { IfOk result (λ r. FindsTogether s line.old.frame names.old.items (branches_of_reply list.now) line.old.state r names.new.items) }
+    ensures found { IfOk result
+        (λ r. FindsTogether s line.old.frame names.old.items (branches_of_reply list.now) line.old.state r names.new.items) }
     ensures same { line.new ≡ line.old }
 {
     let basis = PositionFootprint::of_empty_reply(alloc, line)?;
@@ -292,7 +296,8 @@ fn replay_reply(
     names: &mut Vec<Option<PositionFootprint>>,
 ) -> Result<ReplayResult, NoMemory>
     requires orderly { AreBranchesInOrder line.old.frame.size 0 (branches_of_reply list.now) }
-    ensures found { IfOk result (λ r. FindsReply s line.old.frame names.old.items (branches_of_reply list.now) line.old.state r names.new.items) }
+    ensures found { IfOk result
+        (λ r. FindsReply s line.old.frame names.old.items (branches_of_reply list.now) line.old.state r names.new.items) }
     ensures same { line.new ≡ line.old }
 {
     if !awaits_other_side(s, line) {
@@ -314,7 +319,8 @@ fn replay_pick(
 ) -> Result<ReplayResult, NoMemory>
     requires on_board { IsTurnOnBoardOfSize line.old.frame.size turn }
     requires orderly { IsOutlineInOrder line.old.frame.size (outline_of child.now) }
-    ensures found { IfOk result (λ r. FindsPick s line.old.frame names.old.items turn (outline_of child.now) line.old.state r names.new.items) }
+    ensures found { IfOk result
+        (λ r. FindsPick s line.old.frame names.old.items turn (outline_of child.now) line.old.state r names.new.items) }
     ensures same { line.new ≡ line.old }
 {
     if line.to_move() != s {
@@ -347,7 +353,8 @@ fn replay_outline(
     names: &mut Vec<Option<PositionFootprint>>,
 ) -> Result<ReplayResult, NoMemory>
     requires orderly { IsOutlineInOrder line.old.frame.size (outline_of o.now) }
-    ensures found { IfOk result (λ r. IsReplayOfOutline s line.old.frame names.old.items (outline_of o.now) line.old.state r names.new.items) }
+    ensures found { IfOk result
+        (λ r. IsReplayOfOutline s line.old.frame names.old.items (outline_of o.now) line.old.state r names.new.items) }
     ensures same { line.new ≡ line.old }
 {
     match o {
@@ -391,7 +398,9 @@ pub fn replay_shared_cert(
 ) -> Result<Option<bool>, NoMemory>
     requires { IsOutlineInOrder line.old.frame.size (outline_of o.now) }
     ensures parts { IfOk result (IsOutlineAnswer s line.old.frame (outline_of o.now) line.old.state) }
-    ensures exact { IfOk result (λ answer. IfSome answer (λ wins. IsTrue wins ↔ WinsOrLives s line.old.frame (unfolded [] (outline_of o.now)) line.old.state)) }
+    ensures exact { IfOk result
+        (λ answer. IfSome answer (λ wins. IsTrue wins
+        ↔ WinsOrLives s line.old.frame (unfolded [] (outline_of o.now)) line.old.state)) }
     ensures same { line.new ≡ line.old }
 {
     let mut names = Vec::new(alloc);

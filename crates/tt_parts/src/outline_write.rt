@@ -28,7 +28,8 @@ fn is_winning_cert(
     first: Option<Turn>,
 ) -> Result<bool, NoMemory>
     requires { most_depth ≤ MOST_DEPTH }
-    ensures { IfOk result (λ b. b ≡ true → IsWinningSharedCertificate line.old.frame line.old.state s first most_depth bytes.now) }
+    ensures { IfOk result (λ b. b ≡ true
+        → IsWinningSharedCertificate line.old.frame line.old.state s first most_depth bytes.now) }
 {
     let size = line.frame().size;
     match read_shared_cert_to_depth(alloc, bytes, size, most_depth) {

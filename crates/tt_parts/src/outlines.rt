@@ -44,7 +44,8 @@ impl Outline {
         named: bool,
         branches: Vec<(Turn, Outline)>,
     ) -> Result<Outline, NoMemory>
-        ensures { IfOk result (λ o. outline_of o ≡ replied named (branches_of_reply branches.items)) }
+        ensures { IfOk result
+            (λ o. outline_of o ≡ replied named (branches_of_reply branches.items)) }
     {
         Ok(Outline::Reply(named, Arc::new(alloc, branches)?))
     }

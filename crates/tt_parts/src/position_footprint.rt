@@ -29,7 +29,8 @@ fn without_made_board(
     turn: &Turn,
     board: &Board,
 ) -> Result<SharedBoardSet, NoMemory>
-    ensures { IfOk result (λ s. (b : Position) → Contains s b ↔ IsPassedUp turn.now board.now needs b) }
+    ensures { IfOk result (λ s. (b : Position)
+        → Contains s b ↔ IsPassedUp turn.now board.now needs b) }
 {
     match turn {
         Turn::Pass => Ok(needs),
@@ -44,7 +45,8 @@ fn with_made_board(
     turn: &Turn,
     board: &Board,
 ) -> Result<SharedBoardSet, NoMemory>
-    ensures { IfOk result (λ s. (b : Position) → Contains s b ↔ (Contains avoids b ⊎ IsPlayed turn.now board.now b)) }
+    ensures { IfOk result (λ s. (b : Position)
+        → Contains s b ↔ (Contains avoids b ⊎ IsPlayed turn.now board.now b)) }
 {
     match turn {
         Turn::Pass => Ok(avoids),
@@ -126,7 +128,8 @@ impl PositionFootprint {
         board: &Board,
     ) -> Result<PositionFootprint, NoMemory>
         requires { IsBoardAfter line.now.frame line.now.state turn.now board.now }
-        ensures { IfOk result (λ x. RestsBeforeOpposingTurn line.now.frame line.now.state turn.now self x) }
+        ensures { IfOk result
+            (λ x. RestsBeforeOpposingTurn line.now.frame line.now.state turn.now self x) }
     {
         let PositionFootprint {
             board: _,

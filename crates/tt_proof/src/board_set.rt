@@ -120,7 +120,8 @@ fn is_among(board: &Board, boards: &[Board]) -> bool
 
 /// The one of two lists whose last hash is greater, or which alone has one, gives its last board.
 fn pop_greatest_hash(left: &mut BoardSet, right: &mut BoardSet) -> Option<SharedBoard>
-    ensures { MatchOption result ((left.old ≡ []) × (right.old ≡ [])) (λ x. IsOneLess left.old left.new right.old right.new x) }
+    ensures { MatchOption result ((left.old ≡ []) × (right.old ≡ []))
+        (λ x. IsOneLess left.old left.new right.old right.new x) }
 {
     let Some(a) = left.last_hash() else {
         return right.pop();
@@ -185,7 +186,8 @@ impl BoardSet {
 
     /// The last board, which is taken out.
     fn pop(&mut self) -> Option<SharedBoard>
-        ensures { MatchOption result ((self.old ≡ []) × (self.new ≡ [])) (λ last. self.old ≡ self.new ++ last ∷ []) }
+        ensures { MatchOption result ((self.old ≡ []) × (self.new ≡ []))
+            (λ last. self.old ≡ self.new ++ last ∷ []) }
     {
         self.boards.pop()
     }
@@ -237,7 +239,8 @@ impl BoardSet {
 
     /// Adds a board behind all others, where it isn't one of the last ones, of those that have its hash.
     fn push_if_new(&mut self, board: SharedBoard) -> Result<(), NoMemory>
-        ensures { OnOk result ((b : Position) → Contains self.new b ↔ (Contains self.old b ⊎ (b ≡ board))) }
+        ensures { OnOk result ((b : Position)
+            → Contains self.new b ↔ (Contains self.old b ⊎ (b ≡ board))) }
     {
         if self.has_in_last_hash_run(&board) {
             return Ok(());
@@ -254,7 +257,8 @@ impl BoardSet {
 
     /// Adds the boards of two lists, in falling order where both rise.
     fn put_merged_falling(&mut self, left: BoardSet, right: BoardSet) -> Result<(), NoMemory>
-        ensures { OnOk result ((b : Position) → Contains self.new b ↔ (Contains self.old b ⊎ (Contains left b ⊎ Contains right b))) }
+        ensures { OnOk result ((b : Position)
+            → Contains self.new b ↔ (Contains self.old b ⊎ (Contains left b ⊎ Contains right b))) }
     {
         let (mut left, mut right) = (left, right);
         while let Some(board) = pop_greatest_hash(&mut left, &mut right) {
@@ -265,7 +269,8 @@ impl BoardSet {
 
     /// Takes the others' boards in, by one walk over both lists. After want of memory the list is of no use.
     fn merge(&mut self, others: BoardSet) -> Result<(), NoMemory>
-        ensures { OnOk result ((b : Position) → Contains self.new b ↔ (Contains self.old b ⊎ Contains others b)) }
+        ensures { OnOk result ((b : Position)
+            → Contains self.new b ↔ (Contains self.old b ⊎ Contains others b)) }
     {
         let alloc = *self.boards.allocator();
         let mine = mem::replace(self, BoardSet::new(alloc));
@@ -278,7 +283,8 @@ impl BoardSet {
     /// Takes the others' handles in, where their boards aren't held yet. Nothing is looked at where one of the lists is empty. After
     /// want of memory the list is of no use.
     pub fn join(&mut self, others: BoardSet) -> Result<(), NoMemory>
-        ensures { OnOk result ((b : Position) → Contains self.new b ↔ (Contains self.old b ⊎ Contains others b)) }
+        ensures { OnOk result ((b : Position)
+            → Contains self.new b ↔ (Contains self.old b ⊎ Contains others b)) }
     {
         let mut fewer = others;
         if self.boards.len() < fewer.boards.len() {
@@ -294,7 +300,8 @@ impl BoardSet {
     fn remove_at(&mut self, k: usize)
         requires { k < length self.old }
         ensures few { length self.new < length self.old }
-        ensures others { (b : Position) → Contains self.old b ↔ (Contains self.new b ⊎ (get_or self.old k b ≡ b)) }
+        ensures others { (b : Position)
+            → Contains self.old b ↔ (Contains self.new b ⊎ (get_or self.old k b ≡ b)) }
     {
         let _ = self.boards.remove(k);
     }
@@ -367,7 +374,8 @@ impl BoardSet {
     /// Whether the board is one of those from an index on, where the hashes rise and all before are less than its own.
     fn has_from(&self, from: usize, board: &Board) -> bool
         ensures there { IsTrue result → Contains self.now board.now }
-        ensures all { DoHashesRise self.now → AreLessBefore self.now from (hash_of_board board.now) → Contains self.now board.now → IsTrue result }
+        ensures all { DoHashesRise self.now → AreLessBefore self.now from (hash_of_board board.now)
+            → Contains self.now board.now → IsTrue result }
     {
         let hash = board_hash(board);
         for k in from..self.boards.len() {
@@ -394,7 +402,8 @@ impl BoardSet {
     /// Whether none is one of the boards, where the hashes rise.
     pub(crate) fn has_none_of(&self, boards: &[Board]) -> bool
         requires { DoHashesRise self.now }
-        ensures { IsTrue result ↔ ((b : Position) → Contains self.now b → Contains boards.now b → ⊥) }
+        ensures { IsTrue result
+            ↔ ((b : Position) → Contains self.now b → Contains boards.now b → ⊥) }
     {
         for board in boards {
             if self.has_by_halving(board) {
@@ -441,7 +450,8 @@ impl BoardSet {
     /// Adds a board at an index.
     fn insert_at_index(&mut self, k: usize, board: SharedBoard) -> Result<(), NoMemory>
         requires { k ≤ length self.old }
-        ensures { OnOk result ((b : Position) → Contains self.new b ↔ (Contains self.old b ⊎ (b ≡ board))) }
+        ensures { OnOk result ((b : Position)
+            → Contains self.new b ↔ (Contains self.old b ⊎ (b ≡ board))) }
     {
         self.make_room()?;
         self.boards.insert(k, board)?;
@@ -450,7 +460,8 @@ impl BoardSet {
 
     /// Adds the board, where it isn't held yet.
     pub fn add(&mut self, alloc: Global, board: &Board) -> Result<(), NoMemory>
-        ensures { OnOk result ((b : Position) → Contains self.new b ↔ (Contains self.old b ⊎ (b ≡ board.now))) }
+        ensures { OnOk result ((b : Position)
+            → Contains self.new b ↔ (Contains self.old b ⊎ (b ≡ board.now))) }
     {
         let made = SharedBoard::of(alloc, board)?;
         let k = self.insertion_index(made.hash);
@@ -485,7 +496,9 @@ impl BoardSet {
 
     /// Whether all are boards of the line's history.
     pub fn all_in_history(&self, line: &Line) -> bool
-        ensures { IsTrue result ↔ ((b : Position) → Contains self.now b → HasBoardInHistory line.now.frame line.now.state b) }
+        ensures { IsTrue result
+            ↔ ((b : Position)
+            → Contains self.now b → HasBoardInHistory line.now.frame line.now.state b) }
     {
         for held in &self.boards {
             if !line.has_board_in_history(held.board()) {
@@ -497,7 +510,9 @@ impl BoardSet {
 
     /// Whether none is a board of the line's history.
     pub fn none_in_history(&self, line: &Line) -> bool
-        ensures { IsTrue result ↔ ((b : Position) → Contains self.now b → HasBoardInHistory line.now.frame line.now.state b → ⊥) }
+        ensures { IsTrue result
+            ↔ ((b : Position)
+            → Contains self.now b → HasBoardInHistory line.now.frame line.now.state b → ⊥) }
     {
         for held in &self.boards {
             if line.has_board_in_history(held.board()) {

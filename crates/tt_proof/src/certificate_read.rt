@@ -75,7 +75,8 @@ impl<T: Drop> From<AllocFailed<T>> for CertFault {
 /// The number of a letter below `end`, where `a` has 0.
 pub(crate) fn letter_index(byte: u8, end: u16) -> Option<u16>
     requires { end ≤ 19 }
-    ensures { MatchOption result ((n : ℕ) → n < end → byte ≡ lower_a + n → ⊥) (λ n. (n < end) × (byte ≡ lower_a + n)) }
+    ensures { MatchOption result ((n : ℕ)
+        → n < end → byte ≡ lower_a + n → ⊥) (λ n. (n < end) × (byte ≡ lower_a + n)) }
 {
     if byte < b'a' {
         return None;
@@ -87,8 +88,10 @@ pub(crate) fn letter_index(byte: u8, end: u16) -> Option<u16>
 /// The point of these two letters.
 fn read_point(first: u8, second: u8, size: Size) -> Option<Point>
     ensures { MatchOption result
-        ((p : ℕ) → p < point_count size → first ≡ lower_a + p % size.columns → second ≡ lower_a + p / size.columns → ⊥)
-        (λ p. (p < point_count size) × (first ≡ lower_a + p % size.columns) × (second ≡ lower_a + p / size.columns)) }
+        ((p : ℕ) → p < point_count size
+        → first ≡ lower_a + p % size.columns → second ≡ lower_a + p / size.columns → ⊥)
+        (λ p. (p < point_count size) × (first ≡ lower_a + p % size.columns)
+        × (second ≡ lower_a + p / size.columns)) }
 {
     let Some(column) = letter_index(first, size.columns()) else {
         return None;
@@ -102,8 +105,10 @@ fn read_point(first: u8, second: u8, size: Size) -> Option<Point>
 /// The turn at the front of the bytes, its number, and what follows.
 pub fn read_turn(bytes: &[u8], size: Size) -> Option<(Turn, u16, &[u8])>
     ensures { MatchOption result
-        ((t : Turn) (y : List ℕ) → IsTurnOnBoardOfSize size t → bytes.now ≡ turn_text size t ++ y → ⊥)
-        (λ r. IsTurnOnBoardOfSize size r.0 × (r.1 ≡ turn_number_on_size size r.0) × (r.1 ≤ MOST_POINTS) × (bytes.now ≡ turn_text size r.0 ++ r.2.now)) }
+        ((t : Turn) (y : List ℕ)
+        → IsTurnOnBoardOfSize size t → bytes.now ≡ turn_text size t ++ y → ⊥)
+        (λ r. IsTurnOnBoardOfSize size r.0 × (r.1 ≡ turn_number_on_size size r.0)
+        × (r.1 ≤ MOST_POINTS) × (bytes.now ≡ turn_text size r.0 ++ r.2.now)) }
 {
     let (first, rest) = bytes.split_first()?;
     let (second, rest) = rest.split_first()?;
@@ -116,7 +121,8 @@ pub fn read_turn(bytes: &[u8], size: Size) -> Option<(Turn, u16, &[u8])>
 
 /// What follows the end of a reply, where that is at the front of the bytes.
 pub fn strip_reply_end(bytes: &[u8]) -> Option<&[u8]>
-    ensures { MatchOption result ((y : List ℕ) → bytes.now ≡ semicolon ∷ y → ⊥) (λ r. bytes.now ≡ semicolon ∷ r.now) }
+    ensures { MatchOption result ((y : List ℕ)
+        → bytes.now ≡ semicolon ∷ y → ⊥) (λ r. bytes.now ≡ semicolon ∷ r.now) }
 {
     match bytes {
         [b';', rest @ ..] => Some(rest),
@@ -132,7 +138,8 @@ fn read_strategy(
     size: Size,
     left: u16,
 ) -> Result<(Tree, &[u8]), CertFault>
-    ensures { MatchResult result (λ r. TreeAt size left (strategy_of r.0) bytes.now r.1.now) (λ e. FaultAt size left bytes.now e) }
+    ensures { MatchResult result (λ r. TreeAt size left (strategy_of r.0) bytes.now r.1.now)
+        (λ e. FaultAt size left bytes.now e) }
 {
     match bytes.split_first() {
         None => Err(CertFault::Syntax),
@@ -153,7 +160,8 @@ fn read_strategy(
 
 #[cycle(read)]
 fn read_pick(alloc: Global, bytes: &[u8], size: Size, left: u16) -> Result<(Tree, &[u8]), CertFault>
-    ensures { MatchResult result (λ r. TreeAt size left (strategy_of r.0) (pick_symbol ∷ bytes.now) r.1.now)
+    ensures { MatchResult result
+        (λ r. TreeAt size left (strategy_of r.0) (pick_symbol ∷ bytes.now) r.1.now)
         (λ e. FaultAt size left (pick_symbol ∷ bytes.now) e) }
 {
     let Some((turn, _, after)) = read_turn(bytes, size) else {
@@ -173,7 +181,8 @@ fn read_reply(
     size: Size,
     left: u16,
 ) -> Result<(Tree, &[u8]), CertFault>
-    ensures { MatchResult result (λ r. TreeAt size left (strategy_of r.0) (replies_symbol ∷ bytes.now) r.1.now)
+    ensures { MatchResult result
+        (λ r. TreeAt size left (strategy_of r.0) (replies_symbol ∷ bytes.now) r.1.now)
         (λ e. FaultAt size left (replies_symbol ∷ bytes.now) e) }
 {
     let (entries, rest) = read_entries(alloc, bytes, size, left)?;
@@ -188,7 +197,8 @@ fn read_entries(
     size: Size,
     left: u16,
 ) -> Result<(Vec<(Turn, Tree)>, &[u8]), CertFault>
-    ensures { MatchResult result (λ r. EntriesAt size left 0 (entries_of_reply r.0.items) bytes.now r.1.now)
+    ensures { MatchResult result
+        (λ r. EntriesAt size left 0 (entries_of_reply r.0.items) bytes.now r.1.now)
         (λ e. EntriesFaultAt size left 0 bytes.now e) }
 {
     let mut list = Vec::new(alloc);
@@ -216,7 +226,8 @@ fn read_entries(
 
 /// What follows the side's word, where that is at the front of the bytes.
 fn strip_side_prefix(bytes: &[u8], s: Side) -> Option<&[u8]>
-    ensures { MatchOption result ((y : List ℕ) → bytes.now ≡ side_prefix s ++ y → ⊥) (λ r. bytes.now ≡ side_prefix s ++ r.now) }
+    ensures { MatchOption result ((y : List ℕ)
+        → bytes.now ≡ side_prefix s ++ y → ⊥) (λ r. bytes.now ≡ side_prefix s ++ r.now) }
 {
     let blank = bytes.strip_prefix(s.verdict_word())?;
     blank.strip_prefix(b" ".as_slice())
@@ -224,7 +235,8 @@ fn strip_side_prefix(bytes: &[u8], s: Side) -> Option<&[u8]>
 
 /// The side whose word is at the front of the bytes, and what follows.
 pub fn split_side(bytes: &[u8]) -> Option<(Side, &[u8])>
-    ensures { MatchOption result ((s : Side) (y : List ℕ) → bytes.now ≡ side_prefix s ++ y → ⊥) (λ r. bytes.now ≡ side_prefix r.0 ++ r.1.now) }
+    ensures { MatchOption result ((s : Side) (y : List ℕ)
+        → bytes.now ≡ side_prefix s ++ y → ⊥) (λ r. bytes.now ≡ side_prefix r.0 ++ r.1.now) }
 {
     if let Some(rest) = strip_side_prefix(bytes, Side::Attacker) {
         return Some((Side::Attacker, rest));
@@ -241,7 +253,8 @@ fn read_cert_for_side(
     size: Size,
 ) -> Result<(Side, Tree), CertFault>
     ensures { MatchResult result
-        (λ r. IsCertificate size (side_prefix s ++ rest.now) r.0 (strategy_of r.1) × (IsTooDeep size (side_prefix s ++ rest.now) → ⊥))
+        (λ r. IsCertificate size (side_prefix s ++ rest.now) r.0 (strategy_of r.1)
+        × (IsTooDeep size (side_prefix s ++ rest.now) → ⊥))
         (λ e. IsCertFault size (side_prefix s ++ rest.now) e) }
 {
     let (tree, more) = read_strategy(alloc, rest, size, MOST_DEPTH)?;

@@ -79,7 +79,8 @@ impl Footprint {
     ) -> Result<Footprint, NoMemory>
         requires legal { IsLegal line.now.frame line.now.state turn.now }
         requires board { IsBoardAfter line.now.frame line.now.state turn.now board.now }
-        ensures { IfOk result (λ x. (u : Strategy) → IsFootprint line.now.frame (after line.now.frame line.now.state turn.now) u behind
+        ensures { IfOk result (λ x. (u : Strategy)
+            → IsFootprint line.now.frame (after line.now.frame line.now.state turn.now) u behind
             → IsFootprint line.now.frame line.now.state (pick turn.now u) x) }
     {
         let Footprint {
@@ -103,7 +104,8 @@ impl Footprint {
     ) -> Result<(), NoMemory>
         requires legal { IsLegal line.now.frame line.now.state turn.now }
         requires board { IsBoardAfter line.now.frame line.now.state turn.now board.now }
-        ensures { OnOk result ((u : Strategy) → IsFootprint line.now.frame (after line.now.frame line.now.state turn.now) u behind
+        ensures { OnOk result ((u : Strategy)
+            → IsFootprint line.now.frame (after line.now.frame line.now.state turn.now) u behind
             → IsEntryJoined line.now.frame line.now.state turn.now u self.old self.new) }
     {
         let Footprint {
@@ -148,7 +150,8 @@ pub(crate) fn add_made_board(
     turn: &Turn,
     board: &Board,
 ) -> Result<(), NoMemory>
-    ensures { OnOk result ((b : Position) → Contains avoids.new b ↔ (Contains avoids.old b ⊎ IsPlayed turn.now board.now b)) }
+    ensures { OnOk result ((b : Position)
+        → Contains avoids.new b ↔ (Contains avoids.old b ⊎ IsPlayed turn.now board.now b)) }
 {
     match turn {
         Turn::Pass => Ok(()),
@@ -179,7 +182,8 @@ fn widened_bound(
 fn repeated_board_unless_legal(line: &Line, legal: &PointSet, p: Point) -> Option<Board>
     requires { AreLegalPlays line.now.frame line.now.state legal.now }
     ensures { MatchOption result (IsBarredBySuperko line.now.frame line.now.state p → ⊥)
-        (λ b. IsBarredBySuperko line.now.frame line.now.state p × (b ≡ board_of_colouring line.now.frame (colouring_after_play line.now.frame line.now.state p))) }
+        (λ b. IsBarredBySuperko line.now.frame line.now.state p
+        × (b ≡ board_of_colouring line.now.frame (colouring_after_play line.now.frame line.now.state p))) }
 {
     if legal.has(p) {
         return None;
@@ -196,10 +200,13 @@ fn add_repeated_board(
     p: Point,
 ) -> Result<(), NoMemory>
     requires { AreLegalPlays line.now.frame line.now.state legal.now }
-    ensures sized { OnOk result (HaveFrameSize line.now.frame needs.old → HaveFrameSize line.now.frame needs.new) }
-    ensures more { OnOk result ((c : Colouring) → Contains needs.new (board_of_colouring line.now.frame c)
+    ensures sized { OnOk result (HaveFrameSize line.now.frame needs.old
+        → HaveFrameSize line.now.frame needs.new) }
+    ensures more { OnOk result ((c : Colouring)
+        → Contains needs.new (board_of_colouring line.now.frame c)
         ↔ (Contains needs.old (board_of_colouring line.now.frame c)
-        ⊎ (IsBarredBySuperko line.now.frame line.now.state p × (colouring_after_play line.now.frame line.now.state p ≡ c)))) }
+        ⊎ (IsBarredBySuperko line.now.frame line.now.state p
+        × (colouring_after_play line.now.frame line.now.state p ≡ c)))) }
 {
     match repeated_board_unless_legal(line, legal, p) {
         Some(board) => needs.add(alloc, &board),
@@ -211,7 +218,8 @@ fn add_repeated_board(
 fn repeated_boards(alloc: Global, line: &Line, legal: &PointSet) -> Result<BoardSet, NoMemory>
     requires { AreLegalPlays line.now.frame line.now.state legal.now }
     ensures sized { IfOk result (λ needs. HaveFrameSize line.now.frame needs) }
-    ensures exact { IfOk result (λ needs. (c : Colouring) → Contains needs (board_of_colouring line.now.frame c)
+    ensures exact { IfOk result (λ needs. (c : Colouring)
+        → Contains needs (board_of_colouring line.now.frame c)
         ↔ IsRepeatedByPlay line.now.frame (history line.now.state) [] line.now.state c) }
 {
     let region = &line.frame().region;
@@ -262,7 +270,8 @@ fn footprint_of_pick(
     requires depth { depth (strategy_of tree.now) ≤ MOST_DEPTH }
     requires on_board { IsTurnOnBoardOfSize line.old.frame.size turn.now }
     requires in_order { IsInOrder line.old.frame.size (strategy_of tree.now) }
-    ensures exact { IfOk result (λ x. IsFootprint line.old.frame line.old.state (pick turn.now (strategy_of tree.now)) x) }
+    ensures exact { IfOk result
+        (λ x. IsFootprint line.old.frame line.old.state (pick turn.now (strategy_of tree.now)) x) }
     ensures same { line.new ≡ line.old }
 {
     match line.push(*turn) {
@@ -286,7 +295,8 @@ fn footprint_of_reply(
 ) -> Result<Footprint, NoMemory>
     requires depth { depth_of_entries (entries_of_reply list.now) ≤ MOST_DEPTH }
     requires in_order { AreInOrder line.old.frame.size 0 (entries_of_reply list.now) }
-    ensures exact { IfOk result (λ x. IsFootprint line.old.frame line.old.state (reply (entries_of_reply list.now)) x) }
+    ensures exact { IfOk result
+        (λ x. IsFootprint line.old.frame line.old.state (reply (entries_of_reply list.now)) x) }
     ensures same { line.new ≡ line.old }
 {
     let mut footprint = Footprint::of_empty_reply(alloc, line)?;
@@ -303,7 +313,8 @@ fn footprint_of_reply(
 pub fn footprint_of(alloc: Global, t: &Tree, line: &mut Line) -> Result<Footprint, NoMemory>
     requires depth { depth (strategy_of t.now) ≤ MOST_DEPTH }
     requires in_order { IsInOrder line.old.frame.size (strategy_of t.now) }
-    ensures exact { IfOk result (λ x. IsFootprint line.old.frame line.old.state (strategy_of t.now) x) }
+    ensures exact { IfOk result
+        (λ x. IsFootprint line.old.frame line.old.state (strategy_of t.now) x) }
     ensures same { line.new ≡ line.old }
 {
     match t {

@@ -114,7 +114,8 @@ impl LifeProof {
 
     /// Whether the proof's own position has the key of the line's.
     pub fn has_key_of(&self, line: &Line) -> bool
-        ensures { IsTrue result ↔ (key_of self.now.frame self.now.state ≡ key_of line.now.frame line.now.state) }
+        ensures { IsTrue result
+            ↔ (key_of self.now.frame self.now.state ≡ key_of line.now.frame line.now.state) }
     {
         self.snapshot.has_key_of(line)
     }
@@ -166,10 +167,13 @@ impl LifeProof {
     /// The proof's own footprint where that is the tree's at the line, too, as is seen without a walk through the tree: see
     /// `Proof::footprint_if_known`. There the tree wins by the rule by which it wins where the proof stands.
     pub(crate) fn footprint_if_known(&self, line: &Line) -> Option<&Footprint>
-        ensures wins { IfSome result (λ _. IsWinningTreeUnder at_win_or_life self.now.side line.now.frame line.now.state self.now.tree) }
-        ensures at_wins { IfSome result (λ _. IsWinningTree self.now.side self.now.frame self.now.state self.now.tree
+        ensures wins { IfSome result
+            (λ _. IsWinningTreeUnder at_win_or_life self.now.side line.now.frame line.now.state self.now.tree) }
+        ensures at_wins { IfSome result
+            (λ _. IsWinningTree self.now.side self.now.frame self.now.state self.now.tree
             → IsWinningTree self.now.side line.now.frame line.now.state self.now.tree) }
-        ensures exact { IfSome result (λ x. IsFootprint line.now.frame line.now.state self.now.tree x.now) }
+        ensures exact { IfSome result
+            (λ x. IsFootprint line.now.frame line.now.state self.now.tree x.now) }
         ensures stands { StandsAt self.now line.now.frame line.now.state → result ≢ None }
     {
         let own = &self.footprint;
@@ -187,7 +191,9 @@ impl LifeProof {
     /// A proof of the same tree at the line, where the proof's own footprint is seen to be that there without a walk through the
     /// tree, as always where the proof stands at the line; else none.
     pub fn moved_if_known(&self, alloc: Global, line: &Line) -> Result<Option<LifeProof>, NoMemory>
-        ensures made { IfOk result (λ o. IfSome o (λ p. StandsAt p line.now.frame line.now.state × (p.side ≡ self.now.side) × (p.tree ≡ self.now.tree))) }
+        ensures made { IfOk result
+            (λ o. IfSome o (λ p. StandsAt p line.now.frame line.now.state × (p.side ≡ self.now.side)
+            × (p.tree ≡ self.now.tree))) }
         ensures stands { StandsAt self.now line.now.frame line.now.state → result ≢ Ok None }
     {
         let Some(own) = self.footprint_if_known(line) else {
@@ -209,7 +215,8 @@ impl LifeProof {
     fn into_tree_and_footprint(self) -> (MeasuredTree, Footprint, bool)
         ensures measured_tree { result.0 ≡ self.tree }
         ensures wins { IsWinningTreeUnder at_win_or_life self.side self.frame self.state self.tree }
-        ensures at_wins { IsTrue result.2 → IsWinningTree self.side self.frame self.state self.tree }
+        ensures at_wins { IsTrue result.2
+            → IsWinningTree self.side self.frame self.state self.tree }
         ensures footprint { IsFootprint self.frame self.state self.tree result.1 }
     {
         let LifeProof {
@@ -225,7 +232,8 @@ impl LifeProof {
     /// The proof at a line where the side has won or lives.
     pub fn done(alloc: Global, line: &Line, side: Side) -> Result<LifeProof, NoMemory>
         requires { HasWonOrLives side line.now.frame line.now.state }
-        ensures { IfOk result (λ p. StandsAt p line.now.frame line.now.state × (p.side ≡ side) × (p.tree ≡ done)) }
+        ensures { IfOk result
+            (λ p. StandsAt p line.now.frame line.now.state × (p.side ≡ side) × (p.tree ≡ done)) }
     {
         let ends_at_wins = line.winner() == Some(side);
         let snapshot = line.snapshot()?;
@@ -276,7 +284,8 @@ impl LifeProof {
         requires nobody { winner_of line.now.frame line.now.state ≡ None }
         requires turns { turns_of children.items ≡ legal_turns line.now.frame line.now.state }
         requires children { AreReplyChildren line.now.frame line.now.state children.items }
-        ensures { IfOk result (λ p. StandsAt p line.now.frame line.now.state × (p.side ≡ opponent line.now.state.to_move)
+        ensures { IfOk result (λ p. StandsAt p line.now.frame line.now.state
+            × (p.side ≡ opponent line.now.state.to_move)
             × (p.tree ≡ reply (entries_of (trees_by_turn children.items)))) }
     {
         let mut footprint = Footprint::of_empty_reply(alloc, line)?;
@@ -345,7 +354,8 @@ fn is_outside_or_in_snapshot(
     snapshot: &Snapshot,
     board: &Board,
 ) -> bool
-    ensures { IsTrue result → MayContainBoard bound.now board.now → Contains (history snapshot.now.state) board.now.points }
+    ensures { IsTrue result → MayContainBoard bound.now board.now
+        → Contains (history snapshot.now.state) board.now.points }
 {
     if is_board_within(bound, board) {
         return snapshot.has_later_board(board);
@@ -359,7 +369,9 @@ fn are_outside_or_in_snapshot(
     snapshot: &Snapshot,
     boards: &[Board],
 ) -> bool
-    ensures { IsTrue result → All (λ b. MayContainBoard bound.now b → Contains (history snapshot.now.state) b.points) boards.now }
+    ensures { IsTrue result
+        → All (λ b. MayContainBoard bound.now b
+        → Contains (history snapshot.now.state) b.points) boards.now }
 {
     for board in boards {
         if !is_outside_or_in_snapshot(bound, snapshot, board) {

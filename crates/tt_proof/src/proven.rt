@@ -126,7 +126,8 @@ impl Proof {
 
     /// Whether the proof's own position has the key of the line's.
     pub fn has_key_of(&self, line: &Line) -> bool
-        ensures { IsTrue result ↔ (key_of self.now.frame self.now.state ≡ key_of line.now.frame line.now.state) }
+        ensures { IsTrue result
+            ↔ (key_of self.now.frame self.now.state ≡ key_of line.now.frame line.now.state) }
     {
         self.life_proof.has_key_of(line)
     }
@@ -157,7 +158,8 @@ impl Proof {
     /// turn is played, and it takes no memory. A tree can win where it doesn't fit: there `replay` decides.
     pub fn fits(&self, line: &Line) -> bool
         ensures fits { IsTrue result ↔ FitsAt self.now line.now.frame line.now.state }
-        ensures wins { IsTrue result → IsWinningTree self.now.side line.now.frame line.now.state self.now.tree }
+        ensures wins { IsTrue result
+            → IsWinningTree self.now.side line.now.frame line.now.state self.now.tree }
     {
         self.life_proof.fits(line)
     }
@@ -166,7 +168,8 @@ impl Proof {
     /// proof's size. It stands as before, also after want of memory.
     pub fn wins_at(&self, line: &mut Line) -> Result<bool, NoMemory>
         requires { self.now.frame.size ≡ line.old.frame.size }
-        ensures exact { IfOk result (λ wins. IsTrue wins ↔ IsWinningTree self.now.side line.old.frame line.old.state self.now.tree) }
+        ensures exact { IfOk result (λ wins. IsTrue wins
+            ↔ IsWinningTree self.now.side line.old.frame line.old.state self.now.tree) }
         ensures unasked { FitsAt self.now line.old.frame line.old.state → result ≡ Ok true }
         ensures same { line.new ≡ line.old }
     {
@@ -181,8 +184,10 @@ impl Proof {
     /// with which the proof's begins too, was made where the proof stood, too, or lies outside the bound of all boards that turns of
     /// the other side make.
     pub fn footprint_if_known(&self, line: &Line) -> Option<&Footprint>
-        ensures wins { IfSome result (λ _. IsWinningTree self.now.side line.now.frame line.now.state self.now.tree) }
-        ensures exact { IfSome result (λ x. IsFootprint line.now.frame line.now.state self.now.tree x.now) }
+        ensures wins { IfSome result
+            (λ _. IsWinningTree self.now.side line.now.frame line.now.state self.now.tree) }
+        ensures exact { IfSome result
+            (λ x. IsFootprint line.now.frame line.now.state self.now.tree x.now) }
         ensures stands { StandsAt self.now line.now.frame line.now.state → result ≢ None }
     {
         self.life_proof.footprint_if_known(line)
@@ -192,7 +197,8 @@ impl Proof {
     /// found by one. The line stands as before, also after want of memory.
     pub fn footprint_at(&self, alloc: Global, line: &mut Line) -> Result<Footprint, NoMemory>
         requires wins { IsWinningTree self.now.side line.old.frame line.old.state self.now.tree }
-        ensures exact { IfOk result (λ x. IsFootprint line.old.frame line.old.state self.now.tree x) }
+        ensures exact { IfOk result
+            (λ x. IsFootprint line.old.frame line.old.state self.now.tree x) }
         ensures same { line.new ≡ line.old }
     {
         match self.footprint_if_known(line) {
@@ -206,7 +212,8 @@ impl Proof {
     pub fn replayed(alloc: Global, line: &mut Line, s: Side, t: Tree) -> Result<Proof, Rejected>
         requires depth { depth (strategy_of t) ≤ MOST_DEPTH }
         requires in_order { IsInOrder line.old.frame.size (strategy_of t) }
-        ensures made { IfOk result (λ p. StandsAt p line.old.frame line.old.state × (p.side ≡ s) × (p.tree ≡ strategy_of t)) }
+        ensures made { IfOk result (λ p. StandsAt p line.old.frame line.old.state × (p.side ≡ s)
+            × (p.tree ≡ strategy_of t)) }
         ensures rejected { IfErr result (λ e. IsRejected e s line.old.frame line.old.state t) }
         ensures same { line.new ≡ line.old }
     {
@@ -262,7 +269,8 @@ impl Proof {
         requires nobody { winner_of line.now.frame line.now.state ≡ None }
         requires turns { turns_of children.items ≡ legal_turns line.now.frame line.now.state }
         requires children { AreReplyChildren line.now.frame line.now.state children.items }
-        ensures { IfOk result (λ p. StandsAt p line.now.frame line.now.state × (p.side ≡ opponent line.now.state.to_move)
+        ensures { IfOk result (λ p. StandsAt p line.now.frame line.now.state
+            × (p.side ≡ opponent line.now.state.to_move)
             × (p.tree ≡ reply (entries_of (trees_by_turn children.items)))) }
     {
         let children = life_proofs_of(alloc, children)?;
@@ -274,7 +282,8 @@ impl Proof {
     /// walk, else it is found by one. The line stands as before, also after want of memory.
     pub fn moved_to(&self, alloc: Global, line: &mut Line) -> Result<Proof, NoMemory>
         requires wins { IsWinningTree self.now.side line.old.frame line.old.state self.now.tree }
-        ensures made { IfOk result (λ p. StandsAt p line.old.frame line.old.state × (p.side ≡ self.now.side) × (p.tree ≡ self.now.tree)) }
+        ensures made { IfOk result (λ p. StandsAt p line.old.frame line.old.state
+            × (p.side ≡ self.now.side) × (p.tree ≡ self.now.tree)) }
         ensures same { line.new ≡ line.old }
     {
         let measured_tree = self.measured_tree().try_clone()?;
@@ -309,7 +318,8 @@ impl Proof {
     ) -> Result<Proof, NoMemory>
         requires wins { IsWinningTree s line.now.frame line.now.state measured_tree }
         requires footprint { IsFootprint line.now.frame line.now.state measured_tree footprint }
-        ensures { IfOk result (λ p. StandsAt p line.now.frame line.now.state × (p.side ≡ s) × (p.tree ≡ measured_tree)) }
+        ensures { IfOk result (λ p. StandsAt p line.now.frame line.now.state × (p.side ≡ s)
+            × (p.tree ≡ measured_tree)) }
     {
         let snapshot = line.snapshot()?;
         let life_proof = LifeProof::of_win(snapshot, s, measured_tree, footprint);
@@ -340,8 +350,10 @@ fn snapshot_and_footprint(
 ) -> Result<(Snapshot, Footprint), NoMemory>
     requires depth { depth (strategy_of t.now) ≤ MOST_DEPTH }
     requires in_order { IsInOrder line.old.frame.size (strategy_of t.now) }
-    ensures stands { IfOk result (λ r. (r.0.frame ≡ line.old.frame) × (r.0.state ≡ line.old.state)) }
-    ensures exact { IfOk result (λ r. IsFootprint line.old.frame line.old.state (strategy_of t.now) r.1) }
+    ensures stands { IfOk result
+        (λ r. (r.0.frame ≡ line.old.frame) × (r.0.state ≡ line.old.state)) }
+    ensures exact { IfOk result
+        (λ r. IsFootprint line.old.frame line.old.state (strategy_of t.now) r.1) }
     ensures same { line.new ≡ line.old }
 {
     let footprint = footprint_of(alloc, t, line)?;

@@ -39,7 +39,9 @@ fn has_turn_at(list: &[(Turn, Tree)], index: usize, turn: Turn) -> bool
 /// Whether the play has an entry, or is not legal. It is made only where it has none.
 fn is_answered_or_illegal(list: &[(Turn, Tree)], line: &Line, p: Point) -> bool
     requires { p < point_count line.now.frame.size }
-    ensures { IsTrue result ↔ (IsLegal line.now.frame line.now.state (Turn.Play p) → HasEntry (entries_of_reply list.now) (Turn.Play p)) }
+    ensures { IsTrue result
+        ↔ (IsLegal line.now.frame line.now.state (Turn.Play p)
+        → HasEntry (entries_of_reply list.now) (Turn.Play p)) }
 {
     line.present().at(p).is_some()
         || has_turn(list, Turn::Play(p))
@@ -49,7 +51,9 @@ fn is_answered_or_illegal(list: &[(Turn, Tree)], line: &Line, p: Point) -> bool
 /// Whether each legal play has an entry. Entries mostly stand in the order of their points: so the one behind the last
 /// that was found is looked at first.
 fn plays_are_answered(list: &[(Turn, Tree)], line: &Line) -> bool
-    ensures { IsTrue result ↔ ((p : ℕ) → IsLegal line.now.frame line.now.state (Turn.Play p) → HasEntry (entries_of_reply list.now) (Turn.Play p)) }
+    ensures { IsTrue result
+        ↔ ((p : ℕ) → IsLegal line.now.frame line.now.state (Turn.Play p)
+        → HasEntry (entries_of_reply list.now) (Turn.Play p)) }
 {
     let frame = line.frame();
     let mut index = 0;
@@ -67,14 +71,17 @@ fn plays_are_answered(list: &[(Turn, Tree)], line: &Line) -> bool
 
 /// Whether nobody has won and the other side is to move.
 pub fn awaits_other_side(s: Side, line: &Line) -> bool
-    ensures { IsTrue result ↔ ((winner_of line.now.frame line.now.state ≡ None) × (line.now.state.to_move ≡ opponent s)) }
+    ensures { IsTrue result
+        ↔ ((winner_of line.now.frame line.now.state ≡ None)
+        × (line.now.state.to_move ≡ opponent s)) }
 {
     line.winner().is_none() && line.to_move() == s.opponent()
 }
 
 /// Whether the other side is to move and the list has an entry for each of its turns.
 fn awaits_and_answers_each_turn(list: &[(Turn, Tree)], s: Side, line: &Line) -> bool
-    ensures { IsTrue result ↔ AnswersEach s line.now.frame line.now.state (entries_of_reply list.now) }
+    ensures { IsTrue result
+        ↔ AnswersEach s line.now.frame line.now.state (entries_of_reply list.now) }
 {
     awaits_other_side(s, line) && has_turn(list, Turn::Pass) && plays_are_answered(list, line)
 }
@@ -90,7 +97,8 @@ fn replay_after(
     requires depth { depth (strategy_of child.now) ≤ MOST_DEPTH }
     requires on_board { IsTurnOnBoardOfSize line.old.frame.size turn }
     requires in_order { IsInOrder line.old.frame.size (strategy_of child.now) }
-    ensures exact { IfOk result (λ answer. AnswersAfter at_win s line.old.frame line.old.state turn (strategy_of child.now) answer) }
+    ensures exact { IfOk result
+        (λ answer. AnswersAfter at_win s line.old.frame line.old.state turn (strategy_of child.now) answer) }
     ensures same { line.new ≡ line.old }
 {
     match line.push(turn) {
@@ -109,7 +117,8 @@ fn replay_after(
 fn replay_entries(list: &[(Turn, Tree)], s: Side, line: &mut Line) -> Result<bool, NoMemory>
     requires depth { depth_of_entries (entries_of_reply list.now) ≤ MOST_DEPTH }
     requires in_order { AreInOrder line.old.frame.size 0 (entries_of_reply list.now) }
-    ensures exact { IfOk result (λ wins. IsTrue wins ↔ LegalWin at_win s line.old.frame line.old.state (entries_of_reply list.now)) }
+    ensures exact { IfOk result (λ wins. IsTrue wins
+        ↔ LegalWin at_win s line.old.frame line.old.state (entries_of_reply list.now)) }
     ensures same { line.new ≡ line.old }
 {
     for (turn, child) in list {
@@ -125,7 +134,8 @@ fn replay_pick(turn: Turn, child: &Tree, s: Side, line: &mut Line) -> Result<boo
     requires depth { depth (strategy_of child.now) ≤ MOST_DEPTH }
     requires on_board { IsTurnOnBoardOfSize line.old.frame.size turn }
     requires in_order { IsInOrder line.old.frame.size (strategy_of child.now) }
-    ensures exact { IfOk result (λ wins. IsTrue wins ↔ Wins s line.old.frame (pick turn (strategy_of child.now)) line.old.state) }
+    ensures exact { IfOk result (λ wins. IsTrue wins
+        ↔ Wins s line.old.frame (pick turn (strategy_of child.now)) line.old.state) }
     ensures same { line.new ≡ line.old }
 {
     if line.to_move() != s {
@@ -139,7 +149,8 @@ fn replay_pick(turn: Turn, child: &Tree, s: Side, line: &mut Line) -> Result<boo
 fn replay_reply(list: &[(Turn, Tree)], s: Side, line: &mut Line) -> Result<bool, NoMemory>
     requires depth { depth_of_entries (entries_of_reply list.now) ≤ MOST_DEPTH }
     requires in_order { AreInOrder line.old.frame.size 0 (entries_of_reply list.now) }
-    ensures exact { IfOk result (λ wins. IsTrue wins ↔ Wins s line.old.frame (reply (entries_of_reply list.now)) line.old.state) }
+    ensures exact { IfOk result (λ wins. IsTrue wins
+        ↔ Wins s line.old.frame (reply (entries_of_reply list.now)) line.old.state) }
     ensures same { line.new ≡ line.old }
 {
     if !awaits_and_answers_each_turn(list, s, line) {
@@ -155,7 +166,8 @@ fn replay_reply(list: &[(Turn, Tree)], s: Side, line: &mut Line) -> Result<bool,
 pub fn replay(t: &Tree, s: Side, line: &mut Line) -> Result<bool, NoMemory>
     requires depth { depth (strategy_of t.now) ≤ MOST_DEPTH }
     requires in_order { IsInOrder line.old.frame.size (strategy_of t.now) }
-    ensures exact { IfOk result (λ wins. IsTrue wins ↔ Wins s line.old.frame (strategy_of t.now) line.old.state) }
+    ensures exact { IfOk result (λ wins. IsTrue wins
+        ↔ Wins s line.old.frame (strategy_of t.now) line.old.state) }
     ensures same { line.new ≡ line.old }
 {
     match t {

@@ -92,7 +92,8 @@ impl SharedBoardSet {
 
     /// The set without the board.
     pub fn without(self, alloc: Global, board: &Board) -> Result<SharedBoardSet, NoMemory>
-        ensures { IfOk result (λ s. (b : Position) → Contains s b ↔ (Contains self b × (b ≢ board.now))) }
+        ensures { IfOk result (λ s. (b : Position)
+            → Contains s b ↔ (Contains self b × (b ≢ board.now))) }
     {
         if !self.has(board) {
             return Ok(self);
@@ -104,7 +105,8 @@ impl SharedBoardSet {
 
     /// The set with the board.
     pub fn with(self, alloc: Global, board: &Board) -> Result<SharedBoardSet, NoMemory>
-        ensures { IfOk result (λ s. (b : Position) → Contains s b ↔ (Contains self b ⊎ (b ≡ board.now))) }
+        ensures { IfOk result (λ s. (b : Position)
+            → Contains s b ↔ (Contains self b ⊎ (b ≡ board.now))) }
     {
         let mut set = self.into_set(alloc)?;
         set.add(alloc, board)?;
@@ -122,7 +124,8 @@ impl SharedBoardSet {
 
     /// Both sets in one: one of them, where it holds all of the other.
     pub fn joined(self, alloc: Global, others: SharedBoardSet) -> Result<SharedBoardSet, NoMemory>
-        ensures { IfOk result (λ s. (b : Position) → Contains s b ↔ (Contains self b ⊎ Contains others b)) }
+        ensures { IfOk result (λ s. (b : Position)
+            → Contains s b ↔ (Contains self b ⊎ Contains others b)) }
     {
         if self.has_all_of(&others) {
             return Ok(self);
@@ -138,14 +141,18 @@ impl SharedBoardSet {
 
     /// Whether all are boards of the line's history.
     pub fn all_in_history(&self, line: &Line) -> bool
-        ensures { IsTrue result ↔ ((b : Position) → Contains self.now b → HasBoardInHistory line.now.frame line.now.state b) }
+        ensures { IsTrue result
+            ↔ ((b : Position)
+            → Contains self.now b → HasBoardInHistory line.now.frame line.now.state b) }
     {
         self.set().all_in_history(line)
     }
 
     /// Whether none is a board of the line's history. Where these are fewer, each is looked up here.
     pub fn none_in_history(&self, line: &Line) -> bool
-        ensures { IsTrue result ↔ ((b : Position) → Contains self.now b → HasBoardInHistory line.now.frame line.now.state b → ⊥) }
+        ensures { IsTrue result
+            ↔ ((b : Position)
+            → Contains self.now b → HasBoardInHistory line.now.frame line.now.state b → ⊥) }
     {
         let boards = line.history();
         let set = self.set();

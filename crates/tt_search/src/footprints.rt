@@ -36,7 +36,8 @@ impl Node {
         side: Side,
     ) -> Result<Footprint, NoMemory>
         requires { IsSettledAt side line.old.frame line.old.state self.now }
-        ensures exact { IfOk result (λ x. IsFootprint line.old.frame line.old.state (strategy_for side self.now) x) }
+        ensures exact { IfOk result
+            (λ x. IsFootprint line.old.frame line.old.state (strategy_for side self.now) x) }
         ensures same { line.new ≡ line.old }
     {
         match &self.node_state {
@@ -66,7 +67,8 @@ impl Node {
         requires legal { IsLegal line.old.frame line.old.state turn }
         requires settled { IsSettledAt side line.old.frame (after line.old.frame line.old.state turn) self.now }
         ensures board { IfOk result (λ r. IsBoardAfter line.old.frame line.old.state turn r.0) }
-        ensures exact { IfOk result (λ r. IsFootprint line.old.frame (after line.old.frame line.old.state turn) (strategy_for side self.now) r.1) }
+        ensures exact { IfOk result
+            (λ r. IsFootprint line.old.frame (after line.old.frame line.old.state turn) (strategy_for side self.now) r.1) }
         ensures same { line.new ≡ line.old }
     {
         line.push_legal(turn)?;
@@ -92,7 +94,8 @@ impl Child<'_> {
         requires legal { IsLegal line.old.frame line.old.state turn }
         requires settled { IsSettledAt side line.old.frame (after line.old.frame line.old.state turn) (child_tree self) }
         ensures board { IfOk result (λ r. IsBoardAfter line.old.frame line.old.state turn r.0) }
-        ensures exact { IfOk result (λ r. IsFootprint line.old.frame (after line.old.frame line.old.state turn) (strategy_for side (child_tree self.entry)) r.1) }
+        ensures exact { IfOk result
+            (λ r. IsFootprint line.old.frame (after line.old.frame line.old.state turn) (strategy_for side (child_tree self.entry)) r.1) }
         ensures same { line.new ≡ line.old }
     {
         match self {
@@ -117,7 +120,8 @@ impl ChildNodes {
     ) -> Result<Footprint, NoMemory>
         requires whole { HasItsNodes self.now }
         requires settled { IsSettledAt side line.old.frame line.old.state (node_with (choices_of mover self.now)) }
-        ensures exact { IfOk result (λ x. IsFootprint line.old.frame line.old.state (strategy_for side (node_with (choices_of mover self.now))) x) }
+        ensures exact { IfOk result
+            (λ x. IsFootprint line.old.frame line.old.state (strategy_for side (node_with (choices_of mover self.now))) x) }
         ensures same { line.new ≡ line.old }
     {
         if is_same_side(side, mover) {
@@ -158,7 +162,8 @@ fn pick_footprint(
 
 /// The points of the plays among the edges' turns.
 fn points_of_plays(edges: &[Edge]) -> PointSet
-    ensures { (f : Frame) (s : State) → EachIsLegal f s (edge_turns edges.now) → AreLegalPlays f s result }
+    ensures { (f : Frame) (s : State) → EachIsLegal f s (edge_turns edges.now)
+        → AreLegalPlays f s result }
 {
     let mut points = PointSet::empty();
     for edge in edges {

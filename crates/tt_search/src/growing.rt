@@ -42,7 +42,8 @@ fn ask_grant<G: Grants>(step: Step, grants: &mut G) -> bool
     requires room { step ≡ Expanded → (G.asked grants.old).granted < 2 ^ 64 - 1 }
     requires unasked { step ≢ Stuck Total }
     ensures granted { result ≡ true → IsAskOfStep (G.asked grants.old) step (G.asked grants.new) }
-    ensures refused { result ≡ false → (step ≡ Expanded) × IsAskOfStep (G.asked grants.old) (Stuck Total) (G.asked grants.new) }
+    ensures refused { result ≡ false
+        → (step ≡ Expanded) × IsAskOfStep (G.asked grants.old) (Stuck Total) (G.asked grants.new) }
     ensures source { G.source grants.new ≡ G.source grants.old }
 {
     match step {

@@ -99,7 +99,8 @@ fn edges_to_new_leaves(alloc: Global, plays: &mut LegalPlays) -> Result<Edges, N
 /// The legal plays, where these are many and nobody has won behind any turn.
 fn many_plays_if_none_wins(plays: &mut LegalPlays) -> Option<UntriedPlays>
     requires { plays.old.from ≡ 0 }
-    ensures edges { IfSome result (λ found. AreNewEdges plays.old.frame plays.old.state (plays_and_pass found)) }
+    ensures edges { IfSome result
+        (λ found. AreNewEdges plays.old.frame plays.old.state (plays_and_pass found)) }
     ensures untried { IfSome result (λ found. AreUntried (plays_and_pass found)) }
     ensures same { (plays.new.frame ≡ plays.old.frame) × (plays.new.state ≡ plays.old.state) }
 {
@@ -142,7 +143,8 @@ pub(crate) fn untried_children(
 ) -> Result<(BestChild, ChildNodes), NoMemory>
     requires { AreUntried (plays_and_pass plays.now) }
     ensures mover { IfOk result (λ x. x.0.mover ≡ mover) }
-    ensures children { IfOk result (λ x. choices_of x.0.mover x.1 ≡ choices_with mover (plays_and_pass plays.now) []) }
+    ensures children { IfOk result
+        (λ x. choices_of x.0.mover x.1 ≡ choices_with mover (plays_and_pass plays.now) []) }
     ensures kept { IfOk result (λ x. IsKept x.0 x.1) }
 {
     let edges = plays.edges_with_pass(alloc)?;

@@ -21,7 +21,8 @@ pub struct Limits {
 impl Limits {
     /// These limits, where the budget is 1 to `MOST_EXPANDED` and the depth at most `MOST_DEPTH`.
     pub fn new(budget: u32, depth: u16) -> Option<Limits>
-        ensures made { IsSome result ↔ ((1 ≤ budget) × (budget ≤ MOST_EXPANDED) × (depth ≤ MOST_DEPTH)) }
+        ensures made { IsSome result
+            ↔ ((1 ≤ budget) × (budget ≤ MOST_EXPANDED) × (depth ≤ MOST_DEPTH)) }
         ensures limits { IfSome result (λ l. (l.budget ≡ budget) × (l.depth ≡ depth)) }
     {
         if budget >= 1 && budget <= MOST_EXPANDED && depth <= MOST_DEPTH {

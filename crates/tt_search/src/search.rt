@@ -58,7 +58,8 @@ impl Model for Search {
 impl Search {
     /// A search at the line, with a tree that is only the root.
     pub fn new(alloc: Global, line: Line, limits: Limits) -> Result<Search, NoMemory>
-        ensures { result ≡ Ok (record { line = line; limits = limits; tree = new_leaf line.frame line.state }) }
+        ensures { result
+            ≡ Ok (record { line = line; limits = limits; tree = new_leaf line.frame line.state }) }
     {
         let root = new_leaf(line.winner());
         let walk = Descent {

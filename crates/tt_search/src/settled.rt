@@ -115,7 +115,8 @@ impl Node {
         requires stays { StaysWithin walk.old.line.frame.size MOST_DEPTH self.old }
         ensures same { self.new ≡ self.old }
         ensures walk { walk.new ≡ walk.old }
-        ensures shut { walk.old.offering ≡ false → (result ≡ false) × (S.kept store.new ≡ S.kept store.old) }
+        ensures shut { walk.old.offering ≡ false
+            → (result ≡ false) × (S.kept store.new ≡ S.kept store.old) }
     {
         if !walk.offering || store.kept() == store.capacity() {
             return walk.offering;
@@ -172,7 +173,8 @@ impl ChildNodes {
 fn pick_tree(alloc: Global, side: Side, children: &ChildNodes) -> Result<MeasuredTree, NoMemory>
     requires whole { HasItsNodes children.now }
     requires settled { least (child_numbers side (children_in children.now)) ≡ 0 }
-    ensures { IfOk result (λ p. p ≡ pick_at side (first_settled_index side (children_in children.now)) (edge_turns children.now.edges) (children_in children.now)) }
+    ensures { IfOk result
+        (λ p. p ≡ pick_at side (first_settled_index side (children_in children.now)) (edge_turns children.now.edges) (children_in children.now)) }
 {
     let (index, rank) = children.first_settled_index(side);
     if index >= children.edges.len() {
@@ -192,7 +194,8 @@ fn reply_tree(
 ) -> Result<MeasuredTree, NoMemory>
     requires whole { grown_in edges.now ≡ length grown.now }
     requires settled { AreZero side (children_of (edge_trees edges.now grown.now)) }
-    ensures { IfOk result (λ p. p ≡ reply (replies side (edge_turns edges.now) (children_of (edge_trees edges.now grown.now)))) }
+    ensures { IfOk result
+        (λ p. p ≡ reply (replies side (edge_turns edges.now) (children_of (edge_trees edges.now grown.now)))) }
 {
     let mut answers = ReplyBuilder::with_capacity(alloc, edges.len())?;
     let mut rest = grown;

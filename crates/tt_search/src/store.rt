@@ -57,8 +57,10 @@ pub trait Store {
 
     /// What `find` answers for both sides, in one look.
     fn find_both(&mut self, line: &Line) -> Result<ProofPerSide, NoMemory>
-        ensures attacker { IfOk result (λ a. IfSome a.attacker (λ p. HasKeyAndSide line.now Attacker p.value)) }
-        ensures defender { IfOk result (λ a. IfSome a.defender (λ p. HasKeyAndSide line.now Defender p.value)) }
+        ensures attacker { IfOk result
+            (λ a. IfSome a.attacker (λ p. HasKeyAndSide line.now Attacker p.value)) }
+        ensures defender { IfOk result
+            (λ a. IfSome a.defender (λ p. HasKeyAndSide line.now Defender p.value)) }
         ensures may_attacker { IfOk result (λ a. IfSome a.attacker (λ _. may_answer)) }
         ensures may_defender { IfOk result (λ a. IfSome a.defender (λ _. may_answer)) }
         ensures capacity { capacity self.new ≡ capacity self.old }

@@ -72,7 +72,8 @@ impl Bits {
     pub fn set(&mut self, n: usize)
         requires { n < BITS }
         ensures same { bit_in self.new.words n ≡ true }
-        ensures others { (q : ℕ) → q < BITS → (q ≡ n → ⊥) → bit_in self.new.words q ≡ bit_in self.old.words q }
+        ensures others { (q : ℕ) → q < BITS → (q ≡ n → ⊥)
+            → bit_in self.new.words q ≡ bit_in self.old.words q }
     {
         self.words[n / 64] |= 1 << (n % 64);
     }
@@ -81,7 +82,8 @@ impl Bits {
     pub fn clear_bit(&mut self, n: usize)
         requires { n < BITS }
         ensures same { bit_in self.new.words n ≡ false }
-        ensures others { (q : ℕ) → q < BITS → (q ≡ n → ⊥) → bit_in self.new.words q ≡ bit_in self.old.words q }
+        ensures others { (q : ℕ) → q < BITS → (q ≡ n → ⊥)
+            → bit_in self.new.words q ≡ bit_in self.old.words q }
     {
         self.words[n / 64] &= !(1 << (n % 64));
     }
@@ -90,7 +92,8 @@ impl Bits {
     pub fn write_bit(&mut self, n: usize, on: bool)
         requires { n < BITS }
         ensures same { bit_in self.new.words n ≡ on }
-        ensures others { (q : ℕ) → q < BITS → (q ≡ n → ⊥) → bit_in self.new.words q ≡ bit_in self.old.words q }
+        ensures others { (q : ℕ) → q < BITS → (q ≡ n → ⊥)
+            → bit_in self.new.words q ≡ bit_in self.old.words q }
     {
         if on {
             self.set(n);
@@ -104,7 +107,8 @@ impl Bits {
         requires { from ≤ BITS }
         ensures after { from ≤ result }
         ensures most { result ≤ BITS }
-        ensures none { (q : ℕ) → from ≤ q → q < result → q < BITS → bit_in self.now.words q ≡ false }
+        ensures none { (q : ℕ) → from ≤ q → q < result → q < BITS
+            → bit_in self.now.words q ≡ false }
         ensures found { result < BITS → bit_in self.now.words result ≡ true }
     {
         let mut n = from;
@@ -133,7 +137,8 @@ impl Bits {
 
     /// The bits of the numbers below `count`, with 0 for all others.
     pub fn truncated_to(&self, count: usize) -> Bits
-        ensures kept { (q : ℕ) → q < BITS → q < count → bit_in result.words q ≡ bit_in self.now.words q }
+        ensures kept { (q : ℕ) → q < BITS → q < count
+            → bit_in result.words q ≡ bit_in self.now.words q }
         ensures none { (q : ℕ) → q < BITS → count ≤ q → bit_in result.words q ≡ false }
     {
         let mut words = [0u64; 6];
@@ -145,7 +150,8 @@ impl Bits {
 
     /// The bits that are 1 in the first alone.
     pub fn minus(&self, other: &Bits) -> Bits
-        ensures { (q : ℕ) → q < BITS → bit_in result.words q ≡ (bit_in self.now.words q && not (bit_in other.now.words q)) }
+        ensures { (q : ℕ) → q < BITS
+            → bit_in result.words q ≡ (bit_in self.now.words q && not (bit_in other.now.words q)) }
     {
         let mut words = [0u64; 6];
         for k in 0..6 {
@@ -156,7 +162,8 @@ impl Bits {
 
     /// The bits that are 1 in both.
     pub fn and(&self, other: &Bits) -> Bits
-        ensures { (q : ℕ) → q < BITS → bit_in result.words q ≡ (bit_in self.now.words q && bit_in other.now.words q) }
+        ensures { (q : ℕ) → q < BITS
+            → bit_in result.words q ≡ (bit_in self.now.words q && bit_in other.now.words q) }
     {
         let mut words = [0u64; 6];
         for k in 0..6 {
@@ -167,7 +174,8 @@ impl Bits {
 
     /// The bits that are 1 in one or both.
     pub fn or(&self, other: &Bits) -> Bits
-        ensures { (q : ℕ) → q < BITS → bit_in result.words q ≡ (bit_in self.now.words q || bit_in other.now.words q) }
+        ensures { (q : ℕ) → q < BITS
+            → bit_in result.words q ≡ (bit_in self.now.words q || bit_in other.now.words q) }
     {
         let mut words = [0u64; 6];
         for k in 0..6 {
@@ -178,7 +186,8 @@ impl Bits {
 
     /// The bits that are 1 in one alone.
     pub fn xor(&self, other: &Bits) -> Bits
-        ensures { (q : ℕ) → q < BITS → (bit_in result.words q ≡ false) ↔ (bit_in self.now.words q ≡ bit_in other.now.words q) }
+        ensures { (q : ℕ) → q < BITS → (bit_in result.words q ≡ false)
+            ↔ (bit_in self.now.words q ≡ bit_in other.now.words q) }
     {
         let mut words = [0u64; 6];
         for k in 0..6 {
@@ -192,7 +201,8 @@ impl Bits {
     pub fn shift_to_higher(&self, k: usize) -> Bits
         requires some { 0 < k }
         requires few { k < 64 }
-        ensures moved { (q : ℕ) → q + k < BITS → bit_in result.words (q + k) ≡ bit_in self.now.words q }
+        ensures moved { (q : ℕ) → q + k < BITS
+            → bit_in result.words (q + k) ≡ bit_in self.now.words q }
         ensures low { (q : ℕ) → q < k → bit_in result.words q ≡ false }
     {
         let mut words = [0u64; 6];
@@ -208,7 +218,8 @@ impl Bits {
     pub fn shift_to_lower(&self, k: usize) -> Bits
         requires some { 0 < k }
         requires few { k < 64 }
-        ensures moved { (q : ℕ) → q + k < BITS → bit_in result.words q ≡ bit_in self.now.words (q + k) }
+        ensures moved { (q : ℕ) → q + k < BITS
+            → bit_in result.words q ≡ bit_in self.now.words (q + k) }
         ensures high { (q : ℕ) → BITS ≤ q + k → q < BITS → bit_in result.words q ≡ false }
     {
         let mut words = [0u64; 6];

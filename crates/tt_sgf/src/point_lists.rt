@@ -23,7 +23,8 @@ struct Rectangle {
 /// The column and the row of two letters, where they are on the board.
 fn read_corner(column: u8, row: u8, size: Size) -> Option<(u16, u16)>
     ensures { MatchOption result (are_letters_on_board size column row ≡ false)
-        (λ p. (are_letters_on_board size column row ≡ true) × (p.0 ≡ column - lower_a) × (p.1 ≡ row - lower_a)) }
+        (λ p. (are_letters_on_board size column row ≡ true) × (p.0 ≡ column - lower_a)
+        × (p.1 ≡ row - lower_a)) }
 {
     if column < b'a' || row < b'a' {
         return None;
@@ -77,7 +78,8 @@ fn is_in_rectangle(e: Rectangle, number: u16, columns: u16) -> bool
 
 /// The set with the points of the rectangle.
 fn with_rectangle(points: &PointSet, e: Rectangle, size: Size) -> PointSet
-    ensures { (q : ℕ) → set.contains result q ≡ (set.contains points.now q || (nat_lt q (size.columns * size.rows) && in_rectangle size.columns e q)) }
+    ensures { (q : ℕ) → set.contains result q
+        ≡ (set.contains points.now q || (nat_lt q (size.columns * size.rows) && in_rectangle size.columns e q)) }
 {
     let mut made = points.copy();
     for number in 0..size.columns() * size.rows() {
@@ -97,8 +99,10 @@ fn with_rectangle(points: &PointSet, e: Rectangle, size: Size) -> PointSet
 /// # Errors
 /// `BadPoint` exactly where some value names no point or rectangle of the board.
 pub fn point_set(values: &[SmallBytes], size: Size) -> Result<PointSet, BadPoint>
-    ensures reads { MatchResult result (λ s. set_of size values.now ≡ Some s) (λ _. set_of size values.now ≡ None) }
-    ensures covered { IfOk result (λ s. (p : ℕ) → (set.contains s p ≡ true) ↔ SomeEntryCovers size values.now p) }
+    ensures reads { MatchResult result
+        (λ s. set_of size values.now ≡ Some s) (λ _. set_of size values.now ≡ None) }
+    ensures covered { IfOk result (λ s. (p : ℕ)
+        → (set.contains s p ≡ true) ↔ SomeEntryCovers size values.now p) }
     ensures ok { OnOk result (AreEntries size values.now) }
     ensures bad { OnErr result (AreEntries size values.now → ⊥) }
 {

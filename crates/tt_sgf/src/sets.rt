@@ -83,7 +83,8 @@ impl PointSet {
     /// The point of the set with the least number: none exactly where the set is empty.
     pub fn least(&self) -> Option<Point>
         ensures { MatchOption result (self.now ≡ set.empty)
-            (λ p. (set.contains self.now p ≡ true) × ((q : ℕ) → set.contains self.now q ≡ true → p ≤ q)) }
+            (λ p. (set.contains self.now p ≡ true)
+            × ((q : ℕ) → set.contains self.now q ≡ true → p ≤ q)) }
     {
         self.least_from(0)
     }
@@ -91,7 +92,8 @@ impl PointSet {
     /// The point of the set with the least number from `from` on: none exactly where the set has none from there on.
     pub fn least_from(&self, from: u16) -> Option<Point>
         ensures { MatchOption result ((q : ℕ) → from ≤ q → set.contains self.now q ≡ false)
-            (λ p. (set.contains self.now p ≡ true) × (from ≤ p) × ((q : ℕ) → from ≤ q → q < p → set.contains self.now q ≡ false)) }
+            (λ p. (set.contains self.now p ≡ true) × (from ≤ p)
+            × ((q : ℕ) → from ≤ q → q < p → set.contains self.now q ≡ false)) }
     {
         let n = self.bits.first_from(usize::from(from).min(BITS));
         if n > 360 {

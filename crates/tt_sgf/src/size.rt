@@ -87,7 +87,8 @@ impl Size {
 
     /// The point of this number: one exactly where the number is below `point_count`.
     pub fn point(self, number: u16) -> Option<Point>
-        ensures { MatchOption result (point_count self ≤ number) (λ p. (p ≡ number) × (number < point_count self)) }
+        ensures { MatchOption result (point_count self ≤ number)
+            (λ p. (p ≡ number) × (number < point_count self)) }
     {
         if number < self.columns * self.rows {
             Some(Point(number))
@@ -107,7 +108,8 @@ impl Size {
 impl Point {
     /// The point of this number: one exactly where the number is below `MOST_POINTS`.
     pub fn new(number: u16) -> Option<Point>
-        ensures { MatchOption result (MOST_POINTS ≤ number) (λ p. (p ≡ number) × (number < MOST_POINTS)) }
+        ensures { MatchOption result (MOST_POINTS ≤ number)
+            (λ p. (p ≡ number) × (number < MOST_POINTS)) }
     {
         if number < MOST_POINTS {
             Some(Point(number))

@@ -63,7 +63,8 @@ pub fn skip_blanks(bytes: &[u8]) -> &[u8]
 /// Where the bracket of a value stands.
 fn raw_end(bytes: &[u8]) -> Option<usize>
     ensures { MatchOption result (raw_at false bytes.now ≡ None)
-        (λ i. (i < length bytes.now) × (raw_at false bytes.now ≡ Some (take i bytes.now, drop (i + 1) bytes.now))) }
+        (λ i. (i < length bytes.now)
+        × (raw_at false bytes.now ≡ Some (take i bytes.now, drop (i + 1) bytes.now))) }
 {
     let mut escaped = false;
     for (i, b) in bytes.iter().enumerate() {
@@ -134,7 +135,8 @@ pub(crate) fn has_upper(word: &[u8]) -> bool
 
 /// What is left behind white space and this byte, where it stands there.
 pub(crate) fn skip_blanks_and_byte(bytes: &[u8], byte: u8) -> Option<&[u8]>
-    ensures { MatchOption result (begins (λ b. b == byte) (after_blanks bytes.now) ≡ false) (λ r. after_blanks bytes.now ≡ byte ∷ r.now) }
+    ensures { MatchOption result (begins (λ b. b == byte) (after_blanks bytes.now) ≡ false)
+        (λ r. after_blanks bytes.now ≡ byte ∷ r.now) }
 {
     match skip_blanks(bytes).split_first() {
         Some((first, after)) if *first == byte => Some(after),

@@ -53,8 +53,10 @@ enum ParserState {
 
 /// A game tree whose first bracket is read: its main line, and what is left behind it.
 fn tree(alloc: Global, bytes: &[u8]) -> Result<(Vec<Node>, &[u8]), SgfFault>
-    ensures found { IfOk result (λ x. (t : GameTree) × Begins (open_tree ∷ bytes.now) t x.1.now × (x.0.items ≡ main_line t)) }
-    ensures none { result ≡ Err SgfFault.Syntax → (t : GameTree) (rest : List ℕ) → Begins (open_tree ∷ bytes.now) t rest → ⊥ }
+    ensures found { IfOk result (λ x. (t : GameTree) × Begins (open_tree ∷ bytes.now) t x.1.now
+        × (x.0.items ≡ main_line t)) }
+    ensures none { result ≡ Err SgfFault.Syntax → (t : GameTree) (rest : List ℕ)
+        → Begins (open_tree ∷ bytes.now) t rest → ⊥ }
     ensures short { result ≡ Err SgfFault.TooLong → ⊥ }
 {
     let mut nodes = Vec::new(alloc);
@@ -103,7 +105,8 @@ pub const MAX_BYTES: usize = 1_048_576;
 /// Where the first `(` stands.
 fn first_opening_parenthesis(bytes: &[u8]) -> Option<usize>
     ensures { MatchOption result (list_any (λ b. b == open_tree) bytes.now ≡ false)
-        (λ i. (i < length bytes.now) × (list_any (λ b. b == open_tree) (take i bytes.now) ≡ false) × (slice_index bytes.now i ≡ open_tree)) }
+        (λ i. (i < length bytes.now) × (list_any (λ b. b == open_tree) (take i bytes.now) ≡ false)
+        × (slice_index bytes.now i ≡ open_tree)) }
 {
     for (i, b) in bytes.iter().enumerate() {
         if *b == b'(' {
@@ -131,11 +134,15 @@ pub fn has_tree(bytes: &[u8]) -> bool
 /// - `Syntax` exactly where there are not, and no game tree begins at the first `(`, or there is no `(`.
 /// - `NoMemory` where memory was refused, instead of any answer but `TooLong`.
 pub fn read_tree(alloc: Global, bytes: &[u8]) -> Result<(MainLine, usize), SgfFault>
-    ensures found { IfOk result (λ x. (t : GameTree) × FirstTreeEndsAt bytes.now x.1 t × (x.0.nodes ≡ main_line t)) }
+    ensures found { IfOk result
+        (λ x. (t : GameTree) × FirstTreeEndsAt bytes.now x.1 t × (x.0.nodes ≡ main_line t)) }
     ensures line { IfOk result (λ x. IsMainLine x.0.nodes) }
-    ensures within { IfOk result (λ x. (1 ≤ x.1) × (x.1 ≤ length bytes.now) × (length bytes.now ≤ MAX_BYTES)) }
-    ensures syntax { result ≡ Err SgfFault.Syntax → (length bytes.now ≤ MAX_BYTES) × HasNoTree bytes.now }
-    ensures no_tree { length bytes.now ≤ MAX_BYTES → HasNoTree bytes.now → (result ≡ Err SgfFault.Syntax) ⊎ (result ≡ Err SgfFault.NoMemory) }
+    ensures within { IfOk result
+        (λ x. (1 ≤ x.1) × (x.1 ≤ length bytes.now) × (length bytes.now ≤ MAX_BYTES)) }
+    ensures syntax { result ≡ Err SgfFault.Syntax
+        → (length bytes.now ≤ MAX_BYTES) × HasNoTree bytes.now }
+    ensures no_tree { length bytes.now ≤ MAX_BYTES → HasNoTree bytes.now
+        → (result ≡ Err SgfFault.Syntax) ⊎ (result ≡ Err SgfFault.NoMemory) }
     ensures too_long { (result ≡ Err SgfFault.TooLong) ↔ (MAX_BYTES < length bytes.now) }
 {
     if bytes.len() > MAX_BYTES {

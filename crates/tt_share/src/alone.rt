@@ -38,7 +38,8 @@ impl OwnGrants {
 
     /// Whether the total has one more.
     fn has_grant_left(&self) -> bool
-        ensures { MatchOption self.now.total (result ≡ true) (λ n. result ≡ ltb self.now.granted n) }
+        ensures { MatchOption self.now.total (result ≡ true)
+            (λ n. result ≡ ltb self.now.granted n) }
     {
         match self.total {
             Some(n) => self.granted < u64::from(n),
@@ -108,7 +109,8 @@ pub(crate) fn conclude_and_offer<S: Store>(
     store: &mut S,
 ) -> Answer
     requires ready { IsReady results.line.state.to_move results.ends }
-    ensures answer { (total : Option ℕ) → KeepsTotal total results.entry → IsAnswer results.entry.line results.entry.limits total result }
+    ensures answer { (total : Option ℕ) → KeepsTotal total results.entry
+        → IsAnswer results.entry.line results.entry.limits total result }
     ensures counts { AreSearchCounts results.entry.line results.entry.limits results.entry.spent }
 {
     results.tell_counts();

@@ -88,7 +88,8 @@ impl Model for Seat {
 impl Seat {
     fn into_kit_seat(self) -> atomic_table::Seat<(), SeatKnowledge>
         ensures desk { result.table_id ≡ self.desk }
-        ensures me { result.me ≡ (knowledge_of 1 self.numbers self.grants self.flag self.saw_flag, []) }
+        ensures me { result.me
+            ≡ (knowledge_of 1 self.numbers self.grants self.flag self.saw_flag, []) }
     {
         let Seat { seat, .. } = self;
         seat
@@ -114,7 +115,8 @@ fn split_seats(
     mut all: Vec<Seat>,
 ) -> Vec<Seat>
     requires seats { 0 < seats }
-    requires table { (first.table_id ≡ table.now.shared.table_id) × (0 < table.now.shared.table_id.words) }
+    requires table { (first.table_id ≡ table.now.shared.table_id)
+        × (0 < table.now.shared.table_id.words) }
     requires first { first.me ≡ (fresh_knowledge seats, []) }
     requires room { (all.items ≡ []) × (vec_capacity all ≡ seats) }
     ensures { result.items ≡ replicate seats (fresh_seat table.now.shared.table_id) }
@@ -169,7 +171,8 @@ impl Desk {
     ) -> Result<(Desk, Vec<Seat>), NoMemory>
         requires jobs { (0 < jobs) × (jobs ≤ MOST_LEGAL) }
         requires seats { (0 < seats) × (seats ≤ MOST_WORKERS + 1) }
-        ensures desk { IfOk result (λ r. (r.0.jobs ≡ jobs) × (r.0.seats ≡ seats) × (r.0.total ≡ total)) }
+        ensures desk { IfOk result
+            (λ r. (r.0.jobs ≡ jobs) × (r.0.seats ≡ seats) × (r.0.total ≡ total)) }
         ensures seats { IfOk result (λ r. r.1.items ≡ replicate seats (fresh_seat r.0.id)) }
     {
         let Ok(all) = Vec::with_capacity(alloc, seats) else {
@@ -197,9 +200,12 @@ impl Desk {
     /// seat got none, each later call on that seat answers none and makes no step. The seat is one of this desk's.
     pub fn draw(&self, s: &mut Seat) -> Option<usize>
         requires { s.old.desk ≡ self.now.id }
-        ensures spent { EndsInOverdraw self.now.jobs s.old.numbers → (result ≡ None) × (s.new ≡ s.old) }
-        ensures draws { ¬ EndsInOverdraw self.now.jobs s.old.numbers → (n : ℕ) × SeatDraws self.now.jobs s.old n result s.new }
-        ensures some { IfSome result (λ n. (n < self.now.jobs) × (length s.old.numbers ≤ n) × (s.new.numbers ≡ s.old.numbers ++ n ∷ [])) }
+        ensures spent { EndsInOverdraw self.now.jobs s.old.numbers
+            → (result ≡ None) × (s.new ≡ s.old) }
+        ensures draws { ¬ EndsInOverdraw self.now.jobs s.old.numbers
+            → (n : ℕ) × SeatDraws self.now.jobs s.old n result s.new }
+        ensures some { IfSome result (λ n. (n < self.now.jobs) × (length s.old.numbers ≤ n)
+            × (s.new.numbers ≡ s.old.numbers ++ n ∷ [])) }
         ensures none { IfNone result (EndsInOverdraw self.now.jobs s.new.numbers) }
         ensures desk { s.new.desk ≡ s.old.desk }
         ensures jobs { 0 < self.now.jobs }
@@ -228,7 +234,8 @@ impl Desk {
     /// though another seat has raised it. The seat is one of this desk's.
     pub fn raised(&self, s: &mut Seat) -> bool
         requires { s.old.desk ≡ self.now.id }
-        ensures saw_flag { s.new ≡ seat_of s.old.desk s.old.numbers s.old.grants s.old.flag (s.old.saw_flag || result) }
+        ensures saw_flag { s.new
+            ≡ seat_of s.old.desk s.old.numbers s.old.grants s.old.flag (s.old.saw_flag || result) }
         ensures again { IsTrue (s.old.flag || s.old.saw_flag) → IsTrue result }
     {
         self.table.shared.load::<FlagLook>(&mut s.seat, 1) == 1
@@ -240,11 +247,17 @@ impl Desk {
     pub fn grant(&self, s: &mut Seat) -> bool
         requires { s.old.desk ≡ self.now.id }
         ensures unbounded { self.now.total ≡ None → (result ≡ true) × (s.new ≡ s.old) }
-        ensures spent { IfSome self.now.total (λ total. EndsInOverdraw total s.old.grants → (result ≡ false) × (s.new ≡ s.old)) }
-        ensures grants { IfSome self.now.total (λ total. ¬ EndsInOverdraw total s.old.grants → (n : ℕ) × SeatAsksGrant total s.old n result s.new) }
-        ensures tally { IfSome self.now.total (λ total. granted_among total s.new.grants ≡ granted_among total s.old.grants + cond result 1 0) }
-        ensures refused { IfSome self.now.total (λ total. result ≡ false → EndsInOverdraw total s.new.grants) }
-        ensures stays { s.new ≡ seat_of s.old.desk s.old.numbers s.new.grants s.old.flag s.old.saw_flag }
+        ensures spent { IfSome self.now.total (λ total. EndsInOverdraw total s.old.grants
+            → (result ≡ false) × (s.new ≡ s.old)) }
+        ensures grants { IfSome self.now.total (λ total. ¬ EndsInOverdraw total s.old.grants
+            → (n : ℕ) × SeatAsksGrant total s.old n result s.new) }
+        ensures tally { IfSome self.now.total
+            (λ total. granted_among total s.new.grants
+            ≡ granted_among total s.old.grants + cond result 1 0) }
+        ensures refused { IfSome self.now.total (λ total. result ≡ false
+            → EndsInOverdraw total s.new.grants) }
+        ensures stays { s.new
+            ≡ seat_of s.old.desk s.old.numbers s.new.grants s.old.flag s.old.saw_flag }
         ensures desk { s.new.desk ≡ s.old.desk }
     {
         let Some(total) = self.total else {
@@ -266,7 +279,10 @@ impl Desk {
     /// seats are this desk's.
     pub fn close(self, mut seats: Vec<Seat>) -> Result<Closed, (Desk, Vec<Seat>)>
         requires { All (λ s. s.desk ≡ self.id) seats.items }
-        ensures { MatchResult result (λ closed. AreDeskCounts self seats.items closed) (λ back. (length seats.items ≢ self.seats) × (back.0 ≡ self) × (back.1.items ≡ seats.items)) }
+        ensures { MatchResult result
+            (λ closed. AreDeskCounts self seats.items closed)
+            (λ back. (length seats.items ≢ self.seats) × (back.0 ≡ self)
+            × (back.1.items ≡ seats.items)) }
     {
         if seats.len() != self.seats {
             return Err((self, seats));

@@ -139,7 +139,8 @@ impl<'a> Jobs<'a> {
     /// A search of the line after a job's turn, with the same budget and a depth one less. Nothing of it is expanded yet.
     fn begin_search(&self, job: usize) -> Result<Search, NoMemory>
         requires job { job < length self.now.turns.items }
-        ensures behind { IfOk result (λ s. (t : Turn) → IsJob self.now.line.now job t → IsSearchAfter self.now.line.now self.now.limits t s) }
+        ensures behind { IfOk result (λ s. (t : Turn)
+            → IsJob self.now.line.now job t → IsSearchAfter self.now.line.now self.now.limits t s) }
         ensures new { IfOk result (λ s. s.tree ≡ new_leaf s.line.frame s.line.state) }
     {
         let limits = self.limits_after();

@@ -104,7 +104,8 @@ fn write_result(ends: &mut Vec<Option<JobResult>>, job: usize, end: JobResult)
 /// Notes how many nodes the search of a job expanded.
 fn note_spent(spent: &mut Vec<(Turn, u32)>, job: usize, count: u32)
     requires { job < vec_len spent.old }
-    ensures noted { (e : Turn × ℕ) × (slice_get spent.old.items job ≡ Some e) × (spent.new.items ≡ slice_set spent.old.items job (e.0, count)) }
+    ensures noted { (e : Turn × ℕ) × (slice_get spent.old.items job ≡ Some e)
+        × (spent.new.items ≡ slice_set spent.old.items job (e.0, count)) }
 {
     let (turn, _) = spent[job];
     spent[job] = (turn, count);
@@ -144,7 +145,8 @@ impl<'a> Results<'a> {
         requires open { winner_of line.now.frame line.now.state ≡ None }
         ensures line { IfOk result (λ r. r.line ≡ line.now) }
         ensures limits { IfOk result (λ r. r.limits ≡ limits) }
-        ensures none { IfOk result (λ r. r.ends ≡ replicate (length (legal_turns line.now.frame line.now.state)) None) }
+        ensures none { IfOk result
+            (λ r. r.ends ≡ replicate (length (legal_turns line.now.frame line.now.state)) None) }
         ensures unspent { IfOk result (λ r. spent_in_all r.spent ≡ 0) }
     {
         let jobs = Jobs::of(alloc, line, limits);
@@ -264,7 +266,8 @@ impl<'a> Results<'a> {
         ensures source { G.source grants.new ≡ G.source grants.old }
         ensures ready { IsReady self.new.line.state.to_move self.new.ends }
         ensures kept { KeepsEnds self.old.ends self.new.ends }
-        ensures won { (job : ℕ) → IsWinAt self.old.line.state.to_move self.old.ends job → self.new ≡ self.old }
+        ensures won { (job : ℕ) → IsWinAt self.old.line.state.to_move self.old.ends job
+            → self.new ≡ self.old }
         ensures stops { StopsAtWin self.new.line.state.to_move self.old.ends self.new.ends }
     {
         if let Some(_) = self.least_win() {

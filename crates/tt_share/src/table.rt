@@ -56,7 +56,9 @@ fn add_slot_to_index<K: Copy + Drop + Eq + Hash>(
     key: &K,
     slot: usize,
 ) -> Result<(), NoMemory>
-    ensures ok { OnOk result ((q : _) → slots_at K.eq index.new q ≡ (if K.eq key.now q then slots_at K.eq index.old q ++ slot ∷ [] else slots_at K.eq index.old q)) }
+    ensures ok { OnOk result ((q : _)
+        → slots_at K.eq index.new q
+        ≡ (if K.eq key.now q then slots_at K.eq index.old q ++ slot ∷ [] else slots_at K.eq index.old q)) }
     ensures err { OnErr result ((q : _) → slots_at K.eq index.new q ≡ slots_at K.eq index.old q) }
 {
     if let Some(slots) = index.get_mut(key) {
@@ -88,7 +90,8 @@ impl TableState {
     pub(crate) fn append(&mut self, key: &Key, size: u64, p: Arc<Proof>) -> Result<usize, NoMemory>
         requires key { key.now ≡ key_of (arc_value p).frame (arc_value p).state }
         requires size { size ≡ min (nodes (arc_value p).tree) (2 ^ 64 - 1) }
-        ensures ok { IfOk result (λ slot. (self.new ≡ self.old ++ arc_value p ∷ []) × (slot ≡ length self.old)) }
+        ensures ok { IfOk result
+            (λ slot. (self.new ≡ self.old ++ arc_value p ∷ []) × (slot ≡ length self.old)) }
         ensures err { OnErr result (self.new ≡ self.old) }
     {
         self.proofs.reserve(1)?;
@@ -101,7 +104,8 @@ impl TableState {
 
     /// Appends the proof, and answers its slot. Where memory is refused nothing changes.
     pub fn insert(&mut self, p: Arc<Proof>) -> Result<usize, NoMemory>
-        ensures ok { IfOk result (λ slot. (self.new ≡ self.old ++ arc_value p ∷ []) × (slot ≡ length self.old)) }
+        ensures ok { IfOk result
+            (λ slot. (self.new ≡ self.old ++ arc_value p ∷ []) × (slot ≡ length self.old)) }
         ensures err { OnErr result (self.new ≡ self.old) }
     {
         let key = p.key();
@@ -154,7 +158,8 @@ impl TableState {
 
     /// A handle of the last proof of the line's key for the side, or none.
     pub(crate) fn find(&self, line: &Line, s: Side) -> Result<Option<Arc<Proof>>, NoMemory>
-        ensures newest { IfOk result (λ o. IsNewest line.now s (reverse self.now) (option_map (λ p. arc_value p) o)) }
+        ensures newest { IfOk result
+            (λ o. IsNewest line.now s (reverse self.now) (option_map (λ p. arc_value p) o)) }
         ensures found { IfOk result (λ o. IfSome o (λ p. HasKeyAndSide line.now s (arc_value p))) }
     {
         let Some(p) = self.newest_proof(line, s) else {

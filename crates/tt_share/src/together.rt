@@ -38,7 +38,8 @@ pub(crate) fn search_together<R: Threads + Wait + Sync, G: Gate, S: Store>(
 ) -> Result<u64, NoMemory>
     requires workers { (1 ≤ workers) × (workers ≤ MOST_WORKERS) }
     requires blank { KnowsNothing results.old }
-    ensures line { (results.new.line ≡ results.old.line) × (results.new.limits ≡ results.old.limits) }
+    ensures line { (results.new.line ≡ results.old.line)
+        × (results.new.limits ≡ results.old.limits) }
     ensures ready { IfOk result (λ _. IsReady results.new.line.state.to_move results.new.ends) }
     ensures spent { IfOk result (λ granted. SpendsTotal total granted results.new) }
 {
@@ -99,7 +100,8 @@ pub fn solve_counting_grants<R: Threads + Wait + Sync, G: Gate>(
     requires limits { 1 ≤ limits.now.depth }
     requires open { winner_of line.now.frame line.now.state ≡ None }
     ensures answer { IsAnswer line.now limits.now total result.0 }
-    ensures granted { MatchOption total (result.1 ≡ 0) (λ n. (result.1 ≤ n) × IsAnswer line.now limits.now (Some result.1) result.0) }
+    ensures granted { MatchOption total (result.1 ≡ 0)
+        (λ n. (result.1 ≤ n) × IsAnswer line.now limits.now (Some result.1) result.0) }
     ensures counts { IfSome total (λ _. IsExpandedInAll line.now limits.now result.1) }
 {
     let Ok(view) = View::new(alloc, log) else {

@@ -42,11 +42,16 @@ struct WorkerPlace {
 /// Draws a job, with room for its result. A seat that raised the flag, or sees it or saw it before, draws no more.
 fn next_job(grants: &mut SeatGrants<'_>, searched: &mut Vec<SearchedJob>) -> Option<usize>
     ensures desk { grants.new.desk.now ≡ grants.old.desk.now }
-    ensures counts { (grants.new.granted ≡ grants.old.granted) × (grants.new.refused ≡ grants.old.refused) }
-    ensures seat { (grants.new.seat.desk ≡ grants.old.seat.desk) × (grants.new.seat.flag ≡ grants.old.seat.flag) }
+    ensures counts { (grants.new.granted ≡ grants.old.granted)
+        × (grants.new.refused ≡ grants.old.refused) }
+    ensures seat { (grants.new.seat.desk ≡ grants.old.seat.desk)
+        × (grants.new.seat.flag ≡ grants.old.seat.flag) }
     ensures saw { IsTrue grants.old.seat.saw_flag → IsTrue grants.new.seat.saw_flag }
-    ensures stopped { IsTrue (grants.new.seat.flag || grants.new.seat.saw_flag) → (result ≡ None) × (grants.new.seat.numbers ≡ grants.old.seat.numbers) }
-    ensures job { IfSome result (λ n. (n < grants.old.desk.now.jobs) × (length grants.old.seat.numbers ≤ n) × (grants.new.seat.numbers ≡ grants.old.seat.numbers ++ n ∷ [])) }
+    ensures stopped { IsTrue (grants.new.seat.flag || grants.new.seat.saw_flag)
+        → (result ≡ None) × (grants.new.seat.numbers ≡ grants.old.seat.numbers) }
+    ensures job { IfSome result
+        (λ n. (n < grants.old.desk.now.jobs) × (length grants.old.seat.numbers ≤ n)
+        × (grants.new.seat.numbers ≡ grants.old.seat.numbers ++ n ∷ [])) }
     ensures overdraw { IfNone result (AddsOverdraw grants.old.desk.now.jobs grants.old.seat.numbers grants.new.seat.numbers) }
     ensures room { IfSome result (λ _. vec_len searched.new < vec_capacity searched.new) }
     ensures searched { searched.new.items ≡ searched.old.items }
@@ -79,7 +84,8 @@ pub(crate) fn work<S: Store, G: Gate>(
     requires seat { (seat.desk ≡ desk.now.id) × (seat.grants ≡ []) }
     ensures work { IsWork jobs.now.line.now jobs.now.limits desk.now result }
     ensures drawn { AddsOverdraw desk.now.jobs (seat.numbers ++ jobs_of result.searched.items) result.seat.numbers }
-    ensures flag { IsTrue result.seat.flag → IsTrue seat.flag ⊎ SomeWin jobs.now.line.now.state.to_move result.searched.items }
+    ensures flag { IsTrue result.seat.flag
+        → IsTrue seat.flag ⊎ SomeWin jobs.now.line.now.state.to_move result.searched.items }
     ensures kept { KeepsFirstStuck result.searched.items }
 {
     let mut searched = Vec::new(jobs.alloc);
@@ -199,7 +205,8 @@ pub(crate) fn run_workers<R: Threads + Wait + Sync, G: Gate>(
 ) -> Result<Vec<HandedBack>, NoMemory>
     requires jobs { desk.now.jobs ≡ length jobs.now.turns.items }
     requires seats { All (λ s. (s.desk ≡ desk.now.id) × (s.grants ≡ [])) seats.items }
-    ensures work { IfOk result (λ v. All (IsWork jobs.now.line.now jobs.now.limits desk.now) v.items) }
+    ensures work { IfOk result
+        (λ v. All (IsWork jobs.now.line.now jobs.now.limits desk.now) v.items) }
     ensures drawn { IfOk result (λ v. AllDrawn desk.now.jobs seats.items v.items) }
     ensures len { IfOk result (λ v. vec_len v ≡ vec_len seats) }
 {
@@ -212,9 +219,13 @@ pub(crate) fn run_workers<R: Threads + Wait + Sync, G: Gate>(
 /// Puts the results of one worker into the list of all.
 fn gather_one_worker(results: &mut Results<'_>, mut searched: Vec<SearchedJob>)
     requires searched { All (IsResult results.old.line results.old.limits) searched.items }
-    ensures same { results.new ≡ record results.old { ends = results.new.ends; spent = results.new.spent } }
-    ensures held { (job : ℕ) → held results.new.ends job ≤ held results.old.ends job + times job searched.items }
-    ensures spent { AreApart results.old.ends searched.items → spent_in_all results.new.spent ≡ spent_in_all results.old.spent + spent_on searched.items }
+    ensures same { results.new
+        ≡ record results.old { ends = results.new.ends; spent = results.new.spent } }
+    ensures held { (job : ℕ)
+        → held results.new.ends job ≤ held results.old.ends job + times job searched.items }
+    ensures spent { AreApart results.old.ends searched.items
+        → spent_in_all results.new.spent
+        ≡ spent_in_all results.old.spent + spent_on searched.items }
     ensures len { length results.new.ends ≡ length results.old.ends }
     ensures kept { KeepsEnds results.old.ends results.new.ends }
     ensures placed { All (IsPlaced results.new.ends) searched.items }
@@ -233,8 +244,11 @@ pub(crate) fn gather_results(
 ) -> Vec<Seat>
     requires searched { All (AreSearched results.old.line results.old.limits) work.items }
     requires room { (seats.items ≡ []) × (vec_len work < vec_capacity seats) }
-    ensures same { results.new ≡ record results.old { ends = results.new.ends; spent = results.new.spent } }
-    ensures spent { AllApart results.old.ends work.items → spent_in_all results.new.spent ≡ spent_in_all results.old.spent + spent_by_all work.items }
+    ensures same { results.new
+        ≡ record results.old { ends = results.new.ends; spent = results.new.spent } }
+    ensures spent { AllApart results.old.ends work.items
+        → spent_in_all results.new.spent
+        ≡ spent_in_all results.old.spent + spent_by_all work.items }
     ensures seats { result.items ≡ reverse (map (λ (b : HandedBack). b.seat) work.items) }
     ensures room { vec_len result < vec_capacity result }
     ensures kept { KeepsEnds results.old.ends results.new.ends }

@@ -21,7 +21,8 @@ use tt_sgf::{ItemList, NoMemory};
 /// The certificate of a proof at the line.
 fn plain_certificate(alloc: Global, proof: &Proof, line: &Line) -> Result<Vec<u8>, NoMemory>
     requires { StandsAt proof.now line.now.frame line.now.state }
-    ensures text { IfOk result (λ text. text.items ≡ certificate_text line.now.frame.size proof.now.side proof.now.tree) }
+    ensures text { IfOk result
+        (λ text. text.items ≡ certificate_text line.now.frame.size proof.now.side proof.now.tree) }
     ensures won { IsWinningTree proof.now.side proof.now.frame proof.now.state proof.now.tree }
 {
     write_cert(alloc, proof.side(), proof.tree(), line.frame().size)

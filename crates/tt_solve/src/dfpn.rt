@@ -89,7 +89,8 @@ fn plain_solution(
 
 /// The solution that a proof at the line is whose tree may end at life, without a certificate.
 fn bare_solution(proof: &LifeProof) -> Solution
-    ensures { (line : LineWithUndo) (limits : Limits) → winner_of line.frame line.state ≡ None → IsWellFormedState line.frame line.state
+    ensures { (line : LineWithUndo) (limits : Limits) → winner_of line.frame line.state ≡ None
+        → IsWellFormedState line.frame line.state
         → StandsAt proof.now line.frame line.state → IsDecided line limits CertKind.Unasked result }
 {
     let side = proof.side();

@@ -33,7 +33,9 @@ pub(crate) fn search_by_workers<X: Threads + Wait + Sync, G: Gate>(
     gate: &G,
 ) -> Result<(Answer, u64), NoMemory>
     requires { winner_of line.now.frame line.now.state ≡ None }
-    ensures { IfOk result (λ r. HoldsByGrants line.now options.limits (λ t. IsAnswer line.now options.limits t r.0) total r.1) }
+    ensures { IfOk result
+        (λ r. HoldsByGrants line.now options.limits
+        (λ t. IsAnswer line.now options.limits t r.0) total r.1) }
 {
     let log = CertLog::new(workers.alloc)?;
     let limits = options.limits;

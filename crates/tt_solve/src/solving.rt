@@ -34,7 +34,8 @@ fn solution_of_answer(
     requires open { winner_of line.now.frame line.now.state ≡ None }
     requires state { IsWellFormedState line.now.frame line.now.state }
     requires answer { (total : Option ℕ) × IsAnswer line.now options.limits total answer.now }
-    ensures { (total : Option ℕ) → IsAnswer line.now options.limits total answer.now → IfOk result (IsSolution line.now options.limits total options.cert) }
+    ensures { (total : Option ℕ) → IsAnswer line.now options.limits total answer.now
+        → IfOk result (IsSolution line.now options.limits total options.cert) }
 {
     match answer {
         Answer::Settled { proof, .. } => solution_of_proof(alloc, line, options, proof),
@@ -66,7 +67,9 @@ fn solve_line<X: Threads + Wait + Sync, G: Gate>(
 ) -> Result<(Solution, Option<u32>), NoMemory>
     requires open { winner_of line.now.frame line.now.state ≡ None }
     requires state { IsWellFormedState line.now.frame line.now.state }
-    ensures { IfOk result (λ r. HoldsLeaving line.now options.limits (λ t. IsSolution line.now options.limits t options.cert r.0) total r.1) }
+    ensures { IfOk result
+        (λ r. HoldsLeaving line.now options.limits
+        (λ t. IsSolution line.now options.limits t options.cert r.0) total r.1) }
 {
     let lacked_memory = match dfpn_solution(workers.alloc, workers, line, options, most_bytes) {
         Ok(Some(solution)) => return Ok((solution, total)),
@@ -86,7 +89,8 @@ fn value_at<X: Threads + Wait + Sync>(
     total: Option<u32>,
 ) -> (Result<Side, Reason>, Option<u32>)
     requires { IsWellFormedState line.now.frame line.now.state }
-    ensures { HoldsLeaving line.now options.limits (λ t. IsValueOrReason line.now options.limits t result.0) total result.1 }
+    ensures { HoldsLeaving line.now options.limits
+        (λ t. IsValueOrReason line.now options.limits t result.0) total result.1 }
 {
     if let Some(side) = line.winner() {
         return (Ok(side), total);
@@ -107,7 +111,8 @@ fn value_after_turn<X: Threads + Wait + Sync>(
 ) -> (Result<Side, Reason>, Option<u32>)
     requires state { IsWellFormedState line.now.frame line.now.state }
     requires legal { IsLegal line.now.frame line.now.state turn }
-    ensures { HoldsLeaving (problem_after_turn line.now turn) options.limits (λ t. IsValueOrReason (problem_after_turn line.now turn) options.limits t result.0) total result.1 }
+    ensures { HoldsLeaving (problem_after_turn line.now turn) options.limits
+        (λ t. IsValueOrReason (problem_after_turn line.now turn) options.limits t result.0) total result.1 }
 {
     match line.after(turn) {
         Ok(next) => value_at(workers, &next, options, total),
@@ -123,7 +128,9 @@ fn values_of_turns<X: Threads + Wait + Sync>(
     total: Option<u32>,
 ) -> Result<Vec<(Turn, Result<Side, Reason>)>, NoMemory>
     requires { IsWellFormedState line.now.frame line.now.state }
-    ensures { IfOk result (λ values. (left : Option ℕ) × AreTurnValues line.now options.limits total left (legal_turns line.now.frame line.now.state) values.items) }
+    ensures { IfOk result
+        (λ values. (left : Option ℕ)
+        × AreTurnValues line.now options.limits total left (legal_turns line.now.frame line.now.state) values.items) }
 {
     let turns = line.turns();
     let mut values = Vec::new(workers.alloc);
@@ -144,7 +151,8 @@ fn values_asked<X: Threads + Wait + Sync>(
     total: Option<u32>,
 ) -> Result<Vec<(Turn, Result<Side, Reason>)>, NoMemory>
     requires { IsWellFormedState line.now.frame line.now.state }
-    ensures { IfOk result (λ values. AreTurnValuesAsked line.now options.limits total options.turns values.items) }
+    ensures { IfOk result
+        (λ values. AreTurnValuesAsked line.now options.limits total options.turns values.items) }
 {
     if options.turns {
         values_of_turns(workers, line, options, total)

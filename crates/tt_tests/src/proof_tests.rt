@@ -111,7 +111,8 @@ fn on_board(line: &Line, turn: &Turn) -> bool
 
 /// Whether the child is the side's and stands after the turn, with room above it.
 fn is_child(line: &mut Line, side: Side, turn: &Turn, child: &Proof) -> bool
-    ensures child { IsTrue result → IsLegal line.old.frame line.old.state turn.now × IsChild line.old.frame line.old.state side turn.now child.now }
+    ensures child { IsTrue result → IsLegal line.old.frame line.old.state turn.now
+        × IsChild line.old.frame line.old.state side turn.now child.now }
     ensures same { line.new ≡ line.old }
 {
     if !on_board(line, turn) {

@@ -9,14 +9,16 @@ ghost use Rattle.tt_text.specs.Trees.{IsTreesText};
 
 /// An input has one text and one status that answer `score`.
 pub fn one_score_text()
-    ensures { (input s t : List ℕ) (m n : ℕ) → IsTreesText Scores input s m → IsTreesText Scores input t n → (s ≡ t) × (m ≡ n) }
+    ensures { (input s t : List ℕ) (m n : ℕ) → IsTreesText Scores input s m
+        → IsTreesText Scores input t n → (s ≡ t) × (m ≡ n) }
 {
     tt_sgf::laws::grammar_is_unambiguous();
 }
 
 /// An input has one text and one status that answer `check`, with `--parts` or without.
 pub fn one_check_text()
-    ensures { (parts : Bool) (input s t : List ℕ) (m n : ℕ) → IsCheckText parts input s m → IsCheckText parts input t n → (s ≡ t) × (m ≡ n) }
+    ensures { (parts : Bool) (input s t : List ℕ) (m n : ℕ) → IsCheckText parts input s m
+        → IsCheckText parts input t n → (s ≡ t) × (m ≡ n) }
 {
     tt_sgf::laws::grammar_is_unambiguous();
     tt_proof::laws::one_strategy_per_certificate();

@@ -29,7 +29,8 @@ impl TreeOutcome {
 
 /// The line of a score.
 fn score_line(alloc: Global, number: usize, scored: &Record) -> Result<Vec<u8>, AllocError>
-    ensures { IfOk result (λ text. text.items ≡ outcome_line number (TreeOutcome.Scored scored.now)) }
+    ensures { IfOk result
+        (λ text. text.items ≡ outcome_line number (TreeOutcome.Scored scored.now)) }
 {
     let Record {
         black,
@@ -43,7 +44,8 @@ fn score_line(alloc: Global, number: usize, scored: &Record) -> Result<Vec<u8>, 
 
 /// The number of a tree, and the text of its answer behind a blank.
 fn answer_lines(alloc: Global, number: usize, answer: &[u8]) -> Result<Vec<u8>, AllocError>
-    ensures { IfOk result (λ text. text.items ≡ outcome_line number (TreeOutcome.Answered answer.now)) }
+    ensures { IfOk result
+        (λ text. text.items ≡ outcome_line number (TreeOutcome.Answered answer.now)) }
 {
     let mut text = format!(in alloc; "{number} ")?.into_bytes();
     text.extend_from_slice(answer)?;

@@ -19,7 +19,8 @@ use tt_solve::{Options, Solved};
 /// What is said of a solved problem.
 fn answered(alloc: Global, line: &Line, solved: &Solved) -> Result<TreeOutcome, NoMemory>
     requires { (options : Options) × IsSolved options line.now solved.now }
-    ensures { (options : Options) → IsSolved options line.now solved.now → IfOk result (SolvesProblemAs options (Ok line.now)) }
+    ensures { (options : Options) → IsSolved options line.now solved.now
+        → IfOk result (SolvesProblemAs options (Ok line.now)) }
 {
     let text = answer_text(alloc, line.frame().size, solved)?;
     Ok(TreeOutcome::Answered(ItemList::from_vec(text)))

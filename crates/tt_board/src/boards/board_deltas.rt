@@ -94,7 +94,8 @@ impl BoardDeltas {
 
     /// The last board, made anew; none where there are no boards.
     pub fn last(&self) -> Option<Board>
-        ensures { MatchOption result (self.now ≡ []) (λ b. (before : List Position) × (self.now ≡ before ++ b ∷ [])) }
+        ensures { MatchOption result (self.now ≡ [])
+            (λ b. (before : List Position) × (self.now ≡ before ++ b ∷ [])) }
     {
         if self.steps.is_empty() {
             return None;

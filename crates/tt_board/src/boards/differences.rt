@@ -127,9 +127,12 @@ fn push_word_edits(
     word: u64,
 ) -> Result<(), AllocError>
     requires { from ≤ MOST_POINTS }
-    ensures half { OnOk result ((here c : Entries) → length here ≡ length there.now → AreAlikeBy word from here there.now
-        → IsHalf here there.now from (led c edits.old.items) → IsHalf here there.now (from + 64) (led c edits.new.items)) }
-    ensures colourings { OnOk result ((c : Entries) → colourings_from c edits.new.items ≡ colourings_from c edits.old.items) }
+    ensures half { OnOk result ((here c : Entries)
+        → length here ≡ length there.now → AreAlikeBy word from here there.now
+        → IsHalf here there.now from (led c edits.old.items)
+        → IsHalf here there.now (from + 64) (led c edits.new.items)) }
+    ensures colourings { OnOk result ((c : Entries)
+        → colourings_from c edits.new.items ≡ colourings_from c edits.old.items) }
     ensures kept { take (length edits.old.items) edits.new.items ≡ edits.old.items }
 {
     let mut rest = word;

@@ -27,7 +27,8 @@ pub fn first_column(size: Size) -> Bits
 pub fn adjacent_points(size: Size, first: &Bits, points: &Bits) -> Bits
     requires first { AreFirstColumn size first.now.words }
     requires on_board { AreOn size points.now.words }
-    ensures { (p : ℕ) → p < point_count size → (bit_in result.words p ≡ true) ↔ IsBesideSome size points.now.words p }
+    ensures { (p : ℕ) → p < point_count size
+        → (bit_in result.words p ≡ true) ↔ IsBesideSome size points.now.words p }
 {
     let columns = usize::from(size.columns());
     let left = points.minus(first).shift_to_lower(1);

@@ -40,7 +40,8 @@ pub(crate) fn empty_points(size: Size, points: &Colouring) -> Bits
 pub fn reaching(size: Size, own: &Bits, wanted: &Bits) -> Bits
     requires own_on_board { AreOn size own.now.words }
     requires wanted_on_board { AreOn size wanted.now.words }
-    ensures reaching { (c : Entries) → (a e : Option Colour) → a ≢ e → AreThose size own.now.words c a → AreThose size wanted.now.words c e
+    ensures reaching { (c : Entries) → (a e : Option Colour) → a ≢ e
+        → AreThose size own.now.words c a → AreThose size wanted.now.words c e
         → AreReaching size result.words c a e }
     ensures on_board { AreOn size result.words }
 {

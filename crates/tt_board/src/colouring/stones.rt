@@ -23,7 +23,8 @@ impl Board {
 
     /// The empty points of the board among these, as bits; numbers past the board may have theirs too.
     pub fn empty_among(&self, points: &PointSet) -> Bits
-        ensures { (p : ℕ) → p < point_count self.now.size → (bit_in result.words p ≡ true) ↔ IsEmptyPointOfSet self.now.size points.now self.now.points p }
+        ensures { (p : ℕ) → p < point_count self.now.size → (bit_in result.words p ≡ true)
+            ↔ IsEmptyPointOfSet self.now.size points.now self.now.points p }
     {
         let left = points.bits().minus(self.bits(Colour::Black));
         left.minus(self.bits(Colour::White))

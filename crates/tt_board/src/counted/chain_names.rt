@@ -106,7 +106,8 @@ fn push_chain_at(found: &mut ArrayVec<u16, 4>, names: &[u16; 361], index: Option
     ensures few { length found.new.items ≤ length found.old.items + 1 }
     ensures still_once { IsEachOnce found.new.items }
     ensures added { (m : ℕ) → Contains found.new.items m
-        ↔ (Contains found.old.items m ⊎ ((m ≢ 0) × (m ≢ but) × ((q : ℕ) × (index ≡ Some q) × (name_at names.now q ≡ m)))) }
+        ↔ (Contains found.old.items m
+        ⊎ ((m ≢ 0) × (m ≢ but) × ((q : ℕ) × (index ≡ Some q) × (name_at names.now q ≡ m)))) }
 {
     if let Some(q) = index {
         let name = names[q];
@@ -119,7 +120,8 @@ fn push_chain_at(found: &mut ArrayVec<u16, 4>, names: &[u16; 361], index: Option
 /// The different chains beside `p`, but one.
 pub(crate) fn chains_beside(size: Size, names: &[u16; 361], p: usize, but: u16) -> ArrayVec<u16, 4>
     requires { p < point_count size }
-    ensures beside { (m : ℕ) → Contains result.items m ↔ ((m ≢ 0) × (m ≢ but) × Touches size names.now m p) }
+    ensures beside { (m : ℕ)
+        → Contains result.items m ↔ ((m ≢ 0) × (m ≢ but) × Touches size names.now m p) }
     ensures once { IsEachOnce result.items }
 {
     let near = neighbours_of(size, p);
@@ -135,10 +137,13 @@ pub(crate) fn chains_beside(size: Size, names: &[u16; 361], p: usize, but: u16) 
 pub(crate) fn give_liberty(liberties: &mut [u16; 361], near: &[u16])
     requires in_range { (i : ℕ) → i < length near.now → root_of (name_at near.now i) < MOST_POINTS }
     requires apart { AreRootsApart near.now }
-    requires small { (i : ℕ) → i < length near.now → name_at liberties.old (root_of (name_at near.now i)) < 1000 }
+    requires small { (i : ℕ) → i < length near.now
+        → name_at liberties.old (root_of (name_at near.now i)) < 1000 }
     ensures more { (i : ℕ) → i < length near.now
-        → name_at liberties.new (root_of (name_at near.now i)) ≡ name_at liberties.old (root_of (name_at near.now i)) + 1 }
-    ensures same { (r : ℕ) → ((i : ℕ) → i < length near.now → root_of (name_at near.now i) ≢ r) → name_at liberties.new r ≡ name_at liberties.old r }
+        → name_at liberties.new (root_of (name_at near.now i))
+        ≡ name_at liberties.old (root_of (name_at near.now i)) + 1 }
+    ensures same { (r : ℕ) → ((i : ℕ) → i < length near.now → root_of (name_at near.now i) ≢ r)
+        → name_at liberties.new r ≡ name_at liberties.old r }
 {
     for name in near {
         liberties[root_of(*name)] += 1;

@@ -164,8 +164,10 @@ impl Chains {
     /// What the names beside an empty point tell of a play of `colour` there.
     #[inline(always)]
     fn play_kind_by_names(&self, colour: Colour, near: &NeighbourNames) -> PlayKind
-        requires { (m : ℕ) → IsOneName near.now.above near.now.left near.now.right near.now.below m → root_of m < MOST_POINTS }
-        ensures { (p : ℕ) → p < point_count self.now.size → entry_at self.now.points p ≡ None → AreNear self.now.size self.now.counts.names p near.now
+        requires { (m : ℕ) → IsOneName near.now.above near.now.left near.now.right near.now.below m
+            → root_of m < MOST_POINTS }
+        ensures { (p : ℕ) → p < point_count self.now.size → entry_at self.now.points p ≡ None
+            → AreNear self.now.size self.now.counts.names p near.now
             → IsPlayOfKind result self.now.size self.now.points colour p }
     {
         if near.has_chain_in_atari(&self.counts.liberties, colour_number(colour.other())) {
@@ -182,8 +184,12 @@ impl Chains {
 
     /// Those of these stones whose chain has one liberty.
     fn stones_in_atari(&self, stones: &Bits) -> Bits
-        requires { (q : ℕ) → q < BITS → bit_in stones.now.words q ≡ true → (q < point_count self.now.size) × (entry_at self.now.points q ≢ None) }
-        ensures { (q : ℕ) → q < BITS → (bit_in result.words q ≡ true) ↔ ((bit_in stones.now.words q ≡ true) × (name_at self.now.counts.liberties (root_of (name_at self.now.counts.names q)) ≡ 1)) }
+        requires { (q : ℕ) → q < BITS → bit_in stones.now.words q ≡ true
+            → (q < point_count self.now.size) × (entry_at self.now.points q ≢ None) }
+        ensures { (q : ℕ) → q < BITS
+            → (bit_in result.words q ≡ true)
+            ↔ ((bit_in stones.now.words q ≡ true)
+            × (name_at self.now.counts.liberties (root_of (name_at self.now.counts.names q)) ≡ 1)) }
     {
         let mut found = Bits::none();
         let mut q = stones.first_from(0);
@@ -199,10 +205,13 @@ impl Chains {
     /// Some of these empty points on which a play of `colour` puts a stone and takes none off: those beside another of them, and
     /// beside no stone of the opponent's whose chain has one liberty.
     pub(crate) fn some_noncapturing_plays(&self, colour: Colour, points: &Bits) -> Bits
-        requires { (q : ℕ) → q < point_count self.now.size → bit_in points.now.words q ≡ true → entry_at self.now.points q ≡ None }
+        requires { (q : ℕ) → q < point_count self.now.size → bit_in points.now.words q ≡ true
+            → entry_at self.now.points q ≡ None }
         ensures fits { length self.now.points ≡ point_count self.now.size }
-        ensures no_capture { (p : ℕ) → p < BITS → bit_in result.words p ≡ true → (bit_in points.now.words p ≡ true)
-            × (play_of self.now.size self.now.points colour p ≡ slice_set self.now.points p (Some colour)) }
+        ensures no_capture { (p : ℕ) → p < BITS → bit_in result.words p ≡ true
+            → (bit_in points.now.words p ≡ true)
+            × (play_of self.now.size self.now.points colour p
+            ≡ slice_set self.now.points p (Some colour)) }
     {
         let first = first_column(self.size);
         let points = points.truncated_to(self.size.point_count());
@@ -222,8 +231,10 @@ impl Chains {
         requires free { entry_at self.now.points p ≡ None }
         ensures fits { length self.now.points ≡ point_count self.now.size }
         ensures goes { (q : ℕ) → entry_at self.now.points q ≢ None
-            → (entry_at (play_of self.now.size self.now.points colour p) q ≡ None) ↔ Contains result.goes.items (name_at self.now.counts.names q) }
-        ensures suicide { IsTrue result.suicide ↔ (entry_at (play_of self.now.size self.now.points colour p) p ≡ None) }
+            → (entry_at (play_of self.now.size self.now.points colour p) q ≡ None)
+            ↔ Contains result.goes.items (name_at self.now.counts.names q) }
+        ensures suicide { IsTrue result.suicide
+            ↔ (entry_at (play_of self.now.size self.now.points colour p) p ≡ None) }
         ensures once { IsEachOnce result.goes.items }
         ensures living { (m : ℕ) → Contains result.goes.items m → IsLiving self.now.counts.names m }
     {

@@ -31,9 +31,12 @@ fn new_name(colour: Colour, p: usize) -> u16
 #[inline]
 fn take_liberty_from(liberties: &mut [u16], name: u16, one: u16, two: u16, three: u16)
     requires in_range { root_of name < length liberties.old }
-    requires some { IsNewName OFF_BOARD_NAME name one two three → 0 < name_at liberties.old (root_of name) }
-    ensures fewer { IsNewName OFF_BOARD_NAME name one two three → name_at liberties.new (root_of name) + 1 ≡ name_at liberties.old (root_of name) }
-    ensures same { (r : ℕ) → (IsNewName OFF_BOARD_NAME name one two three → root_of name ≢ r) → name_at liberties.new r ≡ name_at liberties.old r }
+    requires some { IsNewName OFF_BOARD_NAME name one two three
+        → 0 < name_at liberties.old (root_of name) }
+    ensures fewer { IsNewName OFF_BOARD_NAME name one two three
+        → name_at liberties.new (root_of name) + 1 ≡ name_at liberties.old (root_of name) }
+    ensures same { (r : ℕ) → (IsNewName OFF_BOARD_NAME name one two three → root_of name ≢ r)
+        → name_at liberties.new r ≡ name_at liberties.old r }
 {
     if name != 0 && name != OFF_BOARD_NAME && name != one && name != two && name != three {
         liberties[root_of(name)] -= 1;
@@ -43,13 +46,21 @@ fn take_liberty_from(liberties: &mut [u16], name: u16, one: u16, two: u16, three
 /// Takes a liberty from each chain of which one of these names is.
 #[inline]
 fn take_liberty_beside(liberties: &mut [u16], near: &NeighbourNames)
-    requires in_range { (m : ℕ) → IsOneName near.now.above near.now.left near.now.right near.now.below m → root_of m < length liberties.old }
-    requires apart { (m k : ℕ) → IsOneName near.now.above near.now.left near.now.right near.now.below m → IsOneName near.now.above near.now.left near.now.right near.now.below k
+    requires in_range { (m : ℕ)
+        → IsOneName near.now.above near.now.left near.now.right near.now.below m
+        → root_of m < length liberties.old }
+    requires apart { (m k : ℕ)
+        → IsOneName near.now.above near.now.left near.now.right near.now.below m
+        → IsOneName near.now.above near.now.left near.now.right near.now.below k
         → m ≢ 0 → m ≢ OFF_BOARD_NAME → k ≢ 0 → k ≢ OFF_BOARD_NAME → m ≢ k → root_of m ≢ root_of k }
-    requires some { (m : ℕ) → IsOneName near.now.above near.now.left near.now.right near.now.below m → m ≢ 0 → m ≢ OFF_BOARD_NAME → 0 < name_at liberties.old (root_of m) }
-    ensures fewer { (m : ℕ) → IsOneName near.now.above near.now.left near.now.right near.now.below m → m ≢ 0 → m ≢ OFF_BOARD_NAME
+    requires some { (m : ℕ) → IsOneName near.now.above near.now.left near.now.right near.now.below m
+        → m ≢ 0 → m ≢ OFF_BOARD_NAME → 0 < name_at liberties.old (root_of m) }
+    ensures fewer { (m : ℕ) → IsOneName near.now.above near.now.left near.now.right near.now.below m
+        → m ≢ 0 → m ≢ OFF_BOARD_NAME
         → name_at liberties.new (root_of m) + 1 ≡ name_at liberties.old (root_of m) }
-    ensures same { (r : ℕ) → ((m : ℕ) → IsOneName near.now.above near.now.left near.now.right near.now.below m → m ≢ 0 → m ≢ OFF_BOARD_NAME → root_of m ≢ r)
+    ensures same { (r : ℕ)
+        → ((m : ℕ) → IsOneName near.now.above near.now.left near.now.right near.now.below m
+        → m ≢ 0 → m ≢ OFF_BOARD_NAME → root_of m ≢ r)
         → name_at liberties.new r ≡ name_at liberties.old r }
 {
     take_liberty_from(liberties, near.above, 0, 0, 0);
@@ -139,7 +150,8 @@ impl ChainCounts {
     fn unite(&mut self, size: Size, one: u16, two: u16)
         requires counted { AreCounted size self.old }
         requires chains { AreTwoChains self.old.names one two }
-        ensures renamed { (self.new.names ≡ map (renamed one two) self.old.names) ⊎ (self.new.names ≡ map (renamed two one) self.old.names) }
+        ensures renamed { (self.new.names ≡ map (renamed one two) self.old.names)
+            ⊎ (self.new.names ≡ map (renamed two one) self.old.names) }
         ensures still_counted { AreCounted size self.new }
     {
         if self.stones[root_of(one)] < self.stones[root_of(two)] {
@@ -156,9 +168,11 @@ impl ChainCounts {
         requires on_board { p < point_count size }
         requires stone { 512 ≤ name_at self.old.names p }
         requires in_range { root_of name < MOST_POINTS }
-        requires near { 512 ≤ name → name ≢ OFF_BOARD_NAME → name_at self.old.names (root_of name) ≡ name → Touches size self.old.names name p }
+        requires near { 512 ≤ name → name ≢ OFF_BOARD_NAME
+            → name_at self.old.names (root_of name) ≡ name → Touches size self.old.names name p }
         ensures gathered { AreGathered size self.old.names self.new.names p }
-        ensures joined { name / 512 ≡ name_at self.old.names p / 512 → name_at self.old.names (root_of name) ≡ name
+        ensures joined { name / 512 ≡ name_at self.old.names p / 512
+            → name_at self.old.names (root_of name) ≡ name
             → name_at self.new.names (root_of name) ≡ name_at self.new.names p }
         ensures still_counted { AreCounted size self.new }
     {
@@ -174,7 +188,8 @@ impl ChainCounts {
         requires on_board { p < point_count size }
         requires stone { 512 ≤ name_at self.old.names p }
         requires near { AreNear size self.old.names p near.now }
-        ensures joined { (c : Colouring) → AreNamesBut size c self.old.names p → AreNames size c self.new.names }
+        ensures joined { (c : Colouring) → AreNamesBut size c self.old.names p
+            → AreNames size c self.new.names }
         ensures still_counted { AreCounted size self.new }
     {
         self.join_named(size, p, near.above);
@@ -191,7 +206,9 @@ impl ChainCounts {
         requires free { name_at self.old.names p ≡ 0 }
         requires coloured { (q : ℕ) → name_at self.old.names q ≢ OFF_BOARD_NAME }
         requires near { AreNear size self.old.names p near.now }
-        ensures named { (c : Colouring) → length c ≡ point_count size → AreNames size c self.old.names → AreNames size (slice_set c p (Some colour)) self.new.names }
+        ensures named { (c : Colouring) → length c ≡ point_count size
+            → AreNames size c self.old.names
+            → AreNames size (slice_set c p (Some colour)) self.new.names }
         ensures still_counted { AreCounted size self.new }
     {
         let name = new_name(colour, p);

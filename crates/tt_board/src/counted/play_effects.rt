@@ -24,7 +24,8 @@ fn push_if_in_atari(found: &mut ArrayVec<u16, 4>, liberties: &[u16; 361], name: 
     ensures few { length found.new.items ≤ length found.old.items + 1 }
     ensures still_once { IsEachOnce found.new.items }
     ensures added { (m : ℕ) → Contains found.new.items m
-        ↔ (Contains found.old.items m ⊎ ((name ≡ m) × (m / 512 ≡ code) × (name_at liberties.now (root_of m) ≡ 1))) }
+        ↔ (Contains found.old.items m
+        ⊎ ((name ≡ m) × (m / 512 ≡ code) × (name_at liberties.now (root_of m) ≡ 1))) }
 {
     if is_in_atari(liberties, name, code) && is_not_yet_found(found, name) {
         found.push(name);
@@ -37,9 +38,12 @@ pub(crate) fn chains_in_atari(
     near: &NeighbourNames,
     code: u16,
 ) -> ArrayVec<u16, 4>
-    requires in_range { (m : ℕ) → IsOneName near.now.above near.now.left near.now.right near.now.below m → root_of m < MOST_POINTS }
+    requires in_range { (m : ℕ)
+        → IsOneName near.now.above near.now.left near.now.right near.now.below m
+        → root_of m < MOST_POINTS }
     ensures found { (m : ℕ) → Contains result.items m
-        ↔ (IsOneName near.now.above near.now.left near.now.right near.now.below m × (m / 512 ≡ code) × (name_at liberties.now (root_of m) ≡ 1)) }
+        ↔ (IsOneName near.now.above near.now.left near.now.right near.now.below m × (m / 512 ≡ code)
+        × (name_at liberties.now (root_of m) ≡ 1)) }
     ensures once { IsEachOnce result.items }
 {
     let mut found = ArrayVec::new();

@@ -72,7 +72,8 @@ pub(crate) fn is_in_atari(liberties: &[u16; 361], name: u16, code: u16) -> bool
 #[inline]
 fn is_empty_or_not_in_atari(liberties: &[u16; 361], name: u16, code: u16) -> bool
     requires { root_of name < MOST_POINTS }
-    ensures { IsTrue result ↔ ((name ≡ 0) ⊎ ((name / 512 ≡ code) × (name_at liberties.now (root_of name) ≢ 1))) }
+    ensures { IsTrue result
+        ↔ ((name ≡ 0) ⊎ ((name / 512 ≡ code) × (name_at liberties.now (root_of name) ≢ 1))) }
 {
     name == 0 || (name / 512 == code && liberties[root_of(name)] != 1)
 }
@@ -115,8 +116,11 @@ impl NeighbourNames {
     /// Whether a chain of the colour of this code has one liberty.
     #[inline]
     pub(crate) fn has_chain_in_atari(&self, liberties: &[u16; 361], code: u16) -> bool
-        requires { (m : ℕ) → IsOneName self.now.above self.now.left self.now.right self.now.below m → root_of m < MOST_POINTS }
-        ensures { result ≡ false → (m : ℕ) → IsOneName self.now.above self.now.left self.now.right self.now.below m → m / 512 ≡ code
+        requires { (m : ℕ) → IsOneName self.now.above self.now.left self.now.right self.now.below m
+            → root_of m < MOST_POINTS }
+        ensures { result ≡ false → (m : ℕ)
+            → IsOneName self.now.above self.now.left self.now.right self.now.below m
+            → m / 512 ≡ code
             → name_at liberties.now (root_of m) ≢ 1 }
     {
         is_in_atari(liberties, self.above, code)
@@ -128,11 +132,16 @@ impl NeighbourNames {
     /// Whether a point is empty, or a chain of the colour of this code has not one liberty.
     #[inline]
     pub(crate) fn has_empty_or_not_in_atari(&self, liberties: &[u16; 361], code: u16) -> bool
-        requires { (m : ℕ) → IsOneName self.now.above self.now.left self.now.right self.now.below m → root_of m < MOST_POINTS }
-        ensures some { IsTrue result → (m : ℕ) × IsOneName self.now.above self.now.left self.now.right self.now.below m
+        requires { (m : ℕ) → IsOneName self.now.above self.now.left self.now.right self.now.below m
+            → root_of m < MOST_POINTS }
+        ensures some { IsTrue result
+            → (m : ℕ) × IsOneName self.now.above self.now.left self.now.right self.now.below m
             × ((m ≡ 0) ⊎ ((m / 512 ≡ code) × (name_at liberties.now (root_of m) ≢ 1))) }
-        ensures none { result ≡ false → (m : ℕ) → IsOneName self.now.above self.now.left self.now.right self.now.below m → m ≢ 0 }
-        ensures shut { result ≡ false → (m : ℕ) → IsOneName self.now.above self.now.left self.now.right self.now.below m → m / 512 ≡ code
+        ensures none { result ≡ false → (m : ℕ)
+            → IsOneName self.now.above self.now.left self.now.right self.now.below m → m ≢ 0 }
+        ensures shut { result ≡ false → (m : ℕ)
+            → IsOneName self.now.above self.now.left self.now.right self.now.below m
+            → m / 512 ≡ code
             → name_at liberties.now (root_of m) ≢ 1 → ⊥ }
     {
         is_empty_or_not_in_atari(liberties, self.above, code)
@@ -144,7 +153,9 @@ impl NeighbourNames {
     /// Whether one is of a chain of the colour of this code.
     #[inline]
     pub(crate) fn has_colour(&self, code: u16) -> bool
-        ensures { result ≡ false → (m : ℕ) → IsOneName self.now.above self.now.left self.now.right self.now.below m → m / 512 ≢ code }
+        ensures { result ≡ false → (m : ℕ)
+            → IsOneName self.now.above self.now.left self.now.right self.now.below m
+            → m / 512 ≢ code }
     {
         self.above / 512 == code
             || self.left / 512 == code

@@ -83,7 +83,8 @@ fn filter_index_of_sum(sum: u64) -> usize
 /// made for it.
 pub(crate) fn filter_index_with_stone(sum: u64, colour: Colour, p: Point) -> usize
     requires { p < MOST_POINTS }
-    ensures { (g : Size) (c : Colouring) → length c ≡ point_count g → p < point_count g → entry_at c p ≡ None → sum ≡ mix_board g c
+    ensures { (g : Size) (c : Colouring) → length c ≡ point_count g → p < point_count g
+        → entry_at c p ≡ None → sum ≡ mix_board g c
         → result ≡ filter_index g (slice_set c p (Some colour)) }
 {
     let n = usize::from(p.number());
@@ -124,7 +125,8 @@ impl BloomFilter {
 
     /// The colourings of these boards, which have one size.
     pub(crate) fn of_boards(alloc: Global, boards: &[Board]) -> BloomFilter
-        ensures { (g : Size) → All (λ b. b.size ≡ g) boards.now → MayHoldAll result g (colourings boards.now) }
+        ensures { (g : Size) → All (λ b. b.size ≡ g) boards.now
+            → MayHoldAll result g (colourings boards.now) }
     {
         let mut filter = BloomFilter::empty(alloc, FILTER_BITS);
         for board in boards {

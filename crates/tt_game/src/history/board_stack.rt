@@ -55,7 +55,8 @@ fn overwrite_with_play(
     requires room { k < length later.old }
     requires on_board { p < point_count (slice_index_or (first.now ∷ later.old) k first.now).size }
     requires free { entry_at (slice_index_or (first.now ∷ later.old) k first.now).points p ≡ None }
-    ensures { later.new ≡ slice_set later.old k (board_on (slice_index_or (first.now ∷ later.old) k first.now).size
+    ensures { later.new
+        ≡ slice_set later.old k (board_on (slice_index_or (first.now ∷ later.old) k first.now).size
         (play_of (slice_index_or (first.now ∷ later.old) k first.now).size (slice_index_or (first.now ∷ later.old) k first.now).points colour p)) }
 {
     if k == 0 {
@@ -76,7 +77,8 @@ fn push_with_play(
 ) -> Result<(), NoMemory>
     ensures later { OnOk result (later.new.items ≡ later.old.items ++ board ∷ []) }
     ensures plays { OnOk result (plays.new.items ≡ plays.old.items ++ (colour, p) ∷ []) }
-    ensures err { OnErr result ((later.new.items ≡ later.old.items) × (plays.new.items ≡ plays.old.items)) }
+    ensures err { OnErr result ((later.new.items ≡ later.old.items)
+        × (plays.new.items ≡ plays.old.items)) }
 {
     later.push(board)?;
     if plays.push((colour, p)).is_err() {

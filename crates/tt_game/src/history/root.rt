@@ -104,7 +104,8 @@ impl Root {
     /// What lines that begin with this history share.
     pub(crate) fn of(frame: &Frame, history: &History) -> Result<Root, NoMemory>
         requires { history.now.size ≡ frame.now.size }
-        ensures { IfOk result (λ r. (r.frame ≡ frame.now) × (colourings r.begun ≡ so_far history.now)) }
+        ensures { IfOk result
+            (λ r. (r.frame ≡ frame.now) × (colourings r.begun ≡ so_far history.now)) }
     {
         let alloc = history.alloc();
         let boards = history.boards();
@@ -171,7 +172,8 @@ impl Root {
     /// Whether a stone of this colour stood on `p` on some board of the beginning.
     pub(crate) fn stone_has_stood(&self, colour: Colour, p: Point) -> bool
         requires { p < point_count self.now.frame.size }
-        ensures { (c : Colouring) → IsInHistory (colourings self.now.begun) c → entry_at c p ≡ Some colour → IsTrue result }
+        ensures { (c : Colouring) → IsInHistory (colourings self.now.begun) c
+            → entry_at c p ≡ Some colour → IsTrue result }
     {
         let index = usize::from(p.number());
         match colour {
@@ -206,7 +208,8 @@ impl Root {
 
     /// Whether some board of the beginning may have this hash. Where none has, no colouring of theirs has it.
     pub(crate) fn may_have_hash(&self, hash: usize) -> bool
-        ensures { result ≡ false → (c : Colouring) → filter_index self.now.frame.size c ≡ hash → IsInHistory (colourings self.now.begun) c → ⊥ }
+        ensures { result ≡ false → (c : Colouring) → filter_index self.now.frame.size c ≡ hash
+            → IsInHistory (colourings self.now.begun) c → ⊥ }
     {
         self.filter.has(hash)
     }

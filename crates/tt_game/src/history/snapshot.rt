@@ -86,8 +86,10 @@ impl Snapshot {
     ) -> Result<Snapshot, NoMemory>
         requires size { history.now.size ≡ (arc_value root.now).frame.size }
         requires begins { BoardsBegin (arc_value root.now).begun (so_far history.now) }
-        requires hash { hash ≡ hash_of_key (key_of (arc_value root.now).frame (state_at history.now to_move)) }
-        ensures { IfOk result (λ p. p ≡ record { frame = (arc_value root.now).frame; state = state_at history.now to_move }) }
+        requires hash { hash
+            ≡ hash_of_key (key_of (arc_value root.now).frame (state_at history.now to_move)) }
+        ensures { IfOk result
+            (λ p. p ≡ record { frame = (arc_value root.now).frame; state = state_at history.now to_move }) }
     {
         let later = BoardDeltas::of(
             history.alloc(),
@@ -123,7 +125,8 @@ impl Snapshot {
     /// too, and with none else. It takes no memory.
     pub fn known_common_history_length(&self, line: &Line) -> usize
         ensures within { result ≤ length (history line.now.state) }
-        ensures alike { take result (history line.now.state) ≡ take result (history self.now.state) }
+        ensures alike { take result (history line.now.state)
+            ≡ take result (history self.now.state) }
     {
         if !begins_with_root(&self.root, line.history(), line.root()) {
             return 0;
@@ -140,7 +143,8 @@ impl Snapshot {
 
     /// Whether the line stands there: with the same frame, history, side to move and passes. It takes no memory.
     pub fn is_state_of(&self, line: &Line) -> bool
-        ensures { IsTrue result ↔ ((self.now.frame ≡ line.now.frame) × (self.now.state ≡ line.now.state)) }
+        ensures { IsTrue result
+            ↔ ((self.now.frame ≡ line.now.frame) × (self.now.state ≡ line.now.state)) }
     {
         if !self.has_frame_mover_passes_of(line) {
             return false;
@@ -173,7 +177,8 @@ impl Snapshot {
     /// Whether the line's position has the key of the one there. It mostly is that position, which is seen sooner than its key is made.
     /// It takes no memory.
     pub fn has_key_of(&self, line: &Line) -> bool
-        ensures { IsTrue result ↔ (key_of self.now.frame self.now.state ≡ key_of line.now.frame line.now.state) }
+        ensures { IsTrue result
+            ↔ (key_of self.now.frame self.now.state ≡ key_of line.now.frame line.now.state) }
     {
         if self.is_position_of(line) {
             return true;
@@ -183,7 +188,9 @@ impl Snapshot {
 
     /// Whether the line has the same frame, side to move and passes.
     fn has_frame_mover_passes_of(&self, line: &Line) -> bool
-        ensures { IsTrue result ↔ ((self.now.frame ≡ line.now.frame) × (self.now.state.to_move ≡ line.now.state.to_move) × (self.now.state.passes ≡ line.now.state.passes)) }
+        ensures { IsTrue result
+            ↔ ((self.now.frame ≡ line.now.frame) × (self.now.state.to_move ≡ line.now.state.to_move)
+            × (self.now.state.passes ≡ line.now.state.passes)) }
     {
         if self.to_move != line.to_move() {
             return false;

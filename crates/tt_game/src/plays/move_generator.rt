@@ -68,7 +68,8 @@ impl Line {
     /// where they are few. A small region has few of them.
     fn some_noncapturing_plays_if_many(&self, colour: Colour, empty: &Bits) -> Bits
         requires colour { colour ≡ side_colour self.now.frame self.now.state.to_move }
-        requires free { (p : ℕ) → p < point_count self.now.frame.size → bit_in empty.now.words p ≡ true → entry_at self.now.state.present p ≡ None }
+        requires free { (p : ℕ) → p < point_count self.now.frame.size
+            → bit_in empty.now.words p ≡ true → entry_at self.now.state.present p ≡ None }
         ensures { (p : ℕ) → p < point_count self.now.frame.size → bit_in result.words p ≡ true
             → IsPlayOfKind NoCapture self.now.frame.size self.now.state.present (side_colour self.now.frame self.now.state.to_move) p }
     {
@@ -83,10 +84,12 @@ impl Line {
 
     /// Those of these points on which a play of the side to move makes a new colouring, since its stones never stood there.
     fn some_with_new_colouring(&self, no_capture: &Bits, stood: &Bits) -> Bits
-        requires no_capture { (p : ℕ) → p < point_count self.now.frame.size → bit_in no_capture.now.words p ≡ true
+        requires no_capture { (p : ℕ) → p < point_count self.now.frame.size
+            → bit_in no_capture.now.words p ≡ true
             → IsPlayOfKind NoCapture self.now.frame.size self.now.state.present (side_colour self.now.frame self.now.state.to_move) p }
         requires stood { IncludesStoodPoints (side_colour self.now.frame self.now.state.to_move) self.now.frame.size (history self.now.state) stood.now.words }
-        ensures { (p : ℕ) → p < point_count self.now.frame.size → bit_in result.words p ≡ true → IsForetoldKind NoCapture self.now.frame self.now.state p }
+        ensures { (p : ℕ) → p < point_count self.now.frame.size → bit_in result.words p ≡ true
+            → IsForetoldKind NoCapture self.now.frame self.now.state p }
     {
         no_capture.minus(stood)
     }
@@ -96,8 +99,10 @@ impl Line {
         requires { IsMoveGenerator moves.now self.now.frame self.now.state }
         ensures { MatchOption result
             ((q : ℕ) → from ≤ q → IsLegal self.now.frame self.now.state (Turn.Play q) → ⊥)
-            (λ p. (p < point_count self.now.frame.size) × (from ≤ p) × ((q : ℕ) → from ≤ q → q < p → IsLegal self.now.frame self.now.state (Turn.Play q) → ⊥)
-            × IsTrue (set.contains self.now.frame.region p) × (entry_at self.now.state.present p ≡ None)) }
+            (λ p. (p < point_count self.now.frame.size) × (from ≤ p)
+            × ((q : ℕ) → from ≤ q → q < p → IsLegal self.now.frame self.now.state (Turn.Play q) → ⊥)
+            × IsTrue (set.contains self.now.frame.region p)
+            × (entry_at self.now.state.present p ≡ None)) }
     {
         let n = moves.empty.first_from(usize::from(from).min(BITS));
         self.frame().size.point(n as u16)
@@ -109,8 +114,10 @@ impl Line {
         requires moves { IsMoveGenerator moves.now self.now.frame self.now.state }
         requires on_board { p < point_count self.now.frame.size }
         requires free { entry_at self.now.state.present p ≡ None }
-        requires no_capture { colouring_after_play self.now.frame self.now.state p ≡ slice_set self.now.state.present p (Some (side_colour self.now.frame self.now.state.to_move)) }
-        ensures { IsTrue result → IsInHistory (history self.now.state) (colouring_after_play self.now.frame self.now.state p) → ⊥ }
+        requires no_capture { colouring_after_play self.now.frame self.now.state p
+            ≡ slice_set self.now.state.present p (Some (side_colour self.now.frame self.now.state.to_move)) }
+        ensures { IsTrue result
+            → IsInHistory (history self.now.state) (colouring_after_play self.now.frame self.now.state p) → ⊥ }
     {
         match moves.sum {
             Some(sum) => self.is_new_by_hash(sum, moves.colour, p),
@@ -158,7 +165,8 @@ impl Line {
         requires open { winner_of self.now.frame self.now.state ≡ None }
         requires kind { IsPlayOfKind kind self.now.frame.size self.now.state.present (side_colour self.now.frame self.now.state.to_move) p }
         ensures { MatchOption result (IsLegal self.now.frame self.now.state (Turn.Play p) → ⊥)
-            (λ w. IsLegal self.now.frame self.now.state (Turn.Play p) × (w ≡ winner_of self.now.frame (after self.now.frame self.now.state (Turn.Play p)))) }
+            (λ w. IsLegal self.now.frame self.now.state (Turn.Play p)
+            × (w ≡ winner_of self.now.frame (after self.now.frame self.now.state (Turn.Play p)))) }
     {
         let next = self
             .counted_board()
@@ -177,9 +185,11 @@ impl Line {
         requires inside { IsTrue (set.contains self.now.frame.region p) }
         requires free { entry_at self.now.state.present p ≡ None }
         requires open { winner_of self.now.frame self.now.state ≡ None }
-        requires put { colouring_after_play self.now.frame self.now.state p ≡ slice_set self.now.state.present p (Some (side_colour self.now.frame self.now.state.to_move)) }
+        requires put { colouring_after_play self.now.frame self.now.state p
+            ≡ slice_set self.now.state.present p (Some (side_colour self.now.frame self.now.state.to_move)) }
         ensures { MatchOption result (IsLegal self.now.frame self.now.state (Turn.Play p) → ⊥)
-            (λ w. IsLegal self.now.frame self.now.state (Turn.Play p) × (w ≡ winner_of self.now.frame (after self.now.frame self.now.state (Turn.Play p)))) }
+            (λ w. IsLegal self.now.frame self.now.state (Turn.Play p)
+            × (w ≡ winner_of self.now.frame (after self.now.frame self.now.state (Turn.Play p)))) }
     {
         let mut next = self.present().copy();
         next.put_stone(self.colour_to_move(), p);
@@ -199,7 +209,8 @@ impl Line {
         requires free { entry_at self.now.state.present p ≡ None }
         requires open { winner_of self.now.frame self.now.state ≡ None }
         ensures { MatchOption result (IsLegal self.now.frame self.now.state (Turn.Play p) → ⊥)
-            (λ w. IsLegal self.now.frame self.now.state (Turn.Play p) × (w ≡ winner_of self.now.frame (after self.now.frame self.now.state (Turn.Play p)))) }
+            (λ w. IsLegal self.now.frame self.now.state (Turn.Play p)
+            × (w ≡ winner_of self.now.frame (after self.now.frame self.now.state (Turn.Play p)))) }
     {
         let (kind_here, kind) = self.foretold_and_local_kind(moves, p);
         match kind_here {

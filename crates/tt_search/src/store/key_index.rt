@@ -36,7 +36,9 @@ fn filter_bit(hash: u32) -> usize
 
 /// Whether the proof has the line's key and is for the side.
 fn has_key_and_side(p: &Proof, line: &Line, side: Side) -> bool
-    ensures { IsTrue result ↔ ((key_of p.now.frame p.now.state ≡ key_of line.now.frame line.now.state) × (p.now.side ≡ side)) }
+    ensures { IsTrue result
+        ↔ ((key_of p.now.frame p.now.state ≡ key_of line.now.frame line.now.state)
+        × (p.now.side ≡ side)) }
 {
     p.side() == side && p.has_key_of(line)
 }

@@ -78,7 +78,8 @@ impl PrivateStore {
 
     /// An empty store that may keep so many proofs, where these are no more than 4,096. It takes no memory.
     pub fn bounded(alloc: Global, capacity: usize) -> Option<PrivateStore>
-        ensures { MatchOption result (4096 < capacity) (λ s. (capacity ≤ 4096) × (s ≡ record { proofs = []; capacity = capacity })) }
+        ensures { MatchOption result (4096 < capacity)
+            (λ s. (capacity ≤ 4096) × (s ≡ record { proofs = []; capacity = capacity })) }
     {
         if capacity > Self::DEFAULT_CAPACITY {
             return None;
@@ -89,7 +90,8 @@ impl PrivateStore {
 
 /// Another handle of the proof in the slot, where there is one.
 fn handle_at(proofs: &Vec<Arc<Proof>>, slot: Option<usize>) -> Result<Option<Arc<Proof>>, NoMemory>
-    ensures { IfOk result (λ o. option_map (λ p. arc_value p) o ≡ proof_at (map arc_value proofs.now.items) slot) }
+    ensures { IfOk result
+        (λ o. option_map (λ p. arc_value p) o ≡ proof_at (map arc_value proofs.now.items) slot) }
 {
     let Some(slot) = slot else {
         return Ok(None);
@@ -117,7 +119,8 @@ impl Store for PrivateStore {
     }
 
     fn find(&mut self, line: &Line, s: Side) -> Result<Option<Arc<Proof>>, NoMemory>
-        ensures newest { IfOk result (λ o. IsNewest line.now s self.old.proofs (option_map (λ p. p.value) o)) }
+        ensures newest { IfOk result
+            (λ o. IsNewest line.now s self.old.proofs (option_map (λ p. p.value) o)) }
         ensures found { IfOk result (λ o. IfSome o (λ p. HasKeyAndSide line.now s p.value)) }
         ensures may { IfOk result (λ o. IfSome o (λ _. Unit {0})) }
         ensures capacity { self.new.capacity ≡ self.old.capacity }
@@ -128,10 +131,14 @@ impl Store for PrivateStore {
     }
 
     fn find_both(&mut self, line: &Line) -> Result<ProofPerSide, NoMemory>
-        ensures newest_attacker { IfOk result (λ a. IsNewest line.now Attacker self.old.proofs (option_map (λ p. p.value) a.attacker)) }
-        ensures newest_defender { IfOk result (λ a. IsNewest line.now Defender self.old.proofs (option_map (λ p. p.value) a.defender)) }
-        ensures attacker { IfOk result (λ a. IfSome a.attacker (λ p. HasKeyAndSide line.now Attacker p.value)) }
-        ensures defender { IfOk result (λ a. IfSome a.defender (λ p. HasKeyAndSide line.now Defender p.value)) }
+        ensures newest_attacker { IfOk result
+            (λ a. IsNewest line.now Attacker self.old.proofs (option_map (λ p. p.value) a.attacker)) }
+        ensures newest_defender { IfOk result
+            (λ a. IsNewest line.now Defender self.old.proofs (option_map (λ p. p.value) a.defender)) }
+        ensures attacker { IfOk result
+            (λ a. IfSome a.attacker (λ p. HasKeyAndSide line.now Attacker p.value)) }
+        ensures defender { IfOk result
+            (λ a. IfSome a.defender (λ p. HasKeyAndSide line.now Defender p.value)) }
         ensures may_attacker { IfOk result (λ a. IfSome a.attacker (λ _. Unit {0})) }
         ensures may_defender { IfOk result (λ a. IfSome a.defender (λ _. Unit {0})) }
         ensures capacity { self.new.capacity ≡ self.old.capacity }

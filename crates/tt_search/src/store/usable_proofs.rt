@@ -17,7 +17,8 @@ use tt_sgf::NoMemory;
 fn is_usable(line: &mut Line, room: u16, proof: &Proof) -> Result<bool, NoMemory>
     requires { key_of proof.now.frame proof.now.state ≡ key_of line.old.frame line.old.state }
     ensures usable { IfOk result (λ b. IsTrue b ↔ IsUsable room line.old proof.now) }
-    ensures unasked { FitsAt proof.now line.old.frame line.old.state → depth proof.now.tree ≤ room → result ≡ Ok true }
+    ensures unasked { FitsAt proof.now line.old.frame line.old.state → depth proof.now.tree ≤ room
+        → result ≡ Ok true }
     ensures line { line.new ≡ line.old }
 {
     if proof.depth() > room {
@@ -35,9 +36,12 @@ fn first_usable_proof(
     attacker: Option<Arc<Proof>>,
     defender: Option<Arc<Proof>>,
 ) -> Result<Option<Arc<Proof>>, NoMemory>
-    requires attacker { IfSome attacker (λ p. key_of p.value.frame p.value.state ≡ key_of line.old.frame line.old.state) }
-    requires defender { IfSome defender (λ p. key_of p.value.frame p.value.state ≡ key_of line.old.frame line.old.state) }
-    ensures attacker { IfOk result (λ o. IfSome attacker (λ p. IsUsable room line.old p.value → o ≡ attacker)) }
+    requires attacker { IfSome attacker
+        (λ p. key_of p.value.frame p.value.state ≡ key_of line.old.frame line.old.state) }
+    requires defender { IfSome defender
+        (λ p. key_of p.value.frame p.value.state ≡ key_of line.old.frame line.old.state) }
+    ensures attacker { IfOk result
+        (λ o. IfSome attacker (λ p. IsUsable room line.old p.value → o ≡ attacker)) }
     ensures defender { IfOk result (λ o. IfSome attacker (λ p. IsUsable room line.old p.value → ⊥)
         → IfSome defender (λ p. IsUsable room line.old p.value → o ≡ defender)) }
     ensures usable { IfOk result (λ o. IfSome o (λ p. IsUsable room line.old p.value)) }

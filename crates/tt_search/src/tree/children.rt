@@ -45,7 +45,8 @@ impl ChildNodes {
     pub(crate) fn new(alloc: Global, mover: Side, edges: Edges) -> (BestChild, ChildNodes, PhiDelta)
         requires few { length edges ≤ TURN_NUMBER_BOUND }
         requires none { grown_in edges ≡ 0 }
-        ensures children { choices_of result.0.mover result.1 ≡ record { mover = mover; turns = edge_turns edges; trees = edge_trees edges [] } }
+        ensures children { choices_of result.0.mover result.1
+            ≡ record { mover = mover; turns = edge_turns edges; trees = edge_trees edges [] } }
         ensures kept { IsKeptWith result.0 result.1 result.2 }
     {
         let grown = Vec::new(alloc);

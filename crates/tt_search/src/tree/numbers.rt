@@ -141,7 +141,8 @@ impl ChildNodes {
         ensures index { result.0.index ≡ index_of_best mover (children_in self.now) }
         ensures rank { IsRank result.0.rank result.0.index self.now }
         ensures least { result.0.least ≡ least (child_numbers mover (children_in self.now)) }
-        ensures sum { result.1 ≡ capped_sum (child_numbers (opponent mover) (children_in self.now)) }
+        ensures sum { result.1
+            ≡ capped_sum (child_numbers (opponent mover) (children_in self.now)) }
     {
         if are_fresh(self.edges.as_slice()) {
             let best = BestChildFound {
@@ -159,7 +160,9 @@ impl ChildNodes {
     pub(crate) fn opponent_sum_after(&self, mover: Side, was: u32, old: u32, new: u32) -> u32
         requires whole { HasItsNodes self.now }
         requires part { was < cap → old ≤ was }
-        requires changed { was < cap → changed_sum was old new ≡ capped_sum (child_numbers (opponent mover) (children_in self.now)) }
+        requires changed { was < cap
+            → changed_sum was old new
+            ≡ capped_sum (child_numbers (opponent mover) (children_in self.now)) }
         ensures { result ≡ capped_sum (child_numbers (opponent mover) (children_in self.now)) }
     {
         if was >= CAP {
@@ -212,9 +215,11 @@ fn best_of(mover: Side, from: u32, edges: &[Edge], grown: &[Node]) -> BestChildF
     requires whole { grown_in edges.now ≡ length grown.now }
     requires lowest { from ≤ least (child_numbers mover (children_of (edge_trees edges.now grown.now))) }
     requires finite { from < infinite }
-    ensures index { result.index ≡ index_of_best mover (children_of (edge_trees edges.now grown.now)) }
+    ensures index { result.index
+        ≡ index_of_best mover (children_of (edge_trees edges.now grown.now)) }
     ensures rank { result.rank ≡ grown_in (take result.index edges.now) }
-    ensures least { result.least ≡ least (child_numbers mover (children_of (edge_trees edges.now grown.now))) }
+    ensures least { result.least
+        ≡ least (child_numbers mover (children_of (edge_trees edges.now grown.now))) }
 {
     let mut index = 0;
     let mut rank = 0;
@@ -249,7 +254,8 @@ fn best_of(mover: Side, from: u32, edges: &[Edge], grown: &[Node]) -> BestChildF
 /// The sum of the numbers of the goal.
 fn capped_sum_of(goal: Side, edges: &[Edge], grown: &[Node]) -> u32
     requires { grown_in edges.now ≡ length grown.now }
-    ensures { result ≡ capped_sum (child_numbers goal (children_of (edge_trees edges.now grown.now))) }
+    ensures { result
+        ≡ capped_sum (child_numbers goal (children_of (edge_trees edges.now grown.now))) }
 {
     let mut total: u32 = 0;
     let mut rest = grown;
@@ -268,7 +274,8 @@ fn capped_sum_of(goal: Side, edges: &[Edge], grown: &[Node]) -> u32
 /// The index of the first child that is settled for the side, or how many children there are where none is, and its rank.
 fn first_settled_of(side: Side, edges: &[Edge], grown: &[Node]) -> (usize, usize)
     requires { grown_in edges.now ≡ length grown.now }
-    ensures index { result.0 ≡ first_settled_index side (children_of (edge_trees edges.now grown.now)) }
+    ensures index { result.0
+        ≡ first_settled_index side (children_of (edge_trees edges.now grown.now)) }
     ensures rank { result.1 ≡ grown_in (take result.0 edges.now) }
 {
     let mut rank = 0;

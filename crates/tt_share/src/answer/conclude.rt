@@ -29,7 +29,8 @@ use tt_sgf::NoMemory;
 
 /// The answer where memory was refused outside a search.
 pub(crate) fn no_memory_answer(alloc: Global) -> Answer
-    ensures { (line : LineWithUndo) (limits : Limits) (total : Option ℕ) → IsAnswer line limits total result }
+    ensures { (line : LineWithUndo) (limits : Limits) (total : Option ℕ)
+        → IsAnswer line limits total result }
 {
     Answer::Unsettled(Stuck {
         turn: Turn::Pass,
@@ -73,7 +74,8 @@ pub(crate) fn answer_of_proof(
 /// The result of a job, taken out of the list.
 fn take_end(ends: &mut Vec<Option<JobResult>>, job: usize) -> Option<End>
     requires within { job < vec_len ends.old }
-    ensures taken { MatchOption result (slice_get ends.old.items job ≡ Some None) (λ end. (of : JobResult) × HasEnd ends.old.items job of × (end ≡ end_of of)) }
+    ensures taken { MatchOption result (slice_get ends.old.items job ≡ Some None)
+        (λ end. (of : JobResult) × HasEnd ends.old.items job of × (end ≡ end_of of)) }
     ensures rest { ends.new.items ≡ slice_set ends.old.items job None }
     ensures len { vec_len ends.new ≡ vec_len ends.old }
 {
@@ -99,7 +101,8 @@ impl<'a> Jobs<'a> {
         requires legal { IsLegal self.now.line.now.frame self.now.line.now.state turn }
         requires child { EndsBehind self.now.line.now self.now.limits turn (End.Settled child) }
         requires side { child.side ≡ self.now.line.now.state.to_move }
-        ensures answer { (total : Option ℕ) → IfOk result (IsAnswer self.now.line.now self.now.limits total) }
+        ensures answer { (total : Option ℕ)
+            → IfOk result (IsAnswer self.now.line.now self.now.limits total) }
         ensures begins { IfOk result (BeginsWith (Some turn)) }
     {
         let proof = Proof::pick(self.alloc, self.line, turn, child)?;
@@ -109,8 +112,10 @@ impl<'a> Jobs<'a> {
     /// The answer where all turns have lost.
     fn answer_by_lost_turns(&self, children: Vec<(Turn, Proof)>) -> Result<Answer, NoMemory>
         requires lost { HaveLost self.now.line.now self.now.limits children.items }
-        requires all { vec_len children ≡ length (legal_turns self.now.line.now.frame self.now.line.now.state) }
-        ensures answer { (total : Option ℕ) → IfOk result (IsAnswer self.now.line.now self.now.limits total) }
+        requires all { vec_len children
+            ≡ length (legal_turns self.now.line.now.frame self.now.line.now.state) }
+        ensures answer { (total : Option ℕ)
+            → IfOk result (IsAnswer self.now.line.now self.now.limits total) }
         ensures begins { IfOk result (BeginsWith None) }
     {
         let proof = Proof::reply(self.alloc, self.line, children)?;
@@ -123,11 +128,16 @@ impl<'a> Results<'a> {
     /// the least turn whose search is stuck, with its own reason and search.
     pub fn conclude(self) -> Result<Answer, NoMemory>
         requires ready { IsReady self.line.state.to_move self.ends }
-        ensures answer { (total : Option ℕ) → KeepsTotal total self.entry → IfOk result (IsAnswer self.entry.line self.entry.limits total) }
-        ensures picks { (job : ℕ) (turn : Turn) → IsLeastWin self.entry.line.state.to_move self.entry.ends job → IsJob self.entry.line job turn →
+        ensures answer { (total : Option ℕ) → KeepsTotal total self.entry
+            → IfOk result (IsAnswer self.entry.line self.entry.limits total) }
+        ensures picks { (job : ℕ) (turn : Turn)
+            → IsLeastWin self.entry.line.state.to_move self.entry.ends job
+            → IsJob self.entry.line job turn →
             IfOk result (BeginsWith (Some turn)) }
-        ensures replies { NoWin self.entry.line.state.to_move self.entry.ends → NoneStuck self.entry.ends → IfOk result (BeginsWith None) }
-        ensures stuck { (job : ℕ) (turn : Turn) (reason : Reason) (search : Option SearchState) → NoWin self.entry.line.state.to_move self.entry.ends →
+        ensures replies { NoWin self.entry.line.state.to_move self.entry.ends
+            → NoneStuck self.entry.ends → IfOk result (BeginsWith None) }
+        ensures stuck { (job : ℕ) (turn : Turn) (reason : Reason) (search : Option SearchState)
+            → NoWin self.entry.line.state.to_move self.entry.ends →
             IsLeastStuck self.entry.ends job reason search → IsJob self.entry.line job turn →
             IfOk result (IsStuckWith turn reason search (counts_if_total_spent_of reason self.entry.spent)) }
     {

@@ -20,7 +20,8 @@ pub(crate) fn answer_from_store<S: Store>(
     store: &mut S,
 ) -> Result<Option<Answer>, NoMemory>
     requires open { winner_of line.now.frame line.now.state ≡ None }
-    ensures { (total : Option ℕ) → IfOk result (λ o. IfSome o (λ a. IsAnswer line.now limits total a)) }
+    ensures { (total : Option ℕ)
+        → IfOk result (λ o. IfSome o (λ a. IsAnswer line.now limits total a)) }
 {
     let mut own = line.try_clone()?;
     let Some(found) = find_usable_proof(&mut own, limits.depth(), store)? else {

@@ -37,8 +37,10 @@ impl<'a> SeatGrants<'a> {
     /// Raises the flag where a job was settled for the side to move.
     pub fn raise_flag_if(&mut self, won: bool)
         ensures desk { self.new.desk.now ≡ self.old.desk.now }
-        ensures counts { (self.new.granted ≡ self.old.granted) × (self.new.refused ≡ self.old.refused) }
-        ensures seat { self.new.seat ≡ seat_of self.old.seat.desk self.old.seat.numbers self.old.seat.grants (self.old.seat.flag || won) self.old.seat.saw_flag }
+        ensures counts { (self.new.granted ≡ self.old.granted)
+            × (self.new.refused ≡ self.old.refused) }
+        ensures seat { self.new.seat
+            ≡ seat_of self.old.seat.desk self.old.seat.numbers self.old.seat.grants (self.old.seat.flag || won) self.old.seat.saw_flag }
     {
         if won {
             self.desk.raise(&mut self.seat);

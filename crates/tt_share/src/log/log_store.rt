@@ -95,23 +95,29 @@ impl<'a, R: Wait> Store for LogStore<'a, R> {
         ensures kept { self.new.kept ≡ self.old.kept }
         ensures log { self.new.log ≡ self.old.log }
         ensures tokens { Extends self.old.tokens self.new.tokens }
-        ensures newest { IfOk result (λ o. IsNewest line.now s (proofs_newest_first self.new.tokens) (option_map (λ p. arc_value p) o)) }
+        ensures newest { IfOk result
+            (λ o. IsNewest line.now s (proofs_newest_first self.new.tokens) (option_map (λ p. arc_value p) o)) }
         ensures memory { IfErr result (λ _. HasTokenOfKeyAndSide line.now s self.new.tokens) }
     {
         self.view.find(line, s)
     }
 
     fn find_both(&mut self, line: &Line) -> Result<ProofPerSide, NoMemory>
-        ensures attacker { IfOk result (λ b. IfSome b.attacker (λ p. HasKeyAndSide line.now Attacker p.value)) }
-        ensures defender { IfOk result (λ b. IfSome b.defender (λ p. HasKeyAndSide line.now Defender p.value)) }
+        ensures attacker { IfOk result
+            (λ b. IfSome b.attacker (λ p. HasKeyAndSide line.now Attacker p.value)) }
+        ensures defender { IfOk result
+            (λ b. IfSome b.defender (λ p. HasKeyAndSide line.now Defender p.value)) }
         ensures may_attacker { IfOk result (λ b. IfSome b.attacker (λ _. Unit {0})) }
         ensures may_defender { IfOk result (λ b. IfSome b.defender (λ _. Unit {0})) }
         ensures kept { self.new.kept ≡ self.old.kept }
         ensures log { self.new.log ≡ self.old.log }
         ensures tokens { Extends self.old.tokens self.new.tokens }
-        ensures newest_attacker { IfOk result (λ b. IsNewest line.now Attacker (proofs_newest_first self.new.tokens) (option_map (λ p. arc_value p) b.attacker)) }
-        ensures newest_defender { IfOk result (λ b. IsNewest line.now Defender (proofs_newest_first self.new.tokens) (option_map (λ p. arc_value p) b.defender)) }
-        ensures memory { IfErr result (λ _. HasTokenOfKeyAndSide line.now Attacker self.new.tokens ⊎ HasTokenOfKeyAndSide line.now Defender self.new.tokens) }
+        ensures newest_attacker { IfOk result
+            (λ b. IsNewest line.now Attacker (proofs_newest_first self.new.tokens) (option_map (λ p. arc_value p) b.attacker)) }
+        ensures newest_defender { IfOk result
+            (λ b. IsNewest line.now Defender (proofs_newest_first self.new.tokens) (option_map (λ p. arc_value p) b.defender)) }
+        ensures memory { IfErr result (λ _. HasTokenOfKeyAndSide line.now Attacker self.new.tokens
+            ⊎ HasTokenOfKeyAndSide line.now Defender self.new.tokens) }
     {
         self.view.find_both(line)
     }

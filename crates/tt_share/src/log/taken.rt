@@ -123,7 +123,8 @@ impl<'a> TakenTokens<'a> {
 
     /// The handle of the token at the slot, if it is one's.
     fn handle_at(&self, slot: Option<usize>) -> Option<&Arc<Proof>>
-        ensures { option_map (λ p. arc_value p.now) result ≡ proof_at (proofs_of self.now.tokens) slot }
+        ensures { option_map (λ p. arc_value p.now) result
+            ≡ proof_at (proofs_of self.now.tokens) slot }
     {
         let token = self.tokens.get(slot?)?;
         Some(self.log.handle_at(token))
@@ -141,8 +142,10 @@ impl<'a> TakenTokens<'a> {
     pub fn newest_proof_per_side(&self, line: &Line) -> (Option<&Arc<Proof>>, Option<&Arc<Proof>>)
         ensures attacker { IsNewest line.now Attacker (proofs_newest_first self.now.tokens) (option_map (λ p. arc_value p.now) result.0) }
         ensures defender { IsNewest line.now Defender (proofs_newest_first self.now.tokens) (option_map (λ p. arc_value p.now) result.1) }
-        ensures found_attacker { IfSome result.0 (λ p. HasKeyAndSide line.now Attacker (arc_value p.now)) }
-        ensures found_defender { IfSome result.1 (λ p. HasKeyAndSide line.now Defender (arc_value p.now)) }
+        ensures found_attacker { IfSome result.0
+            (λ p. HasKeyAndSide line.now Attacker (arc_value p.now)) }
+        ensures found_defender { IfSome result.1
+            (λ p. HasKeyAndSide line.now Defender (arc_value p.now)) }
     {
         let (attacker, defender) = self.index.newest_slot_per_side(line, &self.token_proofs());
         (self.handle_at(attacker), self.handle_at(defender))

@@ -175,7 +175,8 @@ impl<'a> View<'a> {
         ensures log { self.new.log ≡ self.old.log }
         ensures kept { self.new.kept ≡ self.old.kept }
         ensures tokens { Extends self.old.tokens self.new.tokens }
-        ensures newest { IfOk result (λ o. IsNewest line.now s (proofs_newest_first self.new.tokens) (option_map (λ p. arc_value p) o)) }
+        ensures newest { IfOk result
+            (λ o. IsNewest line.now s (proofs_newest_first self.new.tokens) (option_map (λ p. arc_value p) o)) }
         ensures found { IfOk result (λ o. IfSome o (λ p. HasKeyAndSide line.now s (arc_value p))) }
         ensures memory { IfErr result (λ _. HasTokenOfKeyAndSide line.now s self.new.tokens) }
     {
@@ -188,11 +189,16 @@ impl<'a> View<'a> {
         ensures log { self.new.log ≡ self.old.log }
         ensures kept { self.new.kept ≡ self.old.kept }
         ensures tokens { Extends self.old.tokens self.new.tokens }
-        ensures newest_attacker { IfOk result (λ b. IsNewest line.now Attacker (proofs_newest_first self.new.tokens) (option_map (λ p. arc_value p) b.attacker)) }
-        ensures newest_defender { IfOk result (λ b. IsNewest line.now Defender (proofs_newest_first self.new.tokens) (option_map (λ p. arc_value p) b.defender)) }
-        ensures attacker { IfOk result (λ b. IfSome b.attacker (λ p. HasKeyAndSide line.now Attacker (arc_value p))) }
-        ensures defender { IfOk result (λ b. IfSome b.defender (λ p. HasKeyAndSide line.now Defender (arc_value p))) }
-        ensures memory { IfErr result (λ _. HasTokenOfKeyAndSide line.now Attacker self.new.tokens ⊎ HasTokenOfKeyAndSide line.now Defender self.new.tokens) }
+        ensures newest_attacker { IfOk result
+            (λ b. IsNewest line.now Attacker (proofs_newest_first self.new.tokens) (option_map (λ p. arc_value p) b.attacker)) }
+        ensures newest_defender { IfOk result
+            (λ b. IsNewest line.now Defender (proofs_newest_first self.new.tokens) (option_map (λ p. arc_value p) b.defender)) }
+        ensures attacker { IfOk result
+            (λ b. IfSome b.attacker (λ p. HasKeyAndSide line.now Attacker (arc_value p))) }
+        ensures defender { IfOk result
+            (λ b. IfSome b.defender (λ p. HasKeyAndSide line.now Defender (arc_value p))) }
+        ensures memory { IfErr result (λ _. HasTokenOfKeyAndSide line.now Attacker self.new.tokens
+            ⊎ HasTokenOfKeyAndSide line.now Defender self.new.tokens) }
     {
         self.read_new_entries();
         let (attacker, defender) = self.taken.newest_proof_per_side(line);
@@ -204,7 +210,8 @@ impl<'a> View<'a> {
 
 /// Another handle of the proof, if there is one.
 fn handle_of(found: Option<&Arc<Proof>>) -> Result<Option<Arc<Proof>>, NoMemory>
-    ensures ok { IfOk result (λ o. option_map (λ p. arc_value p) o ≡ option_map (λ p. arc_value p.now) found.entry) }
+    ensures ok { IfOk result
+        (λ o. option_map (λ p. arc_value p) o ≡ option_map (λ p. arc_value p.now) found.entry) }
     ensures err { IfErr result (λ _. IsSome found.entry) }
 {
     match found {
