@@ -5,13 +5,13 @@ ghost use Rattle.tt_sgf.specs.Sizes.{point_count};
 ghost use Rattle.tt_board.specs.inside.Chains.{name_at, renamed, IsLiving, AreCounted, OtherChainsCounted, AreOthersCounted, HasLost};
 
 use crate::colouring::Colouring;
-use crate::counted::chain_counts::ChainCounts;
+use crate::counted::chain_counts::{ChainCounts, ChainName};
 use crate::counted::chain_names::{chains_beside, give_liberty, root_of};
 use tt_sgf::Size;
 
 impl ChainCounts {
     /// Takes the stone of the chain `name` on `p` off, which gives a liberty to each other chain beside it.
-    fn remove_stone(&mut self, size: Size, points: &mut Colouring, name: u16, p: usize)
+    fn remove_stone(&mut self, size: Size, points: &mut Colouring, name: ChainName, p: usize)
         requires fits { length points.old ≡ point_count size }
         requires on_board { p < point_count size }
         requires living { name ≢ 0 }
@@ -29,7 +29,7 @@ impl ChainCounts {
     }
 
     /// Takes the stones of the chain `name` off the board.
-    fn remove_chain_stones(&mut self, size: Size, points: &mut Colouring, name: u16)
+    fn remove_chain_stones(&mut self, size: Size, points: &mut Colouring, name: ChainName)
         requires fits { length points.old ≡ point_count size }
         requires counted { AreCounted size self.old }
         requires living { IsLiving self.old.names name }
@@ -51,7 +51,7 @@ impl ChainCounts {
     }
 
     /// Takes the chain `name` off the board.
-    pub(crate) fn remove_chain(&mut self, size: Size, points: &mut Colouring, name: u16)
+    pub(crate) fn remove_chain(&mut self, size: Size, points: &mut Colouring, name: ChainName)
         requires fits { length points.old ≡ point_count size }
         requires counted { AreCounted size self.old }
         requires living { IsLiving self.old.names name }
@@ -68,7 +68,7 @@ impl ChainCounts {
     }
 
     /// Takes the stones of the chain `name` off a colouring: a pass over the names that ends with the last of them.
-    fn lift_stones_off_colouring(&self, size: Size, points: &mut Colouring, name: u16)
+    fn lift_stones_off_colouring(&self, size: Size, points: &mut Colouring, name: ChainName)
         requires fits { length points.old ≡ point_count size }
         requires counted { AreCounted size self.now }
         requires living { IsLiving self.now.names name }
@@ -87,7 +87,12 @@ impl ChainCounts {
     }
 
     /// Takes the stones of the chain `name` off a colouring.
-    pub(crate) fn lift_chain_off_colouring(&self, size: Size, points: &mut Colouring, name: u16)
+    pub(crate) fn lift_chain_off_colouring(
+        &self,
+        size: Size,
+        points: &mut Colouring,
+        name: ChainName,
+    )
         requires fits { length points.old ≡ point_count size }
         requires counted { AreCounted size self.now }
         requires living { IsLiving self.now.names name }

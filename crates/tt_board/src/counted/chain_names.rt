@@ -5,13 +5,14 @@ ghost use Rattle.tt_sgf.specs.declared.size.TheConstants.{MOST_POINTS};
 ghost use Rattle.tt_sgf.specs.Sizes.{point_count};
 ghost use Rattle.tt_board.specs.inside.Chains.{name_at, root_of, Touches, IsEachOnce, AreRootsApart, is_new, count_there, count_beside};
 
+use crate::counted::chain_counts::ChainName;
 use crate::near::neighbours_of;
 use arrayvec::ArrayVec;
 use tt_sgf::Size;
 
 /// The point where the counts of a chain are kept.
 #[inline]
-pub(crate) fn root_of(name: u16) -> usize
+pub(crate) fn root_of(name: ChainName) -> usize
     ensures value { result ≡ root_of name }
     ensures small { result < 512 }
 {
@@ -29,7 +30,7 @@ pub(crate) fn copy_first(entries: &mut [u16], from: &[u16], count: usize)
 
 /// Whether the board has a point, and this name stands there.
 #[inline]
-fn point_has_name(names: &[u16; 361], index: Option<usize>, name: u16) -> bool
+fn point_has_name(names: &[ChainName; 361], index: Option<usize>, name: ChainName) -> bool
     requires { (q : ℕ) → index ≡ Some q → q < MOST_POINTS }
     ensures { IsTrue result ↔ ((q : ℕ) × (index ≡ Some q) × (name_at names.now q ≡ name)) }
 {
@@ -40,7 +41,7 @@ fn point_has_name(names: &[u16; 361], index: Option<usize>, name: u16) -> bool
 }
 
 /// Whether a stone of the chain is beside `p`.
-fn touches(size: Size, names: &[u16; 361], name: u16, p: usize) -> bool
+fn touches(size: Size, names: &[ChainName; 361], name: ChainName, p: usize) -> bool
     requires { p < point_count size }
     ensures { IsTrue result ↔ Touches size names.now name p }
 {
@@ -59,7 +60,12 @@ fn touches(size: Size, names: &[u16; 361], name: u16, p: usize) -> bool
 
 /// 1 for a point that is empty and that no stone of the chain is beside, 0 for another one or none.
 #[inline]
-fn one_if_new_liberty(size: Size, names: &[u16; 361], name: u16, index: Option<usize>) -> u16
+fn one_if_new_liberty(
+    size: Size,
+    names: &[ChainName; 361],
+    name: ChainName,
+    index: Option<usize>,
+) -> u16
     requires { (q : ℕ) → index ≡ Some q → q < point_count size }
     ensures value { result ≡ count_there (is_new size names.now name) index }
     ensures small { result ≤ 1 }
@@ -77,7 +83,12 @@ fn one_if_new_liberty(size: Size, names: &[u16; 361], name: u16, index: Option<u
 }
 
 /// How many liberties a stone on `p` brings the chain: empty points beside `p` that no stone of the chain is beside.
-pub(crate) fn count_new_liberties(size: Size, names: &[u16; 361], name: u16, p: usize) -> u16
+pub(crate) fn count_new_liberties(
+    size: Size,
+    names: &[ChainName; 361],
+    name: ChainName,
+    p: usize,
+) -> u16
     requires { p < point_count size }
     ensures { result ≡ count_beside size (is_new size names.now name) p }
 {
@@ -90,7 +101,7 @@ pub(crate) fn count_new_liberties(size: Size, names: &[u16; 361], name: u16, p: 
 
 /// Whether a name is not among those found. Mostly none is found yet.
 #[inline]
-pub(crate) fn is_not_yet_found(found: &ArrayVec<u16, 4>, name: u16) -> bool
+pub(crate) fn is_not_yet_found(found: &ArrayVec<ChainName, 4>, name: ChainName) -> bool
     ensures fresh { IsTrue result → Contains found.now.items name → ⊥ }
     ensures contained { result ≡ false → Contains found.now.items name }
 {
@@ -99,7 +110,12 @@ pub(crate) fn is_not_yet_found(found: &ArrayVec<u16, 4>, name: u16) -> bool
 
 /// Adds the chain on a point to those found, if there is one that is not among them, and but one.
 #[inline]
-fn push_chain_at(found: &mut ArrayVec<u16, 4>, names: &[u16; 361], index: Option<usize>, but: u16)
+fn push_chain_at(
+    found: &mut ArrayVec<ChainName, 4>,
+    names: &[ChainName; 361],
+    index: Option<usize>,
+    but: ChainName,
+)
     requires inside { (q : ℕ) → index ≡ Some q → q < MOST_POINTS }
     requires room { length found.old.items < 4 }
     requires once { IsEachOnce found.old.items }
@@ -118,7 +134,12 @@ fn push_chain_at(found: &mut ArrayVec<u16, 4>, names: &[u16; 361], index: Option
 }
 
 /// The different chains beside `p`, but one.
-pub(crate) fn chains_beside(size: Size, names: &[u16; 361], p: usize, but: u16) -> ArrayVec<u16, 4>
+pub(crate) fn chains_beside(
+    size: Size,
+    names: &[ChainName; 361],
+    p: usize,
+    but: ChainName,
+) -> ArrayVec<ChainName, 4>
     requires { p < point_count size }
     ensures beside { (m : ℕ)
         → Contains result.items m ↔ ((m ≢ 0) × (m ≢ but) × Touches size names.now m p) }
@@ -134,7 +155,7 @@ pub(crate) fn chains_beside(size: Size, names: &[u16; 361], p: usize, but: u16) 
 }
 
 /// Adds a liberty to each of these chains.
-pub(crate) fn give_liberty(liberties: &mut [u16; 361], near: &[u16])
+pub(crate) fn give_liberty(liberties: &mut [u16; 361], near: &[ChainName])
     requires in_range { (i : ℕ) → i < length near.now → root_of (name_at near.now i) < MOST_POINTS }
     requires apart { AreRootsApart near.now }
     requires small { (i : ℕ) → i < length near.now

@@ -15,7 +15,7 @@ ghost use Rattle.tt_board.specs.inside.Chains.{name_at, root_of, colour_number, 
 use crate::Colour;
 use crate::colouring::Colouring;
 use crate::colouring::around::{adjacent_points, first_column};
-use crate::counted::chain_counts::ChainCounts;
+use crate::counted::chain_counts::{ChainCounts, ChainName};
 use crate::counted::chain_names::{copy_first, root_of};
 use crate::counted::play_effects::{PlayEffect, chains_in_atari};
 use crate::counted::play_kind::{NeighbourNames, PlayKind, colour_number};
@@ -121,7 +121,7 @@ impl Chains {
     }
 
     /// Takes the chain of this name off the board.
-    pub(crate) fn take_chain(&mut self, name: u16)
+    pub(crate) fn take_chain(&mut self, name: ChainName)
         requires living { IsLiving self.old.counts.names name }
         ensures size { self.new.size ≡ self.old.size }
         ensures names { self.new.counts.names ≡ map (renamed name 0) self.old.counts.names }
@@ -292,7 +292,7 @@ impl Chains {
     }
 
     /// Takes the stones of the chain of this name off a colouring of the board's points.
-    fn lift_off_colouring(&self, name: u16, points: &mut Colouring)
+    fn lift_off_colouring(&self, name: ChainName, points: &mut Colouring)
         requires fits { length points.old ≡ point_count self.now.size }
         requires living { IsLiving self.now.counts.names name }
         ensures { HasLost self.now.counts.names name points.old points.new }

@@ -9,13 +9,13 @@ ghost use Rattle.tt_board.specs.inside.Chains.{name_at, root_of, renamed, libert
 ghost use Rattle.tt_board.specs.inside.Chains.{colour_number, IsChainOf, AreTwoChains};
 
 use crate::Colour;
-use crate::counted::chain_counts::ChainCounts;
+use crate::counted::chain_counts::{ChainCounts, ChainName};
 use crate::counted::chain_names::{count_new_liberties, root_of};
 use crate::counted::play_kind::{NeighbourNames, OFF_BOARD_NAME};
 use tt_sgf::Size;
 
 /// The name of a new chain of this colour with its root on `p`.
-fn new_name(colour: Colour, p: usize) -> u16
+fn new_name(colour: Colour, p: usize) -> ChainName
     requires { p < MOST_POINTS }
     ensures colour { result / 512 ≡ colour_number colour }
     ensures root { root_of result ≡ p }
@@ -29,7 +29,13 @@ fn new_name(colour: Colour, p: usize) -> u16
 
 /// Takes a liberty from the chain of this name, if it is one and not one of three others.
 #[inline]
-fn take_liberty_from(liberties: &mut [u16], name: u16, one: u16, two: u16, three: u16)
+fn take_liberty_from(
+    liberties: &mut [u16],
+    name: ChainName,
+    one: ChainName,
+    two: ChainName,
+    three: ChainName,
+)
     requires in_range { root_of name < length liberties.old }
     requires some { IsNewName OFF_BOARD_NAME name one two three
         → 0 < name_at liberties.old (root_of name) }
@@ -70,7 +76,7 @@ fn take_liberty_beside(liberties: &mut [u16], near: &NeighbourNames)
 }
 
 /// The first point from `start` on with this name, where there is one.
-fn next_named(names: &[u16; 361], start: usize, name: u16) -> usize
+fn next_named(names: &[ChainName; 361], start: usize, name: ChainName) -> usize
     requires { (q : ℕ) × (start ≤ q) × (q < MOST_POINTS) × (name_at names.now q ≡ name) }
     ensures from { start ≤ result }
     ensures found { (result < MOST_POINTS) × (name_at names.now result ≡ name) }
@@ -86,7 +92,13 @@ fn next_named(names: &[u16; 361], start: usize, name: u16) -> usize
 
 /// Gives the stones of the chain `from` the name `to`, and says how many liberties they bring that chain.
 #[inline(never)]
-fn rename_stones(size: Size, names: &mut [u16; 361], from: u16, to: u16, stones: u16) -> u16
+fn rename_stones(
+    size: Size,
+    names: &mut [ChainName; 361],
+    from: ChainName,
+    to: ChainName,
+    stones: u16,
+) -> u16
     requires chain { IsChainOf size names.old from stones }
     requires other { (to ≢ 0) × (from ≢ to) }
     ensures renamed { names.new ≡ map (renamed from to) names.old }
@@ -104,7 +116,12 @@ fn rename_stones(size: Size, names: &mut [u16; 361], from: u16, to: u16, stones:
 }
 
 /// Gives the one stone of the chain `from` the name `to`, and says how many liberties it brings that chain.
-fn rename_lone_stone(size: Size, names: &mut [u16; 361], from: u16, to: u16) -> u16
+fn rename_lone_stone(
+    size: Size,
+    names: &mut [ChainName; 361],
+    from: ChainName,
+    to: ChainName,
+) -> u16
     requires chain { IsChainOf size names.old from 1 }
     requires other { (to ≢ 0) × (from ≢ to) }
     ensures renamed { names.new ≡ map (renamed from to) names.old }
@@ -117,7 +134,13 @@ fn rename_lone_stone(size: Size, names: &mut [u16; 361], from: u16, to: u16) -> 
 }
 
 /// Gives the chain `from`, of so many stones, the name `to`, and says how many liberties it brings the chain of that name.
-fn rename_chain(size: Size, names: &mut [u16; 361], from: u16, to: u16, stones: u16) -> u16
+fn rename_chain(
+    size: Size,
+    names: &mut [ChainName; 361],
+    from: ChainName,
+    to: ChainName,
+    stones: u16,
+) -> u16
     requires chain { IsChainOf size names.old from stones }
     requires other { (to ≢ 0) × (from ≢ to) }
     ensures renamed { names.new ≡ map (renamed from to) names.old }
@@ -132,7 +155,7 @@ fn rename_chain(size: Size, names: &mut [u16; 361], from: u16, to: u16, stones: 
 
 impl ChainCounts {
     /// Makes the chain `from` part of the chain `to`.
-    fn absorb(&mut self, size: Size, from: u16, to: u16)
+    fn absorb(&mut self, size: Size, from: ChainName, to: ChainName)
         requires counted { AreCounted size self.old }
         requires chains { AreTwoChains self.old.names from to }
         ensures renamed { self.new.names ≡ map (renamed from to) self.old.names }
@@ -147,7 +170,7 @@ impl ChainCounts {
 
     /// Makes two chains one: the smaller gets the name of the greater.
     #[inline(never)]
-    fn unite(&mut self, size: Size, one: u16, two: u16)
+    fn unite(&mut self, size: Size, one: ChainName, two: ChainName)
         requires counted { AreCounted size self.old }
         requires chains { AreTwoChains self.old.names one two }
         ensures renamed { (self.new.names ≡ map (renamed one two) self.old.names)
@@ -163,7 +186,7 @@ impl ChainCounts {
 
     /// Makes the stone on `p` one with the chain of this name, where that is of its colour, another one and still there.
     #[inline(always)]
-    fn join_named(&mut self, size: Size, p: usize, name: u16)
+    fn join_named(&mut self, size: Size, p: usize, name: ChainName)
         requires counted { AreCounted size self.old }
         requires on_board { p < point_count size }
         requires stone { 512 ≤ name_at self.old.names p }

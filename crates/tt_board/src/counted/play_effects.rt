@@ -4,6 +4,7 @@ ghost use Rattle.std.specs.Prelude.{◌≡◌, ℕ, ◌+◌, ◌/◌, ◌<◌, �
 ghost use Rattle.tt_sgf.specs.declared.size.TheConstants.{MOST_POINTS};
 ghost use Rattle.tt_board.specs.inside.Chains.{name_at, root_of, IsEachOnce, IsOneName};
 
+use crate::counted::chain_counts::ChainName;
 use crate::counted::chain_names::is_not_yet_found;
 use crate::counted::play_kind::{NeighbourNames, is_in_atari};
 use arrayvec::ArrayVec;
@@ -11,13 +12,18 @@ use arrayvec::ArrayVec;
 /// What a play does: the names of the chains that go, one's own in a suicide and else the opponent's, and whether it is suicide.
 #[derive(Drop)]
 pub(crate) struct PlayEffect {
-    pub(crate) goes: ArrayVec<u16, 4>,
+    pub(crate) goes: ArrayVec<ChainName, 4>,
     pub(crate) suicide: bool,
 }
 
 /// Adds the chain of this name to those found, if it is of the colour of this code, has one liberty and is not among them.
 #[inline]
-fn push_if_in_atari(found: &mut ArrayVec<u16, 4>, liberties: &[u16; 361], name: u16, code: u16)
+fn push_if_in_atari(
+    found: &mut ArrayVec<ChainName, 4>,
+    liberties: &[u16; 361],
+    name: ChainName,
+    code: u16,
+)
     requires in_range { root_of name < MOST_POINTS }
     requires room { length found.old.items < 4 }
     requires once { IsEachOnce found.old.items }
@@ -37,7 +43,7 @@ pub(crate) fn chains_in_atari(
     liberties: &[u16; 361],
     near: &NeighbourNames,
     code: u16,
-) -> ArrayVec<u16, 4>
+) -> ArrayVec<ChainName, 4>
     requires in_range { (m : ℕ)
         → IsOneName near.now.above near.now.left near.now.right near.now.below m
         → root_of m < MOST_POINTS }

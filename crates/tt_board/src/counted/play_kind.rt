@@ -7,7 +7,7 @@ ghost use Rattle.tt_board.specs.declared.counted.play_kind.TheConstants.{OFF_BOA
 ghost use Rattle.tt_board.specs.inside.Chains.{name_at, root_of, colour_number, IsOneName, AreNear, bare_one, AreCounted};
 
 use crate::Colour;
-use crate::counted::chain_counts::ChainCounts;
+use crate::counted::chain_counts::{ChainCounts, ChainName};
 use crate::counted::chain_names::root_of;
 use crate::near::neighbours_of;
 use tt_sgf::Size;
@@ -24,15 +24,15 @@ pub enum PlayKind {
 }
 
 /// Instead of a name where the board has no point. No chain has it.
-pub(crate) const OFF_BOARD_NAME: u16 = 1536;
+pub(crate) const OFF_BOARD_NAME: ChainName = 1536;
 
 /// The names on the four neighbours of a point, `OFF_BOARD_NAME` where the board has no such point; and how many of them are empty.
 #[derive(Clone, Copy)]
 pub(crate) struct NeighbourNames {
-    pub(crate) above: u16,
-    pub(crate) left: u16,
-    pub(crate) right: u16,
-    pub(crate) below: u16,
+    pub(crate) above: ChainName,
+    pub(crate) left: ChainName,
+    pub(crate) right: ChainName,
+    pub(crate) below: ChainName,
     pub(crate) empty: u16,
 }
 
@@ -49,7 +49,7 @@ pub(crate) fn colour_number(colour: Colour) -> u16
 
 /// The name on a point; `OFF_BOARD_NAME` for no point.
 #[inline]
-fn name_there(names: &[u16; 361], index: Option<usize>) -> u16
+fn name_there(names: &[ChainName; 361], index: Option<usize>) -> ChainName
     requires { (q : ℕ) → index ≡ Some q → q < MOST_POINTS }
     ensures { MatchOption index (result ≡ OFF_BOARD_NAME) (λ q. result ≡ name_at names.now q) }
 {
@@ -61,7 +61,7 @@ fn name_there(names: &[u16; 361], index: Option<usize>) -> u16
 
 /// Whether the name is of a chain of the colour of this code, with one liberty.
 #[inline]
-pub(crate) fn is_in_atari(liberties: &[u16; 361], name: u16, code: u16) -> bool
+pub(crate) fn is_in_atari(liberties: &[u16; 361], name: ChainName, code: u16) -> bool
     requires { root_of name < MOST_POINTS }
     ensures { IsTrue result ↔ ((name / 512 ≡ code) × (name_at liberties.now (root_of name) ≡ 1)) }
 {
@@ -70,7 +70,7 @@ pub(crate) fn is_in_atari(liberties: &[u16; 361], name: u16, code: u16) -> bool
 
 /// Whether the name is that of an empty point, or of a chain of the colour of this code, with another number of liberties than one.
 #[inline]
-fn is_empty_or_not_in_atari(liberties: &[u16; 361], name: u16, code: u16) -> bool
+fn is_empty_or_not_in_atari(liberties: &[u16; 361], name: ChainName, code: u16) -> bool
     requires { root_of name < MOST_POINTS }
     ensures { IsTrue result
         ↔ ((name ≡ 0) ⊎ ((name / 512 ≡ code) × (name_at liberties.now (root_of name) ≢ 1))) }
@@ -80,7 +80,7 @@ fn is_empty_or_not_in_atari(liberties: &[u16; 361], name: u16, code: u16) -> boo
 
 /// 1 for the name of an empty point, 0 for another one.
 #[inline]
-fn one_if_empty(name: u16) -> u16
+fn one_if_empty(name: ChainName) -> u16
     ensures { result ≡ bare_one name }
 {
     if name == 0 { 1 } else { 0 }
