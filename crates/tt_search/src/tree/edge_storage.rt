@@ -1,6 +1,7 @@
 //! The edges of a node in a row: a few stand in the node itself, more in a block of their own.
 
 ghost use Rattle.std.specs.Prelude.{◌≡◌, ◌<◌, ◌≤◌, IfOk, length, take, set, slice_index_or};
+ghost use Rattle.tt_search.specs.declared.tree.edge_storage.TheConstants.{MOST_INLINE_EDGES};
 
 use crate::tree::edges::Edge;
 use std::alloc::Global;
@@ -13,7 +14,7 @@ const MOST_INLINE_EDGES: usize = 11;
 /// So many edges of the array, or a block of them.
 #[derive(Drop)]
 enum EdgeStorage {
-    Short(u8, [Edge; 11]),
+    Short(u8, [Edge; MOST_INLINE_EDGES]),
     Long(Box<Vec<Edge>>),
 }
 
@@ -37,11 +38,11 @@ impl Model for Edges {
 }
 
 /// So many edges in an array.
-fn inline_edges_of(edges: &[Edge]) -> [Edge; 11]
-    requires { length edges.now ≤ 11 }
+fn inline_edges_of(edges: &[Edge]) -> [Edge; MOST_INLINE_EDGES]
+    requires { length edges.now ≤ MOST_INLINE_EDGES }
     ensures { take (length edges.now) result ≡ edges.now }
 {
-    let mut short = [Edge::default(); 11];
+    let mut short = [Edge::default(); MOST_INLINE_EDGES];
     short[..edges.len()].copy_from_slice(edges);
     short
 }
