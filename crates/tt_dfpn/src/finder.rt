@@ -6,7 +6,6 @@
 mod advisor;
 mod board;
 mod hash_history;
-mod known_lives;
 mod life;
 mod region;
 mod search;
@@ -15,7 +14,7 @@ mod simulation;
 mod threats;
 mod transpositions;
 mod workers;
-mod zobrist;
+pub(crate) mod zobrist;
 
 pub use advisor::Advisor;
 pub use workers::{Finding, SharedSearch, SharedWork};

@@ -13,7 +13,8 @@
 //! | `memo` | the proofs that the certifier keeps, and which of them it may use at a `Line` |
 //! | `shared_proofs` | proofs that several certifiers share |
 //! | `team` | several certifiers of one proof |
-//! | `no_life` | boards where the certifier need not look for life again |
+//! | `no_life` | life as the certifier sees it: it need not look again where there was none |
+//! | `life_cache` | what both halves know of the targets' life |
 //! | `finder` | df-pn, with a board and tables of its own |
 
 #![tactic(auto)]
@@ -22,6 +23,7 @@ mod advice;
 mod attempts;
 mod certifier;
 mod finder;
+mod life_cache;
 mod memo;
 mod no_life;
 mod shared_proofs;

@@ -1,4 +1,5 @@
-//! What is known of unconditional life, by the key of all that it depends on.
+//! What is known of the targets' unconditional life, by the key of all that it depends on: the defender's stones, and the attacker's
+//! outside the region. Within it the attacker's stones count as empty points do.
 
 use std::alloc::Global;
 use tt_sgf::NoMemory;
@@ -12,16 +13,16 @@ const IS_KNOWN: u64 = 2;
 const IS_ALIVE: u64 = 1;
 
 /// A word stands at the index that its key's upper 14 bits are, and is the key but for the last two bits. It's the last that was kept
-/// there.
+/// there. A key is a hash: nobody has to believe what is found.
 #[derive(Drop)]
-pub(crate) struct KnownLives {
+pub(crate) struct LifeCache {
     words: Vec<u64>,
 }
 
-impl KnownLives {
+impl LifeCache {
     /// Nothing is known yet.
-    pub(crate) fn none(alloc: Global) -> Result<KnownLives, NoMemory> {
-        Ok(KnownLives {
+    pub(crate) fn none(alloc: Global) -> Result<LifeCache, NoMemory> {
+        Ok(LifeCache {
             words: vec![in alloc; 0u64; MOST_KNOWN]?,
         })
     }
