@@ -252,10 +252,7 @@ impl Advisor {
         let mut best = SearchTurn::Pass;
         let mut fewest = usize::MAX;
         for k in 0..self.finder.region.points.len() {
-            let Some(point) = self.finder.region.points.get(k) else {
-                break;
-            };
-            let p = *point;
+            let p = self.finder.region.point(k);
             let board = &self.finder.board;
             if !board.is_empty_point(p) || !self.finder.region.is_in_enclosed_area(board, p) {
                 continue;

@@ -416,10 +416,7 @@ impl Finder {
         let atari = if self.prunes { capture } else { None };
         self.read_rows_ahead(mover);
         for k in 0..self.region.points.len() {
-            let Some(point) = self.region.points.get(k) else {
-                break;
-            };
-            let p = *point;
+            let p = self.region.point(k);
             if self.board.is_empty_point(p) && self.add_play_or_win(list, mover, p, atari) {
                 return Some(SearchTurn::Play(p));
             }

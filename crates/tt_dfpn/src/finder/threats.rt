@@ -145,7 +145,7 @@ impl Finder {
     pub(crate) fn play_to_life(&mut self) -> Option<u16> {
         let key = self.region.life_key(&self.board);
         for k in 0..self.region.points.len() {
-            let p = *self.region.points.get(k)?;
+            let p = self.region.point(k);
             if self.makes_life(key, p) {
                 return Some(p);
             }
@@ -225,10 +225,7 @@ impl Finder {
         }
         let key = self.region.life_key(&self.board);
         for k in 0..self.region.points.len() {
-            let Some(point) = self.region.points.get(k) else {
-                break;
-            };
-            let p = *point;
+            let p = self.region.point(k);
             if self.makes_life(key, p) && self.refute_elsewhere(mover, p, list) == 0 {
                 break;
             }
