@@ -4,7 +4,7 @@ ghost use Rattle.std.specs.Prelude.{◌≡◌, ◌≤◌};
 
 use crate::advice::{Advice, VisitsLeft};
 use crate::finder::board::{SearchBoard, SearchTurn};
-use crate::finder::search::{Finder, hashes_of};
+use crate::finder::search::{Finder, Listed, hashes_of};
 use crate::finder::transpositions::{LOST, ProofNumbers, UNKNOWN, WON};
 use crate::finder::workers::{Finding, SharedSearch, winner_by_numbers};
 use std::alloc::Global;
@@ -300,7 +300,7 @@ impl Advisor {
             None => None,
         };
         let mut list = Vec::new(self.finder.alloc);
-        if let Some(turn) = self.finder.list_turns_or_win(mover, &mut list) {
+        if let Listed::Win(turn) = self.finder.list_turns(mover, &mut list) {
             return if refused == 0 { Some(turn) } else { None };
         }
         let mut left = refused;

@@ -67,6 +67,14 @@ struct ChildrenSummary {
     second: u32,
 }
 
+/// What became of turns: one wins at once, or a play that repeats a board was left out, or neither.
+#[derive(Clone, Copy, PartialEq, Eq)]
+pub(crate) enum Listed {
+    Win(SearchTurn),
+    RepeatLeftOut,
+    NoRepeat,
+}
+
 /// The finder.
 #[derive(Drop)]
 pub(crate) struct Finder {
@@ -82,8 +90,6 @@ pub(crate) struct Finder {
     pub(crate) life: Life,
     /// What was read ahead of the table, so that it is read at all.
     bits_read_ahead: u64,
-    /// Whether a play that repeats a board was left out of the turns that were listed last.
-    pub(crate) left_repeat_out: bool,
     /// Lists that aren't used.
     lists: Vec<Vec<Child>>,
     /// Whether suicides and plays into the mover's own eyes are left out.
@@ -202,7 +208,6 @@ impl Finder {
             wins: [[0; CELLS]; 2],
             life: Life::none(alloc)?,
             bits_read_ahead: 0,
-            left_repeat_out: false,
             lists: Vec::new(alloc),
             prunes: true,
             reserve: 0,
@@ -349,27 +354,30 @@ impl Finder {
         None
     }
 
-    /// Adds a play on the empty point to a list, where it is worth a look; whether it wins at once. A defender in atari, whose target
+    /// Adds a play on the empty point to a list, where it is worth a look and doesn't win at once. A defender in atari, whose target
     /// would be taken at once, plays on its liberty or takes something.
     #[inline]
-    fn add_play_or_win(
+    fn list_play(
         &mut self,
         list: &mut Vec<Child>,
         mover: Colour,
         p: u16,
         atari: Option<u16>,
-    ) -> bool {
+    ) -> Listed {
         let attacks = mover != self.region.defender;
         let effect = self.board.preview_play(mover, p);
         if effect.is_suicide && self.prunes {
-            return false;
+            return Listed::NoRepeat;
         }
         if self.board.history().has(effect.hash) {
-            self.left_repeat_out = true;
-            return false;
+            return Listed::RepeatLeftOut;
         }
         if effect.takes_target {
-            return attacks;
+            return if attacks {
+                Listed::Win(SearchTurn::Play(p))
+            } else {
+                Listed::NoRepeat
+            };
         }
         if !attacks && self.prunes && effect.captures == 0 {
             let is_useless = match atari {
@@ -377,13 +385,13 @@ impl Finder {
                 None => self.board.is_eye_of_one_chain(mover, p),
             };
             if is_useless {
-                return false;
+                return Listed::NoRepeat;
             }
         }
         let history = self.board.history().combined_hash_with(effect.hash);
         let hashes = hashes_of(effect.hash, mover.other(), history);
         self.add_child(list, mover, SearchTurn::Play(p), hashes);
-        false
+        Listed::NoRepeat
     }
 
     /// Reads the rows of what is behind a colour's plays, before they are looked up one by one. So these reads wait for memory together,
@@ -401,31 +409,33 @@ impl Finder {
         self.bits_read_ahead = bits;
     }
 
-    /// Lists the turns of a colour, without the attacker's pass; or the turn that wins at once, where there is one.
-    pub(crate) fn list_turns_or_win(
-        &mut self,
-        mover: Colour,
-        list: &mut Vec<Child>,
-    ) -> Option<SearchTurn> {
-        self.left_repeat_out = false;
+    /// Lists the turns of a colour, without the attacker's pass, unless one wins at once.
+    pub(crate) fn list_turns(&mut self, mover: Colour, list: &mut Vec<Child>) -> Listed {
         let attacks = mover != self.region.defender;
         let capture = self.first_target_capture(self.region.defender.other());
-        if attacks && capture.is_some() {
-            return capture.map(SearchTurn::Play);
+        if let Some(p) = capture {
+            if attacks {
+                return Listed::Win(SearchTurn::Play(p));
+            }
         }
         let atari = if self.prunes { capture } else { None };
         self.read_rows_ahead(mover);
+        let mut listed = Listed::NoRepeat;
         for k in 0..self.region.points.len() {
             let p = self.region.point(k);
-            if self.board.is_empty_point(p) && self.add_play_or_win(list, mover, p, atari) {
-                return Some(SearchTurn::Play(p));
+            if self.board.is_empty_point(p) {
+                match self.list_play(list, mover, p, atari) {
+                    Listed::NoRepeat => {}
+                    Listed::RepeatLeftOut => listed = Listed::RepeatLeftOut,
+                    win => return win,
+                }
             }
         }
         if !attacks && atari.is_none() {
             let hashes = self.hashes_of_position(mover.other());
             self.add_child(list, mover, SearchTurn::Pass, hashes);
         }
-        None
+        listed
     }
 
     /// Whether a position wasn't searched yet.
@@ -521,7 +531,7 @@ impl Finder {
         }
         let found = if let Some(numbers) = self.settle_by_life(mover, hashes) {
             numbers
-        } else if let Some(turn) = self.list_turns_or_win(mover, &mut list) {
+        } else if let Listed::Win(turn) = self.list_turns(mover, &mut list) {
             self.keep_entry(hashes, WON, Some(turn), 1);
             WON
         } else {

@@ -16,7 +16,7 @@ ghost use Rattle.std.specs.Prelude.{◌≤◌};
 
 use crate::advice::VisitsLeft;
 use crate::finder::board::SearchTurn;
-use crate::finder::search::{Child, Finder, Hashes};
+use crate::finder::search::{Child, Finder, Hashes, Listed};
 use crate::finder::transpositions::{LOST, WON};
 use tt_board::Colour;
 
@@ -192,8 +192,7 @@ impl Finder {
         ensures fewer { visits.new.left ≤ visits.old.left }
     {
         let mut list = self.take_list();
-        let loses = self.list_turns_or_win(mover, &mut list).is_none()
-            && !self.left_repeat_out
+        let loses = self.list_turns(mover, &mut list) == Listed::NoRepeat
             && self.are_all_refuted(mover, hashes, simulation, &mut list, visits);
         self.give_list_back(list);
         if loses {
