@@ -10,7 +10,8 @@ use tt_sgf::{Node, PointSet};
 /// The most points of a board that may well be a region as a whole.
 const MOST_SMALL_BOARD_POINTS: usize = 10;
 
-/// So often chains are looked for that hang together with the targets, by way of other chains.
+/// So often chains are looked for that hang together with the targets, by way of other chains. It bounds what a hint costs. The number
+/// was chosen without a measurement.
 const MOST_JOINED: usize = 8;
 
 /// The empty points that nobody can fill, beside an empty point of the region or the chain of a target or of one of the defender's

@@ -11,7 +11,8 @@ use tt_game::{Line, Turn};
 use tt_proof::{MOST_DEPTH, Tree};
 use tt_sgf::{Point, PointSet};
 
-/// The most turns among which the next ones of a main line are looked for.
+/// The most turns among which the next ones of a main line are looked for. It bounds what a long strategy costs. The number was chosen
+/// without a measurement.
 const MOST_SEARCHED_TURNS: usize = 50_000;
 
 /// Whether a turn is legal.

@@ -16,7 +16,8 @@ use tt_sgf::NoMemory;
 /// The greatest number of positions that may be asked for.
 pub const MOST_POSITIONS: u32 = 100_000_000;
 
-/// How often a search may say who wins.
+/// How often a search may say who wins. It bounds the attempts where each proof fails and visits are left. The number was chosen without
+/// a measurement.
 const MOST_ATTEMPTS: u8 = 8;
 
 /// A search for the side that wins, by one finder or by several.

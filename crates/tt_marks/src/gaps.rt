@@ -53,7 +53,7 @@ pub fn board_with_stones(board: &Board, colour: Colour, stones: &PointSet) -> Op
 }
 
 /// The place of a closing among others: first by how many of the stones are beside one of the group's colour, then by the points that the
-/// region has.
+/// region has. These are fewer than 512, so that the first decides wherever it differs.
 fn rank_of(board: &Board, colour: Colour, stones: &Bits, region: &PointSet) -> u16 {
     let beside = neighbours(board.size(), board.bits(colour)).and(stones);
     let beside = set_of(board.size(), &beside).count();

@@ -10,10 +10,12 @@ use crate::walls::{empty_points, group_bits};
 use tt_board::{Board, Colour};
 use tt_sgf::{BITS, Bits, NoMemory, Point, PointSet, Size};
 
-/// What a wall shuts out is more than so many steps away. Steps are counted over empty points.
+/// What a wall shuts out is more than so many steps away. Steps are counted over empty points. The number was chosen without a
+/// measurement.
 const NEAR_STEPS: usize = 7;
 
-/// The most steps of a way.
+/// The most steps of a way: a longer one counts as none. It bounds the room for the layers of a search. The number was chosen without a
+/// measurement.
 const MOST_STEPS: usize = 64;
 
 /// What ways lead over.

@@ -9,7 +9,8 @@ use tt_dfpn::{Advisor, Certifier, SharedCertification};
 use tt_game::{Line, Side};
 use tt_sgf::NoMemory;
 
-/// How many visits the caller's certifier has alone. Most proofs are made then, and need no threads.
+/// How many visits the caller's certifier has alone. Most proofs are made then, and need no threads. The number was chosen without a
+/// measurement of others.
 const CERTIFIER_VISITS_ALONE: u32 = 2_048;
 
 /// Whether the caller's certifier makes the whole proof within its first visits. It keeps what it made.

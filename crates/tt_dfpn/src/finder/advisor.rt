@@ -12,7 +12,8 @@ use tt_board::{Board, Colour};
 use tt_game::{Line, Side, Turn};
 use tt_sgf::{Bits, MOST_POINTS, NoMemory};
 
-/// How many plays are undone at most to follow a line.
+/// How many plays are undone at most to follow a line: more than the certifier's 512 turns, so that this only bounds the loop. Where it
+/// doesn't suffice the board is made anew.
 const MOST_UNDONE: u16 = 1024;
 
 /// A source of advice at the lines of one problem.
@@ -22,7 +23,8 @@ pub struct Advisor {
     visited: u32,
 }
 
-/// How many positions a search at a line may visit, where so many were visited for its problem.
+/// How many positions a search at a line may visit, where so many were visited for its problem. It bounds what one line may cost. Both
+/// numbers were chosen without a measurement.
 fn advice_visit_limit(visited: u32) -> u32 {
     visited.saturating_mul(2).saturating_add(200_000)
 }

@@ -27,6 +27,9 @@ pub(crate) const MOST_FINDER_DEPTH: u16 = 400;
 /// One part of so many is epsilon. Of 53 problems 34 were won within 3 s with 4, and 30 to 33 with 1, 2, 8 or 16.
 const EPSILON_DIVISOR: u32 = 4;
 
+/// One bucket of two entries at most for so many positions: not all that are visited need be kept. It was chosen without a measurement.
+const POSITIONS_PER_BUCKET: usize = 4;
+
 /// What a line that was found to differ has as its work, so that it is kept.
 const PATH_ENTRY_WORK: u32 = 0x1000_0000;
 
@@ -185,7 +188,7 @@ fn thresholds_of(
 impl Finder {
     /// A finder for a line's problem, which stands where the line stands. Its table grows with the number of positions.
     pub(crate) fn new(alloc: Global, line: &Line, positions: u32) -> Result<Finder, NoMemory> {
-        let most = (positions as usize / 4).min(MOST_BUCKETS);
+        let most = (positions as usize / POSITIONS_PER_BUCKET).min(MOST_BUCKETS);
         let table = TranspositionTable::new(alloc, INITIAL_BUCKETS, most)?;
         Finder::over(alloc, line, table)
     }
