@@ -49,6 +49,203 @@ fn play_between(before: &Board, after: &Board) -> Option<(Colour, u16)> {
     None
 }
 
+impl Finder {
+    /// Whether the finder's board is the last of the first so many.
+    fn stands_at_last_of(&self, boards: &[Board], count: usize) -> bool {
+        match boards.get(count.wrapping_sub(1)) {
+            Some(board) => self.board.hash_of_other_board(board) == self.board.hash(),
+            None => false,
+        }
+    }
+
+    /// Undoes plays until the finder's board is one of the line's; whether it is.
+    fn unplay_to_line(&mut self, boards: &[Board]) -> bool {
+        for _ in 0..MOST_UNDONE {
+            let count = self.board.history().len();
+            if count <= boards.len() && self.stands_at_last_of(boards, count) {
+                return true;
+            }
+            if !self.board.can_undo() {
+                return false;
+            }
+            self.board.unplay();
+        }
+        false
+    }
+
+    /// The play that led from the finder's board, which is this one, to the next: a suicide, which leaves no new stone, is on the only
+    /// liberty of the chain that is gone.
+    fn play_or_suicide_between(&self, before: &Board, after: &Board) -> Option<(Colour, u16)> {
+        if let Some(play) = play_between(before, after) {
+            return Some(play);
+        }
+        for colour in [Colour::Black, Colour::White] {
+            if let Some(stone) = first_added_point(after.bits(colour), before.bits(colour)) {
+                let p = self.board.only_liberty(stone)?;
+                return Some((colour, p));
+            }
+        }
+        None
+    }
+
+    /// Plays what led to the last board; whether it could.
+    fn play_to_line(&mut self, boards: &[Board]) -> Result<bool, NoMemory> {
+        for k in self.board.history().len()..boards.len() {
+            let (Some(before), Some(after)) = (boards.get(k.wrapping_sub(1)), boards.get(k)) else {
+                return Ok(false);
+            };
+            match self.play_or_suicide_between(before, after) {
+                Some((colour, p)) if self.board.is_empty_point(p) => {
+                    self.board.play(colour, p)?;
+                }
+                _ => return Ok(false),
+            }
+        }
+        Ok(self.stands_at_last_of(boards, boards.len()))
+    }
+
+    /// Begins anew where a line stands; what is known stays. A function of its own, since the room of a board is cleared at its entry.
+    #[inline(never)]
+    fn reset_board(&mut self, line: &Line) -> Result<(), NoMemory> {
+        self.board = SearchBoard::of(self.alloc, line)?;
+        Ok(())
+    }
+
+    /// Goes where a line stands.
+    fn follow(&mut self, line: &Line) -> Result<(), NoMemory> {
+        let boards = line.history();
+        if self.unplay_to_line(boards) && self.play_to_line(boards)? {
+            return Ok(());
+        }
+        self.reset_board(line)
+    }
+
+    /// Notes that the line is lost for its mover, and that the line before it is won by the other colour.
+    fn note_lost_line_and_parent(&mut self, line: &Line, mover: Colour) {
+        let hashes = self.hashes_of_position(mover);
+        self.keep_line_entry(hashes, LOST, None);
+        if line.passes() > 0 {
+            let hashes = self.hashes_of_position(mover.other());
+            self.keep_line_entry(hashes, WON, Some(SearchTurn::Pass));
+            return;
+        }
+        let boards = line.history();
+        let last = boards.len().wrapping_sub(1);
+        let (Some(before), Some(after)) = (boards.get(last.wrapping_sub(1)), boards.get(last))
+        else {
+            return;
+        };
+        let turn = match play_between(before, after) {
+            Some((_, p)) => Some(SearchTurn::Play(p)),
+            None => None,
+        };
+        let board = &self.board;
+        let history = board.history().combined_hash_with(board.hash());
+        let hashes = hashes_of(board.hash_of_other_board(before), mover.other(), history);
+        self.keep_line_entry(hashes, WON, turn);
+    }
+
+    /// Whether the targets live unconditionally behind the defender's play on the empty point; how many points the attacker has then.
+    fn attackable_count_if_alive(&mut self, p: u16) -> Option<usize> {
+        let me = self.region.defender;
+        let effect = self.board.preview_play(me, p);
+        if effect.is_suicide || self.board.history().has(effect.hash) {
+            return None;
+        }
+        if self.board.play(me, p).is_err() {
+            return None;
+        }
+        let points = if self.are_targets_alive() {
+            Some(self.attackable_point_count())
+        } else {
+            None
+        };
+        self.board.unplay();
+        points
+    }
+
+    /// On how many points the attacker may play, at once or once they are open again.
+    fn attackable_point_count(&self) -> usize {
+        let me = self.region.defender;
+        let board = &self.board;
+        let mut count = 0usize;
+        for p in &self.region.points {
+            let counts = if board.is_empty_point(*p) {
+                let is_lone = !board.has_stone_beside(me.other(), *p);
+                !(is_lone && board.preview_play(me.other(), *p).is_suicide)
+            } else {
+                !board.holds(me, *p)
+            };
+            count = count.saturating_add(usize::from(counts));
+        }
+        count
+    }
+
+    /// The turn of the defender, whose targets live unconditionally: of the plays in enclosed areas that leave them so the one that
+    /// leaves the attacker the fewest points, or a pass where there is none. A play elsewhere only makes more positions.
+    fn turn_of_living_defender(&mut self) -> SearchTurn {
+        let mut best = SearchTurn::Pass;
+        let mut fewest = usize::MAX;
+        for k in 0..self.region.points.len() {
+            let p = self.region.point(k);
+            let board = &self.board;
+            if !board.is_empty_point(p) || !self.region.is_in_enclosed_area(board, p) {
+                continue;
+            }
+            if let Some(points) = self.attackable_count_if_alive(p) {
+                if points < fewest {
+                    fewest = points;
+                    best = SearchTurn::Play(p);
+                }
+            }
+        }
+        best
+    }
+
+    /// The turn that is said first where the line stands, if one is known.
+    fn known_turn(&mut self, line: &Line, mover: Colour) -> Option<SearchTurn> {
+        if mover == self.region.defender {
+            if line.passes() > 0 {
+                return Some(SearchTurn::Pass);
+            }
+            if self.are_targets_alive() {
+                return Some(self.turn_of_living_defender());
+            }
+            if let Some(p) = self.play_to_life() {
+                return Some(SearchTurn::Play(p));
+            }
+        }
+        let entry = self.find_entry(self.hashes_of_position(mover))?;
+        if entry.numbers.proof == 0 {
+            entry.best
+        } else {
+            None
+        }
+    }
+
+    /// Another turn than the best one that wins by the numbers behind it, where so many were refused.
+    fn other_winning_turn(&mut self, mover: Colour, refused: u16) -> Option<SearchTurn> {
+        let best = match self.find_entry(self.hashes_of_position(mover)) {
+            Some(entry) => entry.best,
+            None => None,
+        };
+        let mut list = Vec::new(self.alloc);
+        if let Listed::Win(turn) = self.list_turns(mover, &mut list) {
+            return if refused == 0 { Some(turn) } else { None };
+        }
+        let mut left = refused;
+        for child in list.as_slice() {
+            if child.numbers.disproof == 0 && Some(child.turn) != best {
+                if left <= 1 {
+                    return Some(child.turn);
+                }
+                left -= 1;
+            }
+        }
+        None
+    }
+}
+
 impl Advisor {
     /// Advice for the problem of a line. Its memory grows with the number of positions.
     pub fn new(alloc: Global, line: &Line, positions: u32) -> Result<Advisor, NoMemory> {
@@ -66,75 +263,6 @@ impl Advisor {
     /// Forgets all numbers, and leaves no turn out any more: for where what it said of the problem itself was wrong.
     pub fn restart_without_pruning(&mut self) {
         self.finder.restart_without_pruning();
-    }
-
-    /// Begins anew where a line stands; what is known stays.
-    fn reset_board(&mut self, line: &Line) -> Result<(), NoMemory> {
-        self.finder.board = SearchBoard::of(self.finder.alloc, line)?;
-        Ok(())
-    }
-
-    /// Whether the finder's board is the last of the first so many.
-    fn stands_at_last_of(&self, boards: &[Board], count: usize) -> bool {
-        match boards.get(count.wrapping_sub(1)) {
-            Some(board) => self.finder.board.hash_of_other_board(board) == self.finder.board.hash(),
-            None => false,
-        }
-    }
-
-    /// Undoes plays until the finder's board is one of the line's; whether it is.
-    fn unplay_to_line(&mut self, boards: &[Board]) -> bool {
-        for _ in 0..MOST_UNDONE {
-            let count = self.finder.board.history().len();
-            if count <= boards.len() && self.stands_at_last_of(boards, count) {
-                return true;
-            }
-            if !self.finder.board.can_undo() {
-                return false;
-            }
-            self.finder.board.unplay();
-        }
-        false
-    }
-
-    /// The play that led from the finder's board, which is this one, to the next: a suicide, which leaves no new stone, is on the only
-    /// liberty of the chain that is gone.
-    fn play_or_suicide_between(&self, before: &Board, after: &Board) -> Option<(Colour, u16)> {
-        if let Some(play) = play_between(before, after) {
-            return Some(play);
-        }
-        for colour in [Colour::Black, Colour::White] {
-            if let Some(stone) = first_added_point(after.bits(colour), before.bits(colour)) {
-                let p = self.finder.board.only_liberty(stone)?;
-                return Some((colour, p));
-            }
-        }
-        None
-    }
-
-    /// Plays what led to the last board; whether it could.
-    fn play_to_line(&mut self, boards: &[Board]) -> Result<bool, NoMemory> {
-        for k in self.finder.board.history().len()..boards.len() {
-            let (Some(before), Some(after)) = (boards.get(k.wrapping_sub(1)), boards.get(k)) else {
-                return Ok(false);
-            };
-            match self.play_or_suicide_between(before, after) {
-                Some((colour, p)) if self.finder.board.is_empty_point(p) => {
-                    self.finder.board.play(colour, p)?;
-                }
-                _ => return Ok(false),
-            }
-        }
-        Ok(self.stands_at_last_of(boards, boards.len()))
-    }
-
-    /// Goes where a line stands.
-    fn follow(&mut self, line: &Line) -> Result<(), NoMemory> {
-        let boards = line.history();
-        if self.unplay_to_line(boards) && self.play_to_line(boards)? {
-            return Ok(());
-        }
-        self.reset_board(line)
     }
 
     /// Searches where the finder's board stands, with at most so many visits. Nobody else ends this search: what stops it is want of
@@ -165,7 +293,7 @@ impl Advisor {
     ) -> Result<Option<Side>, NoMemory>
         ensures fewer { visits.new.left ≤ visits.old.left }
     {
-        self.follow(line)?;
+        self.finder.follow(line)?;
         let mover = self.finder.colour_of_side(line.to_move());
         let numbers = self.search(mover, most, visits)?;
         Ok(winner_by_numbers(numbers, line.to_move()))
@@ -184,137 +312,6 @@ impl Advisor {
     pub fn learn(&mut self, finding: &Finding, visited: u32) {
         self.finder.wins = finding.wins;
         self.visited = self.visited.saturating_add(visited);
-    }
-
-    /// Notes that the line is lost for its mover, and that the line before it is won by the other colour.
-    fn note_lost_line_and_parent(&mut self, line: &Line, mover: Colour) {
-        let hashes = self.finder.hashes_of_position(mover);
-        self.finder.keep_line_entry(hashes, LOST, None);
-        if line.passes() > 0 {
-            let hashes = self.finder.hashes_of_position(mover.other());
-            self.finder
-                .keep_line_entry(hashes, WON, Some(SearchTurn::Pass));
-            return;
-        }
-        let boards = line.history();
-        let last = boards.len().wrapping_sub(1);
-        let (Some(before), Some(after)) = (boards.get(last.wrapping_sub(1)), boards.get(last))
-        else {
-            return;
-        };
-        let turn = match play_between(before, after) {
-            Some((_, p)) => Some(SearchTurn::Play(p)),
-            None => None,
-        };
-        let board = &self.finder.board;
-        let history = board.history().combined_hash_with(board.hash());
-        let hashes = hashes_of(board.hash_of_other_board(before), mover.other(), history);
-        self.finder.keep_line_entry(hashes, WON, turn);
-    }
-
-    /// Whether the targets live unconditionally behind the defender's play on the empty point; how many points the attacker has then.
-    fn attackable_count_if_alive(&mut self, p: u16) -> Option<usize> {
-        let me = self.finder.region.defender;
-        let effect = self.finder.board.preview_play(me, p);
-        if effect.is_suicide || self.finder.board.history().has(effect.hash) {
-            return None;
-        }
-        if self.finder.board.play(me, p).is_err() {
-            return None;
-        }
-        let points = if self.finder.are_targets_alive() {
-            Some(self.attackable_point_count())
-        } else {
-            None
-        };
-        self.finder.board.unplay();
-        points
-    }
-
-    /// On how many points the attacker may play, at once or once they are open again.
-    fn attackable_point_count(&self) -> usize {
-        let me = self.finder.region.defender;
-        let board = &self.finder.board;
-        let mut count = 0usize;
-        for p in &self.finder.region.points {
-            let counts = if board.is_empty_point(*p) {
-                let is_lone = !board.has_stone_beside(me.other(), *p);
-                !(is_lone && board.preview_play(me.other(), *p).is_suicide)
-            } else {
-                !board.holds(me, *p)
-            };
-            count = count.saturating_add(usize::from(counts));
-        }
-        count
-    }
-
-    /// The turn of the defender, whose targets live unconditionally: of the plays in enclosed areas that leave them so the one that
-    /// leaves the attacker the fewest points, or a pass where there is none. A play elsewhere only makes more positions.
-    fn turn_of_living_defender(&mut self) -> SearchTurn {
-        let mut best = SearchTurn::Pass;
-        let mut fewest = usize::MAX;
-        for k in 0..self.finder.region.points.len() {
-            let p = self.finder.region.point(k);
-            let board = &self.finder.board;
-            if !board.is_empty_point(p) || !self.finder.region.is_in_enclosed_area(board, p) {
-                continue;
-            }
-            if let Some(points) = self.attackable_count_if_alive(p) {
-                if points < fewest {
-                    fewest = points;
-                    best = SearchTurn::Play(p);
-                }
-            }
-        }
-        best
-    }
-
-    /// The turn that is said first where the line stands, if one is known.
-    fn known_turn(&mut self, line: &Line, mover: Colour) -> Option<SearchTurn> {
-        if mover == self.finder.region.defender {
-            if line.passes() > 0 {
-                return Some(SearchTurn::Pass);
-            }
-            if self.finder.are_targets_alive() {
-                return Some(self.turn_of_living_defender());
-            }
-            if let Some(p) = self.finder.play_to_life() {
-                return Some(SearchTurn::Play(p));
-            }
-        }
-        let entry = self
-            .finder
-            .find_entry(self.finder.hashes_of_position(mover))?;
-        if entry.numbers.proof == 0 {
-            entry.best
-        } else {
-            None
-        }
-    }
-
-    /// Another turn than the best one that wins by the numbers behind it, where so many were refused.
-    fn other_winning_turn(&mut self, mover: Colour, refused: u16) -> Option<SearchTurn> {
-        let best = match self
-            .finder
-            .find_entry(self.finder.hashes_of_position(mover))
-        {
-            Some(entry) => entry.best,
-            None => None,
-        };
-        let mut list = Vec::new(self.finder.alloc);
-        if let Listed::Win(turn) = self.finder.list_turns(mover, &mut list) {
-            return if refused == 0 { Some(turn) } else { None };
-        }
-        let mut left = refused;
-        for child in list.as_slice() {
-            if child.numbers.disproof == 0 && Some(child.turn) != best {
-                if left <= 1 {
-                    return Some(child.turn);
-                }
-                left -= 1;
-            }
-        }
-        None
     }
 
     /// The turn that a search where the line stands finds. Where turns were refused, it is one of the line's own.
@@ -339,7 +336,7 @@ impl Advisor {
         }
         // a search that ran out of all visits says nothing
         if visits.left > 0 {
-            self.note_lost_line_and_parent(line, mover);
+            self.finder.note_lost_line_and_parent(line, mover);
         }
         Ok(None)
     }
@@ -355,14 +352,14 @@ impl Advice for Advisor {
     ) -> Result<Option<Turn>, NoMemory>
         ensures fewer { visits.new.left ≤ visits.old.left }
     {
-        self.follow(line)?;
+        self.finder.follow(line)?;
         let mover = self.finder.colour_of_side(line.to_move());
         if refused == 0 {
-            if let Some(turn) = self.known_turn(line, mover) {
+            if let Some(turn) = self.finder.known_turn(line, mover) {
                 return Ok(Some(turn.turn()));
             }
         }
-        if let Some(turn) = self.other_winning_turn(mover, refused) {
+        if let Some(turn) = self.finder.other_winning_turn(mover, refused) {
             return Ok(Some(turn.turn()));
         }
         let found = self.search_for_turn(line, mover, refused, visits)?;
