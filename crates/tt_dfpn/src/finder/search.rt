@@ -27,6 +27,9 @@ pub(crate) const MOST_FINDER_DEPTH: u16 = 400;
 /// One part of so many is epsilon. Of 53 problems 34 were won within 3 s with 4, and 30 to 33 with 1, 2, 8 or 16.
 const EPSILON_DIVISOR: u32 = 4;
 
+/// After so many visits a worker descends anew from the root, and sees on the way what others found.
+const VISITS_BETWEEN_DESCENTS: u32 = 8_192;
+
 /// One bucket of two entries at most for so many positions: not all that are visited need be kept. It was chosen without a measurement.
 const POSITIONS_PER_BUCKET: usize = 4;
 
@@ -487,6 +490,19 @@ impl Finder {
         visits.left <= self.reserve
     }
 
+    /// Searches where the board stands and a colour moves, until no more visits than these are left; what is known then.
+    fn descend(&mut self, mover: Colour, reserve: u32, visits: &mut VisitsLeft) -> ProofNumbers
+        ensures fewer { visits.new.left ≤ visits.old.left }
+    {
+        self.reserve = reserve;
+        self.cut = 0;
+        let most = ProofNumbers {
+            proof: INFINITE,
+            disproof: INFINITE,
+        };
+        self.search(mover, most, MOST_FINDER_DEPTH, visits)
+    }
+
     /// Searches where the board stands and a colour moves, with at most so many visits; what is known then.
     pub(crate) fn search_from_board(
         &mut self,
@@ -496,13 +512,18 @@ impl Finder {
     ) -> ProofNumbers
         ensures fewer { visits.new.left ≤ visits.old.left }
     {
-        self.reserve = visits.left.saturating_sub(most_visits);
-        let most = ProofNumbers {
-            proof: INFINITE,
-            disproof: INFINITE,
-        };
-        self.cut = 0;
-        self.search(mover, most, MOST_FINDER_DEPTH, visits)
+        let end = visits.left.saturating_sub(most_visits);
+        if !self.shares_table() {
+            return self.descend(mover, end, visits);
+        }
+        for _ in end..=visits.left {
+            let reserve = visits.left.saturating_sub(VISITS_BETWEEN_DESCENTS).max(end);
+            let numbers = self.descend(mover, reserve, visits);
+            if numbers.is_settled() || self.has_stopped() || visits.left <= end {
+                return numbers;
+            }
+        }
+        UNKNOWN
     }
 
     /// Searches a position until one of its numbers reaches its threshold. It is a visit, where the search isn't over.
