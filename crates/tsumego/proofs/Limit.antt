@@ -11,8 +11,9 @@ use Rattle.tt_text.specs.declared.checking.CheckOutcome.{CheckOutcome}
 use Rattle.tt_text.specs.Checking.{Finds, IsCheckText, first_tree, no_tree}
 use Rattle.tt_text.specs.Checking as find
 use Rattle.tsumego.specs.declared.request.Command.{Command}
-use Rattle.tsumego.specs.declared.task.TreeTask.{TreeTask}
-use Rattle.tsumego.specs.Tasks.{IsTaskOf, MakesOutcome, reads_shared_parts}
+use Rattle.tsumego.specs.declared.task.InputTask.{InputTask}
+use Rattle.tsumego.specs.declared.task.InputTask.TheVariants.{Trees, Check}
+use Rattle.tsumego.specs.Tasks.{IsTaskOf, MakesOutcome}
 use Rattle.tt_text.specs.Trees.{AreOutcomes, BeginsTreesText, EarlierTreesText, IsTreesText, all_lines, all_read, before_more, no_line, nothing, some_lines, stopped, too_long}
 use Rattle.devices.specs.Watching.{IsReadInput}
 use Rattle.devices.specs.laws.PrefixLaws.{prefix_is_whole_or_full}
@@ -73,42 +74,33 @@ module _ (parts : Bool) where
   check_whole : (input text : List ℕ) (status : ℕ) → IsCheckText parts (take (MAX_BYTES + 1) input) text status → IsCheckText parts input text status
   check_whole input text status h = record { finding = h.finding; finds = found_whole input h.finding h.finds; line = h.line; status_is = h.status_is }
 
-  -- what is written on the part up to the limit is written on the input
-  writes_whole : (t : Option TreeTask) (input : List ℕ) (r : Result ℕ RunFault) (a b : Option (List ℕ)) → WritesAnswer parts t (take (MAX_BYTES + 1) input) r a b → WritesAnswer parts t input r a b
-  writes_whole (Some task) input (Ok status) a b w = (w.0, trees_whole (MakesOutcome task) input w.0 status w.1, w.2)
-  writes_whole (Some task) input (Err Input) a b w = w
-  writes_whole (Some task) input (Err Output) a b w = (w.0, w.1, trees_begun (MakesOutcome task) input w.0 w.2, w.3)
-  writes_whole (Some task) input (Err Memory) a b w = (w.0, trees_earlier (MakesOutcome task) input w.0 w.1, w.2)
-  writes_whole None input (Ok status) a b w = (w.0, check_whole input w.0 status w.1, w.2)
-  writes_whole None input (Err Input) a b w = w
-  writes_whole None input (Err Output) a b w = (w.0, w.1, elim w.2 [ inl e ↦ inl e | inr h ↦ inr (h.0, check_whole input w.0 h.0 h.1) ], w.3)
-  writes_whole None input (Err Memory) a b w = w
+-- what is written on the part up to the limit is written on the input
+writes_whole : (t : InputTask) (input : List ℕ) (r : Result ℕ RunFault) (a b : Option (List ℕ)) → WritesAnswer t (take (MAX_BYTES + 1) input) r a b → WritesAnswer t input r a b
+writes_whole (Trees task) input (Ok status) a b w = (w.0, trees_whole (MakesOutcome task) input w.0 status w.1, w.2)
+writes_whole (Trees task) input (Err Input) a b w = w
+writes_whole (Trees task) input (Err Output) a b w = (w.0, w.1, trees_begun (MakesOutcome task) input w.0 w.2, w.3)
+writes_whole (Trees task) input (Err Memory) a b w = (w.0, trees_earlier (MakesOutcome task) input w.0 w.1, w.2)
+writes_whole (Check parts) input (Ok status) a b w = (w.0, check_whole parts input w.0 status w.1, w.2)
+writes_whole (Check parts) input (Err Input) a b w = w
+writes_whole (Check parts) input (Err Output) a b w = (w.0, w.1, elim w.2 [ inl e ↦ inl e | inr h ↦ inr (h.0, check_whole parts input w.0 h.0 h.1) ], w.3)
+writes_whole (Check parts) input (Err Memory) a b w = w
 
-  -- what is written on what was read up to the limit is written on what the reader had to give
-  writes_read : (t : Option TreeTask) (given : Option (List ℕ)) (bytes : List ℕ) (r : Result ℕ RunFault) (a b : Option (List ℕ)) → IsReadInput (MAX_BYTES + 1) given bytes
-      → WritesAnswer parts t bytes r a b → HoldsForInput given (λ input. WritesAnswer parts t input r a b)
-  writes_read t None bytes r a b e w = (bytes, w)
-  writes_read t (Some input) bytes r a b e w = writes_whole t input r a b (subst (λ (x : List ℕ). WritesAnswer parts t x r a b) e w)
-
-  -- where memory or the input failed, a run may have written nothing
-  nothing_written : (t : Option TreeTask) (input : List ℕ) (e : RunFault) (a : Option (List ℕ)) → is_output_fault {A = ℕ} (Err e) ≡ false → WritesAnswer parts t input (Err e) a a
-  nothing_written (Some task) input Input a quiet = Keeps-refl a
-  nothing_written None input Input a quiet = Keeps-refl a
-  nothing_written t input Output a quiet = let bad : true ≡ false = quiet in cc
-  nothing_written (Some task) input Memory a quiet = ([], nothing, Appends-nil a)
-  nothing_written None input Memory a quiet = ([], refl, Appends-nil a)
+-- where memory or the input failed, a run may have written nothing
+nothing_written : (t : InputTask) (input : List ℕ) (e : RunFault) (a : Option (List ℕ)) → is_output_fault {A = ℕ} (Err e) ≡ false → WritesAnswer t input (Err e) a a
+nothing_written (Trees task) input Input a quiet = Keeps-refl a
+nothing_written (Check parts) input Input a quiet = Keeps-refl a
+nothing_written t input Output a quiet = let bad : true ≡ false = quiet in cc
+nothing_written (Trees task) input Memory a quiet = ([], nothing, Appends-nil a)
+nothing_written (Check parts) input Memory a quiet = ([], refl, Appends-nil a)
 
 -- what is written for the command's task on what was read the command writes on what the reader had to give
-pub command_writes_read : (c : Command) (given : Option (List ℕ)) (bytes : List ℕ) (r : Result ℕ RunFault) (a b : Option (List ℕ)) (task : Option TreeTask) (parts : Bool)
-    → IsTaskOf c task → parts ≡ reads_shared_parts c → IsReadInput (MAX_BYTES + 1) given bytes → WritesAnswer parts task bytes r a b
-    → HoldsForInput given (λ input. CommandWrites c input r a b)
-command_writes_read c None bytes r a b task parts is same e w =
-    (bytes, (task, is, subst (λ (x : Bool). WritesAnswer x task bytes r a b) same w))
-command_writes_read c (Some input) bytes r a b task parts is same e w =
-    (task, is, writes_read (reads_shared_parts c) task (Some input) bytes r a b e (subst (λ (x : Bool). WritesAnswer x task bytes r a b) same w))
+pub command_writes_read : (c : Command) (given : Option (List ℕ)) (bytes : List ℕ) (r : Result ℕ RunFault) (a b : Option (List ℕ)) (task : InputTask)
+    → IsTaskOf c task → IsReadInput (MAX_BYTES + 1) given bytes → WritesAnswer task bytes r a b → HoldsForInput given (λ input. CommandWrites c input r a b)
+command_writes_read c None bytes r a b task is e w = (bytes, (task, is, w))
+command_writes_read c (Some input) bytes r a b task is e w = (task, is, writes_whole task input r a b (subst (λ (x : List ℕ). WritesAnswer task x r a b) e w))
 
 -- where memory or the input failed, the command may have written nothing
-pub command_writes_nothing : (c : Command) (given : Option (List ℕ)) (e : RunFault) (a : Option (List ℕ)) (task : Option TreeTask) → IsTaskOf c task
+pub command_writes_nothing : (c : Command) (given : Option (List ℕ)) (e : RunFault) (a : Option (List ℕ)) (task : InputTask) → IsTaskOf c task
     → is_output_fault {A = ℕ} (Err e) ≡ false → HoldsForInput given (λ input. CommandWrites c input (Err e) a a)
-command_writes_nothing c None e a task is quiet = ([], (task, is, nothing_written (reads_shared_parts c) task [] e a quiet))
-command_writes_nothing c (Some input) e a task is quiet = (task, is, nothing_written (reads_shared_parts c) task input e a quiet)
+command_writes_nothing c None e a task is quiet = ([], (task, is, nothing_written task [] e a quiet))
+command_writes_nothing c (Some input) e a task is quiet = (task, is, nothing_written task input e a quiet)

@@ -1,5 +1,5 @@
--- What a command does with each game tree of its input.
-use Rattle.std.specs.Prelude.{◌≡◌, Bool, true, false, List, Option, None, Some}
+-- What a command does with its input.
+use Rattle.std.specs.Prelude.{◌≡◌, Bool, true, false, List}
 use Rattle.tt_sgf.specs.declared.nodes.Node.{Node}
 use Rattle.tt_solve.specs.declared.options.CertKind.{CertKind}
 use Rattle.tt_solve.specs.declared.options.CertKind.TheVariants.{Unasked, Plain, Shared}
@@ -8,6 +8,8 @@ use Rattle.tt_text.specs.Scoring.{Scores}
 use Rattle.tt_text.specs.Solving.{Solves}
 use Rattle.tsumego.specs.declared.request.Command.{Command}
 use Rattle.tsumego.specs.declared.request.Command.TheVariants as commands
+use Rattle.tsumego.specs.declared.task.InputTask.{InputTask}
+use Rattle.tsumego.specs.declared.task.InputTask.TheVariants.{Trees, Check}
 use Rattle.tsumego.specs.declared.task.TreeTask.{TreeTask}
 use Rattle.tsumego.specs.declared.task.TreeTask.TheVariants.{Score, Solve}
 
@@ -28,17 +30,12 @@ asks_for_shared_parts Unasked = false
 asks_for_shared_parts Plain = false
 asks_for_shared_parts Shared = true
 
--- what the command does with each tree, with the options as they were given; `check` reads the first one alone
-abbrev pub IsTaskOf : Command → Option TreeTask → Type 0
-IsTaskOf commands.Score (Some Score) = Unit {0}
-IsTaskOf commands.Check None = Unit {0}
-IsTaskOf commands.CheckParts None = Unit {0}
-IsTaskOf (commands.Solve limits workers cert total dfpn parts turns progress) (Some (Solve options)) =
+-- what the command does with its input, with the options as they were given
+abbrev pub IsTaskOf : Command → InputTask → Type 0
+IsTaskOf commands.Score (Trees Score) = Unit {0}
+IsTaskOf commands.Check (Check parts) = parts ≡ false
+IsTaskOf commands.CheckParts (Check parts) = parts ≡ true
+IsTaskOf (commands.Solve limits workers cert total dfpn parts turns progress) (Trees (Solve options)) =
     (options.limits ≡ limits) × (options.workers ≡ workers) × (options.total ≡ total) × (options.dfpn ≡ dfpn)
     × ((asks_for_certificate options.cert ≡ cert) × (asks_for_shared_parts options.cert ≡ parts)) × (options.turns ≡ turns)
 IsTaskOf c task = ⊥
-
--- whether a certificate may share parts
-abbrev pub reads_shared_parts : Command → Bool
-reads_shared_parts commands.CheckParts = true
-reads_shared_parts _ = false

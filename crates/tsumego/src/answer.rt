@@ -1,17 +1,17 @@
 //! Writes the answer to an input.
-ghost use Rattle.std.specs.Prelude.{◌≡◌, IfOk, None, Some, false};
+ghost use Rattle.std.specs.Prelude.{◌≡◌, IfOk, false};
 ghost use Rattle.devices.specs.Faults.{is_input_fault, is_output_fault};
 ghost use Rattle.devices.specs.Watching.{TakesAtMost};
 ghost use Rattle.devices.specs.Writing.{HoldsForInput, WritesText};
 ghost use Rattle.tsumego.specs.CommandLine.{IsInRange};
 ghost use Rattle.tsumego.specs.inside.Lines.{WritesOutcome};
-ghost use Rattle.tsumego.specs.Tasks.{MakesOutcome, reads_shared_parts};
+ghost use Rattle.tsumego.specs.Tasks.{MakesOutcome};
 ghost use Rattle.tt_text.specs.Trees.{outcome_line};
 ghost use Rattle.tsumego.specs.Writing.{CommandWrites, WritesAnswer};
 
 use crate::progress::{NoProgress, Progress};
 use crate::request::Command;
-use crate::task::{InputTree, TreeTask, task_of};
+use crate::task::{InputTask, InputTree, TreeTask, task_of};
 use devices::{RunFault, Watched, read_input, write_bytes};
 use std::alloc::Global;
 use std::io::{Read, Write};
@@ -86,7 +86,7 @@ fn answer_trees<X: Threads + Wait + Sync, W: Write, P: Progress>(
     progress: &P,
 ) -> Result<u8, RunFault>
     requires { writer.old.failed ≡ false }
-    ensures written { WritesAnswer false (Some task.now) input.now result (W.contents writer.old.device) (W.contents writer.new.device) }
+    ensures written { WritesAnswer (InputTask.Trees task.now) input.now result (W.contents writer.old.device) (W.contents writer.new.device) }
     ensures reading { is_input_fault result ≡ false }
     ensures failed { writer.new.failed ≡ is_output_fault result }
 {
@@ -121,7 +121,7 @@ fn answer_check<W: Write>(
     writer: &mut Watched<W>,
 ) -> Result<u8, RunFault>
     requires { writer.old.failed ≡ false }
-    ensures written { WritesAnswer parts None input.now result (W.contents writer.old.device) (W.contents writer.new.device) }
+    ensures written { WritesAnswer (InputTask.Check parts) input.now result (W.contents writer.old.device) (W.contents writer.new.device) }
     ensures reading { is_input_fault result ≡ false }
     ensures failed { writer.new.failed ≡ is_output_fault result }
 {
@@ -135,34 +135,23 @@ fn answer_check<W: Write>(
     Ok(finding.status())
 }
 
-/// Whether a certificate may share parts.
-fn reads_shared_parts(command: &Command) -> bool
-    ensures { result ≡ reads_shared_parts command.now }
-{
-    match command {
-        Command::CheckParts => true,
-        Command::Score | Command::Check | Command::Solve { .. } => false,
-    }
-}
-
-/// Answers an input: by what is done with each of its trees, or by its certificate, which may share parts where that is said.
+/// Answers an input by what is done with it.
 fn answer<X: Threads + Wait + Sync, W: Write, P: Progress>(
     rt: &X,
     alloc: Global,
-    parts: bool,
-    task: Option<TreeTask>,
+    task: InputTask,
     input: &[u8],
     writer: &mut Watched<W>,
     progress: &P,
 ) -> Result<u8, RunFault>
     requires { writer.old.failed ≡ false }
-    ensures written { WritesAnswer parts task input.now result (W.contents writer.old.device) (W.contents writer.new.device) }
+    ensures written { WritesAnswer task input.now result (W.contents writer.old.device) (W.contents writer.new.device) }
     ensures reading { is_input_fault result ≡ false }
     ensures failed { writer.new.failed ≡ is_output_fault result }
 {
     match task {
-        Some(task) => answer_trees(rt, alloc, &task, input, writer, progress),
-        None => answer_check(alloc, parts, input, writer),
+        InputTask::Trees(task) => answer_trees(rt, alloc, &task, input, writer, progress),
+        InputTask::Check { parts } => answer_check(alloc, parts, input, writer),
     }
 }
 
@@ -185,9 +174,8 @@ pub fn run_telling<X: Threads + Wait + Sync, R: Read, W: Write, P: Progress>(
     ensures output { writer.new.failed ≡ is_output_fault result }
 {
     let task = task_of(command);
-    let parts = reads_shared_parts(command);
     let input = read_input(alloc, reader, MOST_READ)?;
-    answer(rt, alloc, parts, task, input.as_slice(), writer, progress)
+    answer(rt, alloc, task, input.as_slice(), writer, progress)
 }
 
 /// Runs a command on an input: reads it whole, or 1,048,577 bytes of a longer one, and writes its answer and nothing

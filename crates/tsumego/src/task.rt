@@ -28,6 +28,13 @@ pub enum TreeTask {
     Solve(Options),
 }
 
+/// What is done with an input: so much with each of its trees; or its certificate is checked, which may share parts where that is said.
+#[derive(Clone, Copy, Debug)]
+pub enum InputTask {
+    Trees(TreeTask),
+    Check { parts: bool },
+}
+
 /// The kind of certificate that the flags ask for.
 fn cert_kind_of_flags(cert: bool, parts: bool) -> CertKind
     requires { parts ≡ true → cert ≡ true }
@@ -40,14 +47,15 @@ fn cert_kind_of_flags(cert: bool, parts: bool) -> CertKind
     }
 }
 
-/// What a command does with each tree, where it goes tree by tree.
-pub fn task_of(command: &Command) -> Option<TreeTask>
+/// What a command does with its input.
+pub fn task_of(command: &Command) -> InputTask
     requires { IsInRange command.now }
     ensures { IsTaskOf command.now result }
 {
     match command {
-        Command::Score => Some(TreeTask::Score),
-        Command::Check | Command::CheckParts => None,
+        Command::Score => InputTask::Trees(TreeTask::Score),
+        Command::Check => InputTask::Check { parts: false },
+        Command::CheckParts => InputTask::Check { parts: true },
         Command::Solve {
             limits,
             workers,
@@ -57,7 +65,7 @@ pub fn task_of(command: &Command) -> Option<TreeTask>
             parts,
             turns,
             ..
-        } => Some(TreeTask::Solve(Options {
+        } => InputTask::Trees(TreeTask::Solve(Options {
             limits: *limits,
             total: *total,
             dfpn: *dfpn,

@@ -4,8 +4,8 @@ use Rattle.tsumego.proofs.answer.run_telling.Goals as goal
 
 pub returns-clause-written : goal.returns-clause-written
 returns-clause-written g c =
-    command_writes_read c.args.command.now _ c.as_slice.result.now c.answer.result _ _ c.task_of-task.result c.reads_shared_parts-parts.result c.task_of-task.ensures
-    c.reads_shared_parts-parts.ensures (rw c.as_slice.ensures.value c.in_ok-input.ensures.read) c.answer.ensures.written
+    command_writes_read c.args.command.now _ c.as_slice.result.now c.answer.result _ _ c.task_of-task.result c.task_of-task.ensures
+    (rw c.as_slice.ensures.value c.in_ok-input.ensures.read) c.answer.ensures.written
 
 pub returns-in_err-input-clause-written : goal.returns-in_err-input-clause-written
 returns-in_err-input-clause-written g c =
