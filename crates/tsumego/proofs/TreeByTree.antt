@@ -51,7 +51,7 @@ or_true false = refl
 -- of one outcome alone, some outcome is refused where it is
 any-one : (o : TreeOutcome) → list_any is_refused (o ∷ []) ≡ is_refused o
 any-one (Scored x) = refl
-any-one (Answered x) = refl
+any-one (Answered value x) = refl
 any-one (Refused x) = refl
 
 -- what is read and written so far; an input with an outcome is not too long

@@ -5,7 +5,6 @@ ghost use Rattle.tsumego.specs.Tasks.{IsTaskOf, MakesOutcome, asks_for_certifica
 
 use crate::progress::{ProblemGate, Progress};
 use crate::request::Command;
-use crate::tips::is_unsettled;
 use std::alloc::Global;
 use std::sync::Wait;
 use std::thread::Threads;
@@ -93,7 +92,8 @@ impl TreeTask {
                 progress.begin_problem(tree.number);
                 let gate = ProblemGate::new(progress, tree.number);
                 let outcome = solve(rt, alloc, &tree.main, *options, tree.bytes, &gate);
-                progress.end_problem(is_unsettled(&outcome));
+                let unsettled = matches!(&outcome, Ok(TreeOutcome::Answered(Err(_), _)));
+                progress.end_problem(unsettled);
                 outcome
             }
         }

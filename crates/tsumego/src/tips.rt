@@ -2,8 +2,6 @@
 
 use crate::request::Command;
 use std::alloc::{AllocError, Global};
-use tt_sgf::NoMemory;
-use tt_text::TreeOutcome;
 
 /// What is said where the input comes from a terminal.
 pub const READS_TERMINAL: &str =
@@ -53,13 +51,5 @@ pub fn unsettled_tip(command: &Command) -> &'static str {
     match command {
         Command::Solve { dfpn: Some(n), .. } if *n >= MANY_POSITIONS => "try fewer squares (SQ)",
         _ => "try --dfpn 2000000, or fewer squares (SQ)",
-    }
-}
-
-/// Whether a problem was answered, and not settled.
-pub fn is_unsettled(outcome: &Result<TreeOutcome, NoMemory>) -> bool {
-    match outcome {
-        Ok(TreeOutcome::Answered(text)) => text.as_slice().starts_with(b"unsettled".as_slice()),
-        _ => false,
     }
 }

@@ -26,7 +26,7 @@ use Rattle.tt_text.specs.OtherLines.{LowerLineIsTrue, ReasonIsTrue, SaysBelow, S
 use Rattle.tt_solve.specs.declared.solution.Solution.{Solution}
 use Rattle.tt_solve.specs.declared.solution.Solution.TheVariants.{Settled, Unsettled}
 use Rattle.tt_solve.specs.declared.solution.Solved.{Solved}
-use Rattle.tt_solve.specs.Solutions.{IsFirstTurnOfWinner, IsSolution, IsSolved, IsUnsettledFor}
+use Rattle.tt_solve.specs.Solutions.{IsFirstTurnOfWinner, IsSolution, IsSolved, IsUnsettledFor, value_of}
 use Rattle.tt_solve.specs.Totals.{total_left}
 use Rattle.tt_text.specs.Solving.{Solves, SolvesProblemAs, answer_text, certificate_line, first_turn_text, reason_word, turn_value_lines, verdict_text}
 use Rattle.tt_text.specs.Trees.{BeginsTreesText}
@@ -118,7 +118,7 @@ module _ (options : Options) (input : List ℕ) where
 
   -- an answer's text
   answered_lines : (k : ℕ) (p : LineWithUndo) (s : Solved) → IsProblem input k p → IsSolved options p s
-      → OutcomeLines SolvedTruth k (Answered (answer_text p.frame.size s))
+      → OutcomeLines SolvedTruth k (Answered (value_of s.solution) (answer_text p.frame.size s))
   answered_lines k p s is h =
       let limits = options.limits in
       let verdict = verdict_lines p limits options.total options.cert s.solution h.1.within in

@@ -21,7 +21,7 @@ use Rattle.tt_solve.specs.declared.options.Options.{Options}
 use Rattle.tt_solve.specs.declared.solution.Solution.{Solution}
 use Rattle.tt_solve.specs.declared.solution.Solution.TheVariants.{Settled, Unsettled}
 use Rattle.tt_solve.specs.declared.solution.Solved.{Solved}
-use Rattle.tt_solve.specs.Solutions.{IsSolution, IsSolved}
+use Rattle.tt_solve.specs.Solutions.{IsSolution, IsSolved, value_of}
 use Rattle.tt_text.specs.declared.outcome.TreeOutcome.{TreeOutcome}
 use Rattle.tt_text.specs.declared.outcome.TreeOutcome.TheVariants.{Answered, Refused}
 
@@ -79,9 +79,9 @@ answer_text size s = verdict_text size s.solution ++ turn_value_lines size s.tur
 abbrev pub IsVerdict : LineWithUndo → Limits → Option ℕ → CertKind → List ℕ → Type 0
 IsVerdict p limits total cert text = (s : Solution) × IsSolution p limits total cert s × (text ≡ verdict_text p.frame.size s)
 
--- the text of the solved problem, or the number of its refusal
+-- the value and the text of the solved problem, or the number of its refusal
 abbrev pub SolvesProblemAs : Options → Result LineWithUndo GameFault → TreeOutcome → Type 0
-SolvesProblemAs options (Ok p) o = (s : Solved) × (o ≡ Answered (answer_text p.frame.size s)) × IsSolved options p s
+SolvesProblemAs options (Ok p) o = (s : Solved) × (o ≡ Answered (value_of s.solution) (answer_text p.frame.size s)) × IsSolved options p s
 SolvesProblemAs options (Err e) o = o ≡ Refused (code_of e)
 
 -- what `solve` makes of a main line; workers and df-pn have no part in it

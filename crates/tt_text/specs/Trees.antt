@@ -15,7 +15,7 @@ abbrev pub outcome_line : ℕ → TreeOutcome → List ℕ
 outcome_line k (Scored r) =
     decimal k ++ (codes " black " ++ (decimal r.black ++ (codes " white " ++ (decimal r.white
     ++ (codes " " ++ ((if r.finished then codes "finished" else codes "unfinished") ++ newline ∷ []))))))
-outcome_line k (Answered text) = decimal k ++ (space ∷ text)
+outcome_line k (Answered value text) = decimal k ++ (space ∷ text)
 outcome_line k (Refused code) = decimal k ++ (codes " refused " ++ (decimal code ++ newline ∷ []))
 
 -- the lines on outcomes, the first of which has number k

@@ -1,10 +1,12 @@
 //! What becomes of one game tree, and the line that says so.
-ghost use Rattle.std.specs.Prelude.{◌≡◌, IfOk};
+ghost use Rattle.std.specs.Prelude.{◌≡◌, ◌∷◌, ◌++◌, IfOk, decimal};
+ghost use Rattle.tt_sgf.specs.Bytes.{space};
 ghost use Rattle.tt_text.specs.Scoring.{Scores};
 ghost use Rattle.tt_text.specs.Trees.{is_refused, outcome_line};
 
 use std::alloc::{AllocError, Global};
-use tt_game::{GameFault, Record, play_record};
+use tt_game::{GameFault, Record, Side, play_record};
+use tt_search::Reason;
 use tt_sgf::{ItemList, MainLine, NoMemory};
 
 /// What becomes of one game tree.
@@ -12,8 +14,8 @@ use tt_sgf::{ItemList, MainLine, NoMemory};
 pub enum TreeOutcome {
     /// A record was scored.
     Scored(Record),
-    /// A problem was answered, by this text behind the tree's number.
-    Answered(ItemList<u8>),
+    /// A problem was answered: which side wins, or why that isn't known; and the text behind the tree's number.
+    Answered(Result<Side, Reason>, ItemList<u8>),
     /// The tree was refused, with this number.
     Refused(u8),
 }
@@ -45,7 +47,7 @@ fn score_line(alloc: Global, number: usize, scored: &Record) -> Result<Vec<u8>, 
 /// The number of a tree, and the text of its answer behind a blank.
 fn answer_lines(alloc: Global, number: usize, answer: &[u8]) -> Result<Vec<u8>, AllocError>
     ensures { IfOk result
-        (λ text. text.items ≡ outcome_line number (TreeOutcome.Answered answer.now)) }
+        (λ text. text.items ≡ decimal number ++ (space ∷ answer.now)) }
 {
     let mut text = format!(in alloc; "{number} ")?.into_bytes();
     text.extend_from_slice(answer)?;
@@ -66,7 +68,7 @@ pub fn line(alloc: Global, number: usize, outcome: &TreeOutcome) -> Result<Vec<u
 {
     match outcome {
         TreeOutcome::Scored(record) => score_line(alloc, number, record),
-        TreeOutcome::Answered(text) => answer_lines(alloc, number, text.as_slice()),
+        TreeOutcome::Answered(_, text) => answer_lines(alloc, number, text.as_slice()),
         TreeOutcome::Refused(code) => refusal_line(alloc, number, *code),
     }
 }

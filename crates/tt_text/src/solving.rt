@@ -23,7 +23,8 @@ fn answered(alloc: Global, line: &Line, solved: &Solved) -> Result<TreeOutcome, 
         → IfOk result (SolvesProblemAs options (Ok line.now)) }
 {
     let text = answer_text(alloc, line.frame().size, solved)?;
-    Ok(TreeOutcome::Answered(ItemList::from_vec(text)))
+    let value = solved.solution.value();
+    Ok(TreeOutcome::Answered(value, ItemList::from_vec(text)))
 }
 
 /// What is said of the problem at a line, which workers solve.

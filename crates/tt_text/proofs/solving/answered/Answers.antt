@@ -1,4 +1,4 @@
-use Rattle.std.proofs.Common.{◌∙◌, All, ap, subst, sym}
+use Rattle.std.proofs.Common.{◌∙◌, All, ap, ap₂, subst, sym}
 use Rattle.tt_game.specs.declared.frame.Frame.{Frame}
 use Rattle.tt_proof.specs.Strategy.{IsTurnOnBoardOfSize}
 use Rattle.tt_solve.specs.Totals.{total_left}
@@ -22,4 +22,4 @@ pub returns : goal.returns
 returns c = λ options is.
     let solved = c.args.solved.now in
     let text = c.from_vec.ensures ∙ c.in_ok-text.ensures ∙ ap (λ (f : Frame). answer_text f.size solved) c.frame.ensures.value in
-    (solved, ap Answered text, is)
+    (solved, ap₂ Answered c.value-value.ensures text, is)
