@@ -1,8 +1,8 @@
 -- Stones that close a wall.
-use Rattle.std.proofs.Common.{◌≡◌, ◌<◌, ◌≤◌, ℕ, ◌&&◌, not, Option, Some, None, true, false, inl, inr, refl, sym, ap, subst, ◌∙◌}
-use Rattle.std.proofs.lemmas.Bool.{and_from, and_parts, cases_Bool, not_from_false, true≢false, false≢true}
+use Rattle.std.proofs.Common.{◌≡◌, ◌⊎◌, ◌<◌, ◌≤◌, ℕ, ◌+◌, ◌&&◌, ◌||◌, ◌-◌, cond, not, Bool, List, [], Option, Some, None, true, false, inl, inr, refl, sym, ap, subst, ◌∙◌, arith}
+use Rattle.std.proofs.lemmas.Bool.{and_from, and_parts, cases_Bool, not_from_false, true≢false, false≢true, cases_lt}
 use Rattle.std.specs.Cmp.{nat_cmp_total}
-use Rattle.std.specs.Ordering.{nat_cmp}
+use Rattle.std.specs.Ordering.{eq_by_cmp, nat_cmp}
 use Rattle.std.specs.FinSet as set
 use Rattle.tt_sgf.specs.declared.size.Size.{Size}
 use Rattle.tt_sgf.specs.Sizes.{point_count}
@@ -12,9 +12,10 @@ use Rattle.tt_board.specs.Play.{is_empty, other}
 use Rattle.tt_board.specs.Setup.{AllHaveLiberties}
 use Rattle.tt_board.specs.Reach.{entry_at}
 use Rattle.tt_board.specs.Stones.{IsSetOnBoard, PointNumberSet}
+use Rattle.tt_marks.specs.declared.gaps.Closing.{Closing}
 use Rattle.tt_marks.specs.declared.gaps.TheConstants.{MOST_STONES}
-use Rattle.tt_marks.specs.Walls.{IsClosed, IsInner, IsRegion, IsWholeWall, empty_set}
-use Rattle.tt_marks.specs.Closings.{AreEmptyPoints, ClosesWall, with_stones}
+use Rattle.tt_marks.specs.Walls.{IsClosed, IsEnclosedGroup, IsInner, IsRegion, IsWholeWall, empty_set}
+use Rattle.tt_marks.specs.Closings.{AreClosings, AreEmptyPoints, AreEnclosing, ClosesWall, with_stones}
 use Rattle.tt_marks.proofs.SetLemmas.{has_passing, passing_below}
 
 empty_entry : (x : Option Colour) → is_empty x ≡ true → x ≡ None
@@ -39,13 +40,63 @@ empty_points_alone s c points left is none p h =
     let lt = passing_below (λ q. is_empty (entry_at c q)) (point_count s) p there in
     (lt, empty_entry (entry_at c p) (sym (has_passing (λ q. is_empty (entry_at c q)) (point_count s) p lt) ∙ there))
 
+and_not_swap : (a b : Bool) → (a && not (b || false)) ≡ (not b && a)
+and_not_swap true true = refl
+and_not_swap true false = refl
+and_not_swap false true = refl
+and_not_swap false false = refl
+
+-- without one point a set has the others
+pub without_one : (points alone others : PointNumberSet) (p : ℕ) → alone ≡ set.insert set.empty p → others ≡ set.difference points alone → others ≡ set.remove points p
+without_one points alone others p one is = set.same_set nat_cmp_total set.nat_cmp-IsAntisymmetric others (set.remove points p) (λ q.
+    let same = eq_by_cmp nat_cmp q p in
+    let taken : set.contains alone q ≡ (same || false) =
+    ap (λ x. set.contains x q) one ∙ set.contains-insert nat_cmp_total set.empty p q ∙ ap (λ b. same || b) (set.contains-empty nat_cmp q) in
+    ap (λ x. set.contains x q) is ∙ set.contains-difference nat_cmp_total points alone q ∙ ap (λ b. set.contains points q && not b) taken
+    ∙ and_not_swap (set.contains points q) same ∙ sym (set.contains-remove nat_cmp_total points p q))
+
+-- which are fewer
+pub fewer_without : (points others : PointNumberSet) (p : ℕ) → others ≡ set.remove points p → set.contains points p ≡ true → 0 < set.len points
+    → set.len others < set.len points
+fewer_without points others p is there some =
+    let less : set.len (set.remove points p) ≡ set.len points - 1 = set.len-remove nat_cmp_total points p ∙ ap (λ b. cond b (set.len points - 1) (set.len points)) there in
+    let e : set.len others ≡ set.len points - 1 = ap set.len is ∙ less in
+    omega (arith, some, e)
+
+-- where the group is enclosed on the board with the stones, what is found there tells it
+pub enclosing_found : (s : Size) (c : Colouring) (k j : Colour) (q : ℕ) (stones wall region : PointNumberSet) (b : Position) → j ≡ other k
+    → (b ≡ record { size = s; points = with_stones s c j stones }) × AllHaveLiberties s (with_stones s c j stones)
+    → ((points : PointNumberSet) → IsEnclosedGroup b.size b.points k q points → IsClosed wall region × (points ≡ region))
+    → AreEnclosing s c k q stones → IsClosed wall region × IsInner b.size b.points region
+enclosing_found s c k j q stones wall region b same made only (alive, (points, enclosed, inner)) =
+    let on = subst (λ (x : Colour). IsEnclosedGroup s (with_stones s c x stones) k q points × IsInner s (with_stones s c x stones) points) (sym same) (enclosed, inner) in
+    let there = subst (λ (n : Position). IsEnclosedGroup n.size n.points k q points × IsInner n.size n.points points) (sym made.0) on in
+    let found = only points there.0 in
+    (found.0, subst (λ (x : PointNumberSet). IsInner b.size b.points x) found.1 there.1)
+
+module _ (s : Size) (c : Colouring) (k : Colour) (q : ℕ) (stones : PointNumberSet) where
+  -- each stone below number n is needed
+  abbrev pub AreNeededBelow : ℕ → Type 0
+  AreNeededBelow n = (p : ℕ) → p < n → set.contains stones p ≡ true → AreEnclosing s c k q (set.remove stones p) → ⊥
+
+  abbrev pub AreNeeded : Type 0
+  AreNeeded = AreNeededBelow (point_count s)
+
+  pub needed_more : (n : ℕ) → (set.contains stones n ≡ true → AreEnclosing s c k q (set.remove stones n) → ⊥) → AreNeededBelow n → AreNeededBelow (n + 1)
+  needed_more n one before p lt h = elim (cases_lt p n) [
+    | inl below ↦ before p below h
+    | inr past ↦
+        let same : p ≡ n = omega arith in
+        subst (λ (x : ℕ). set.contains stones x ≡ true → AreEnclosing s c k q (set.remove stones x) → ⊥) (sym same) one h
+  ]
+
 -- what is found on the board with the stones
 pub closing_is : (s : Size) (c : Colouring) (k j : Colour) (q : ℕ) (stones wall region : PointNumberSet) (b : Position) → j ≡ other k → 0 < set.len stones → set.len stones ≤ MOST_STONES
     → AreEmptyPoints s c stones → (b ≡ record { size = s; points = with_stones s c j stones }) × AllHaveLiberties s (with_stones s c j stones)
     → IsWholeWall b.size b.points k q (set.contains wall) → IsRegion b.size b.points k q (set.contains wall) (set.contains region)
     → IsSetOnBoard b.size wall → IsSetOnBoard b.size region → IsClosed wall region → ((p : ℕ) → set.contains stones p ≡ true → set.contains wall p ≡ true)
-    → IsInner b.size b.points region → ClosesWall s c k q stones region
-closing_is s c k j q stones wall region b same some few on_empty made whole within wall_on_board on_board closed of_wall inner = record {
+    → IsInner b.size b.points region → AreNeeded s c k q stones → ClosesWall s c k q stones region
+closing_is s c k j q stones wall region b same some few on_empty made whole within wall_on_board on_board closed of_wall inner needed = record {
   some = some;
   few = few;
   on_empty = on_empty;
@@ -59,6 +110,7 @@ closing_is s c k j q stones wall region b same some few on_empty made whole with
   on_board = subst (λ (n : Position). IsSetOnBoard n.size region) made.0 on_board;
   closed = closed;
   inner = subst (λ x. IsInner s (with_stones s c x stones) region) same (subst (λ n. IsInner n.size n.points region) made.0 inner);
+  needed = λ p h. needed p (on_empty p h).0 h;
 }
 
 -- points among the empty ones
@@ -68,3 +120,8 @@ among_empty s c points made is p h =
     let both = and_parts (set.contains points p) (set.contains e p) (sym (set.contains-intersection nat_cmp_total points e p) ∙ ap (λ x. set.contains x p) (sym is) ∙ h) in
     let lt = passing_below (λ q. is_empty (entry_at c q)) (point_count s) p both.1 in
     (lt, empty_entry (entry_at c p) (sym (has_passing (λ q. is_empty (entry_at c q)) (point_count s) p lt) ∙ both.1))
+
+-- what is left of a list when all of it may go
+pub some_left : (s : Size) (c : Colouring) (k : Colour) (q : ℕ) (before left : List Closing) → (left ≡ before) ⊎ (left ≡ []) → AreClosings s c k q before → AreClosings s c k q left
+some_left s c k q before left (inl same) all = subst (AreClosings s c k q) (sym same) all
+some_left s c k q before left (inr none) all = subst (AreClosings s c k q) (sym none) (λ j m lt. absurd (omega (arith, lt)))

@@ -12,7 +12,7 @@ use Rattle.tt_board.specs.Setup.{AllHaveLiberties, placed}
 use Rattle.tt_board.specs.Stones.{IsSetOnBoard, PointNumberSet}
 use Rattle.tt_marks.specs.declared.gaps.Closing.{Closing}
 use Rattle.tt_marks.specs.declared.gaps.TheConstants.{MOST_STONES}
-use Rattle.tt_marks.specs.Walls.{IsClosed, IsInner, IsRegion, IsWholeWall}
+use Rattle.tt_marks.specs.Walls.{IsClosed, IsEnclosedGroup, IsInner, IsRegion, IsWholeWall}
 
 -- the colouring with stones of colour k added on these points
 abbrev pub with_stones : Size → Colouring → Colour → PointNumberSet → Colouring
@@ -23,8 +23,15 @@ with_stones s c White stones = placed s c set.empty stones set.empty
 abbrev pub AreEmptyPoints : Size → Colouring → PointNumberSet → Type 0
 AreEmptyPoints s c points = (p : ℕ) → set.contains points p ≡ true → (p < point_count s) × (entry_at c p ≡ None)
 
+-- stones of the other colour on these points enclose the group of the stone of colour k on q: each stone has a liberty then, and the region
+-- of the group is closed and inner
+abbrev pub AreEnclosing : Size → Colouring → Colour → ℕ → PointNumberSet → Type 0
+AreEnclosing s c k q stones = AllHaveLiberties s (with_stones s c (other k) stones)
+    × ((region : PointNumberSet) × IsEnclosedGroup s (with_stones s c (other k) stones) k q region × IsInner s (with_stones s c (other k) stones) region)
+
 -- A few stones of the other colour on these empty points close the wall around the group of the stone of colour k on q: then each stone
--- has a liberty, all of these are of the whole wall, and the region of the group is this one, closed and inner
+-- has a liberty, all of these are of the whole wall, the region of the group is this one, closed and inner, and without any one of these the
+-- others don't enclose the group
 pub record ClosesWall (s : Size) (c : Colouring) (k : Colour) (q : ℕ) (stones region : PointNumberSet) : Type 0 where
   pub some : 0 < set.len stones
   pub few : set.len stones ≤ MOST_STONES
@@ -38,6 +45,7 @@ pub record ClosesWall (s : Size) (c : Colouring) (k : Colour) (q : ℕ) (stones 
   pub on_board : IsSetOnBoard s region
   pub closed : IsClosed wall region
   pub inner : IsInner s (with_stones s c (other k) stones) region
+  pub needed : (p : ℕ) → set.contains stones p ≡ true → AreEnclosing s c k q (set.remove stones p) → ⊥
 
 -- all of these close it
 abbrev pub AreClosings : Size → Colouring → Colour → ℕ → List Closing → Type 0

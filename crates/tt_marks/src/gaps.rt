@@ -1,12 +1,12 @@
 //! Stones of the other colour that close the wall around a group.
 
-ghost use Rattle.std.specs.Prelude.{◌≡◌, ℕ, ◌<◌, IfSome, IfOk, IsTrue, MatchOption, true};
+ghost use Rattle.std.specs.Prelude.{◌≡◌, ◌⊎◌, ℕ, ◌<◌, [], IfSome, IfOk, IsTrue, MatchOption, true};
 ghost use Rattle.std.specs.FinSet as set;
 ghost use Rattle.tt_sgf.specs.Sizes.{point_count};
 ghost use Rattle.tt_board.specs.Setup.{AllHaveLiberties};
-ghost use Rattle.tt_marks.specs.Closings.{AreClosings, AreEmptyPoints, ClosesWall, with_stones};
+ghost use Rattle.tt_marks.specs.Closings.{AreClosings, AreEmptyPoints, AreEnclosing, ClosesWall, with_stones};
 
-use crate::regions::{empties, is_inner, region, set_of};
+use crate::regions::{empties, is_inner, point_numbered, region, set_of};
 use crate::ways::{Ways, neighbours};
 use std::alloc::Global;
 use tt_board::{Board, Colour};
@@ -54,8 +54,8 @@ pub fn board_with_stones(board: &Board, colour: Colour, stones: &PointSet) -> Op
 
 /// The place of a closing among others: first by how many of the stones are beside one of the group's colour, then by the points that the
 /// region has. These are fewer than 512, so that the first decides wherever it differs.
-fn rank_of(board: &Board, colour: Colour, stones: &Bits, region: &PointSet) -> u16 {
-    let beside = neighbours(board.size(), board.bits(colour)).and(stones);
+fn rank_of(board: &Board, colour: Colour, stones: &PointSet, region: &PointSet) -> u16 {
+    let beside = neighbours(board.size(), board.bits(colour)).and(stones.bits());
     let beside = set_of(board.size(), &beside).count();
     beside.min(MOST_STONES as u16) * 512 + 511 - region.count().min(511)
 }
@@ -68,34 +68,71 @@ fn are_among(points: &PointSet, others: &PointSet) -> bool
     points.minus(others).same(&PointSet::empty())
 }
 
-/// The closing by these stones, where they close the wall around the group of a stone of this colour.
-fn closing_by(board: &Board, colour: Colour, stone: Point, stones: &Bits) -> Option<Closing>
+/// Whether stones of the other colour on these points enclose the group of a stone of this colour, with an inner region.
+fn are_enclosing(board: &Board, colour: Colour, stone: Point, points: &PointSet) -> bool
+    requires { stone < point_count board.now.size }
+    ensures { AreEnclosing board.now.size board.now.points colour stone points.now → IsTrue result }
+{
+    let Some(next) = board_with_stones(board, colour.other(), points) else {
+        return false;
+    };
+    let found = region(&next, colour, stone);
+    found.is_closed() && is_inner(&next, &found.points)
+}
+
+/// The first of these stones that isn't needed: the others enclose the group of a stone of this colour.
+fn unneeded(board: &Board, colour: Colour, stone: Point, stones: &PointSet) -> Option<Point>
+    requires { stone < point_count board.now.size }
+    ensures { MatchOption result
+        ((p : ℕ) → p < point_count board.now.size → set.contains stones.now p ≡ true
+        → AreEnclosing board.now.size board.now.points colour stone (set.remove stones.now p) → ⊥)
+        (λ p. set.contains stones.now p ≡ true) }
+{
+    let size = board.size();
+    for number in 0..size.point_count() {
+        let point = point_numbered(size, number);
+        if stones.has(point) {
+            let others = stones.minus(&PointSet::empty().with(point));
+            if are_enclosing(board, colour, stone, &others) {
+                return Some(point);
+            }
+        }
+    }
+    None
+}
+
+/// The closing by these stones, where they close the wall around the group of a stone of this colour. Those that aren't needed are left
+/// out.
+fn closing_by(board: &Board, colour: Colour, stone: Point, stones: &PointSet) -> Option<Closing>
     requires { stone < point_count board.now.size }
     ensures { IfSome result
         (λ m. ClosesWall board.now.size board.now.points colour stone m.stones m.region) }
 {
-    let points = set_of(board.size(), stones);
-    let count = usize::from(points.count());
+    let count = usize::from(stones.count());
     if count == 0 || count > MOST_STONES {
         return None;
     }
-    if !are_empty(board, &points) {
+    if !are_empty(board, stones) {
         return None;
     }
-    let next = board_with_stones(board, colour.other(), &points)?;
+    let next = board_with_stones(board, colour.other(), stones)?;
     let found = region(&next, colour, stone);
     if !found.is_closed() {
         return None;
     }
-    if !are_among(&points, &found.wall) {
+    if !are_among(stones, &found.wall) {
         return None;
     }
     if !is_inner(&next, &found.points) {
         return None;
     }
+    if let Some(point) = unneeded(board, colour, stone, stones) {
+        let others = stones.minus(&PointSet::empty().with(point));
+        return closing_by(board, colour, stone, &others);
+    }
     Some(Closing {
         rank: rank_of(board, colour, stones, &found.points),
-        stones: points,
+        stones: stones.copy(),
         region: found.points,
     })
 }
@@ -110,27 +147,52 @@ fn are_listed(found: &[Closing], stones: &PointSet) -> bool {
     false
 }
 
-/// Lists these stones where they close the wall and aren't listed.
+/// Whether a closing by these stones isn't listed, and none by fewer stones is.
+fn is_wanted(found: &[Closing], stones: &PointSet) -> bool {
+    match found.first() {
+        Some(first) => stones.count() <= first.stones.count() && !are_listed(found, stones),
+        None => true,
+    }
+}
+
+/// Takes the closings by more stones than so many off the list, all of which are by as many.
+fn unlist_more(found: &mut Vec<Closing>, count: u16)
+    ensures { (found.new.items ≡ found.old.items) ⊎ (found.new.items ≡ []) }
+{
+    if let Some(first) = found.first() {
+        if count < first.stones.count() {
+            found.clear();
+        }
+    }
+}
+
+/// Lists the closing by these stones, where they close the wall: those by the fewest stones are listed.
 fn list_if_closing(
     board: &Board,
     colour: Colour,
     stone: Point,
-    stones: &Bits,
+    stones: &PointSet,
     found: &mut Vec<Closing>,
 ) -> Result<(), NoMemory>
     requires { stone < point_count board.now.size }
     ensures { AreClosings board.now.size board.now.points colour stone found.old.items
         → AreClosings board.now.size board.now.points colour stone found.new.items }
 {
-    if let Some(closing) = closing_by(board, colour, stone, stones) {
-        if !are_listed(found.as_slice(), &closing.stones) {
-            found.push(closing)?;
-        }
+    if are_listed(found.as_slice(), stones) {
+        return Ok(());
     }
+    let Some(closing) = closing_by(board, colour, stone, stones) else {
+        return Ok(());
+    };
+    if !is_wanted(found.as_slice(), &closing.stones) {
+        return Ok(());
+    }
+    unlist_more(found, closing.stones.count());
+    found.push(closing)?;
     Ok(())
 }
 
-/// The closings with so many stones, the best first.
+/// The closings with so many stones or, where some of these aren't needed, with fewer: as many each. The best come first.
 pub(crate) fn closings_by(
     alloc: Global,
     board: &Board,
@@ -146,15 +208,16 @@ pub(crate) fn closings_by(
     ways.list_shutting(&Bits::none(), stones, &mut shutting)?;
     let mut found = Vec::new(alloc);
     for stones in shutting.as_slice() {
-        list_if_closing(board, colour, stone, stones, &mut found)?;
+        let stones = set_of(board.size(), stones);
+        list_if_closing(board, colour, stone, &stones, &mut found)?;
     }
     found.sort_by_key(|closing| closing.rank)?;
     Ok(found)
 }
 
-/// The stones that close the wall around the group of a stone of this colour, at most `MOST_STONES` together: more are looked for only where
-/// fewer weren't found, but now and then one of them isn't needed. The best come first: those of which fewest are beside a stone of the
-/// group's colour, then those that leave the group most room.
+/// The stones that close the wall around the group of a stone of this colour, at most `MOST_STONES` together, and as many in each closing:
+/// more are looked for only where fewer weren't found, and each is needed. The best come first: those of which fewest are beside a stone of
+/// the group's colour, then those that leave the group most room.
 pub fn closings(
     alloc: Global,
     board: &Board,
