@@ -13,7 +13,6 @@ use Rattle.tt_board.specs.Setup.{AllHaveLiberties}
 use Rattle.tt_board.specs.Reach.{entry_at}
 use Rattle.tt_board.specs.Stones.{IsSetOnBoard, PointNumberSet}
 use Rattle.tt_marks.specs.declared.gaps.Closing.{Closing}
-use Rattle.tt_marks.specs.declared.gaps.TheConstants.{MOST_STONES}
 use Rattle.tt_marks.specs.Walls.{IsClosed, IsEnclosedGroup, IsInner, IsRegion, IsWholeWall, empty_set}
 use Rattle.tt_marks.specs.Closings.{AreClosings, AreEmptyPoints, AreEnclosing, ClosesWall, with_stones}
 use Rattle.tt_marks.proofs.SetLemmas.{has_passing, passing_below}
@@ -91,7 +90,7 @@ module _ (s : Size) (c : Colouring) (k : Colour) (q : ℕ) (stones : PointNumber
   ]
 
 -- what is found on the board with the stones
-pub closing_is : (s : Size) (c : Colouring) (k j : Colour) (q : ℕ) (stones wall region : PointNumberSet) (b : Position) → j ≡ other k → 0 < set.len stones → set.len stones ≤ MOST_STONES
+pub closing_is : (s : Size) (c : Colouring) (k j : Colour) (q : ℕ) (stones wall region : PointNumberSet) (b : Position) → j ≡ other k → 0 < set.len stones → set.len stones ≤ 3
     → AreEmptyPoints s c stones → (b ≡ record { size = s; points = with_stones s c j stones }) × AllHaveLiberties s (with_stones s c j stones)
     → IsWholeWall b.size b.points k q (set.contains wall) → IsRegion b.size b.points k q (set.contains wall) (set.contains region)
     → IsSetOnBoard b.size wall → IsSetOnBoard b.size region → IsClosed wall region → ((p : ℕ) → set.contains stones p ≡ true → set.contains wall p ≡ true)

@@ -11,7 +11,6 @@ use Rattle.tt_board.specs.Reach.{entry_at}
 use Rattle.tt_board.specs.Setup.{AllHaveLiberties, placed}
 use Rattle.tt_board.specs.Stones.{IsSetOnBoard, PointNumberSet}
 use Rattle.tt_marks.specs.declared.gaps.Closing.{Closing}
-use Rattle.tt_marks.specs.declared.gaps.TheConstants.{MOST_STONES}
 use Rattle.tt_marks.specs.Walls.{IsClosed, IsEnclosedGroup, IsInner, IsRegion, IsWholeWall}
 
 -- the colouring with stones of colour k added on these points
@@ -29,12 +28,12 @@ abbrev pub AreEnclosing : Size → Colouring → Colour → ℕ → PointNumberS
 AreEnclosing s c k q stones = AllHaveLiberties s (with_stones s c (other k) stones)
     × ((region : PointNumberSet) × IsEnclosedGroup s (with_stones s c (other k) stones) k q region × IsInner s (with_stones s c (other k) stones) region)
 
--- A few stones of the other colour on these empty points close the wall around the group of the stone of colour k on q: then each stone
+-- One to three stones of the other colour on these empty points close the wall around the group of the stone of colour k on q: then each stone
 -- has a liberty, all of these are of the whole wall, the region of the group is this one, closed and inner, and without any one of these the
 -- others don't enclose the group
 pub record ClosesWall (s : Size) (c : Colouring) (k : Colour) (q : ℕ) (stones region : PointNumberSet) : Type 0 where
   pub some : 0 < set.len stones
-  pub few : set.len stones ≤ MOST_STONES
+  pub few : set.len stones ≤ 3
   pub on_empty : AreEmptyPoints s c stones
   pub alive : AllHaveLiberties s (with_stones s c (other k) stones)
   pub wall : PointNumberSet
