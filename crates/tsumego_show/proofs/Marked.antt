@@ -21,8 +21,8 @@ use Rattle.tt_marks.specs.Closings.{ClosesWall, with_stones}
 use Rattle.tt_marks.specs.Walls.{IsClosed, IsEnclosedGroup}
 use Rattle.tsumego_show.specs.declared.mode.PointName.{PointName}
 use Rattle.tsumego_show.specs.declared.mode.WantedMarks.{WantedMarks}
-use Rattle.tsumego_show.specs.Written.{HasNoGroup, IsClosedText, IsEnclosedText, IsGivenWithMore, IsInnerUnlessNamed, IsMarkedOrKept, IsMarkedText, IsMeant}
-use Rattle.tsumego_show.specs.Written.{IsSetupText, IsTextOf, MarksNoGroup, as_given, asking_nodes, has_squares, has_triangles_alone, last_has_squares, target}
+use Rattle.tsumego_show.specs.Written.{HasNoGroup, IsClosedText, IsEnclosedText, IsGivenWithMore, IsInnerUnlessNamed, IsMarkedOrKept, IsMarkedText}
+use Rattle.tsumego_show.specs.Written.{IsSetupText, IsTaken, IsTextOf, MarksNoGroup, as_given, asking_nodes, has_squares, has_triangles_alone, last_has_squares, target}
 
 -- with marks alone
 pub marked_board : (name : Option PointName) (text : List ℕ) (g : GameState) (q : ℕ) (k : Colour) (squares : PointNumberSet) (s : Size) (c : Colouring)
@@ -33,26 +33,23 @@ marked_board name text g q k squares s c size points enclosed inner is =
     let both = subst (λ (x : Colouring). IsEnclosedGroup g.size x k q squares × IsInnerUnlessNamed name g.size x squares) points sized in
     (k, squares, both.0, both.1, is)
 
-module _ (name : Option PointName) (g : GameState) (q : ℕ) (s : Size) (c : Colouring) (size : s ≡ g.size) (points : c ≡ g.present) where
-  in_game : MarksNoGroup name s c q → MarksNoGroup name g.size g.present q
-  in_game none = subst (λ (x : Colouring). MarksNoGroup name g.size x q) points (subst (λ (x : Size). MarksNoGroup name x c q) size none)
+-- where what is taken for the stone that is meant marks no group, none does
+module _ (name : Option PointName) (g : GameState) (q : ℕ) (taken : IsTaken name g.size g.present (Some q)) (s : Size) (c : Colouring) (size : s ≡ g.size) (points : c ≡ g.present) where
+  in_game : MarksNoGroup name s c q → HasNoGroup name g.size g.present
+  in_game none = taken.2 (subst (λ (x : Colouring). MarksNoGroup name g.size x q) points (subst (λ (x : Size). MarksNoGroup name x c q) size none))
 
   -- no stone on a point marks no group
-  pub empty_marks_none : entry_at c q ≡ None → MarksNoGroup name g.size g.present q
-  empty_marks_none bare = in_game (λ k squares enclosed inner. absurd (let e : Some k ≡ None = sym enclosed.stands ∙ bare in cc))
+  pub empty_has_none : entry_at c q ≡ None → HasNoGroup name g.size g.present
+  empty_has_none bare = in_game (λ k squares enclosed inner. absurd (let e : Some k ≡ None = sym enclosed.stands ∙ bare in cc))
 
   -- nor does one with another region than the squares have to be
-  pub open_marks_none : (k : Colour) (wall region : PointNumberSet) → entry_at c q ≡ Some k
+  pub open_has_none : (k : Colour) (wall region : PointNumberSet) → entry_at c q ≡ Some k
       → ((points : PointNumberSet) → IsEnclosedGroup s c k q points → IsClosed wall region × (points ≡ region))
-      → (IsClosed wall region × IsInnerUnlessNamed name s c region → ⊥) → MarksNoGroup name g.size g.present q
-  open_marks_none k wall region stands only never = in_game (λ j squares enclosed inner.
+      → (IsClosed wall region × IsInnerUnlessNamed name s c region → ⊥) → HasNoGroup name g.size g.present
+  open_has_none k wall region stands only never = in_game (λ j squares enclosed inner.
       let same : j ≡ k = let e : Some j ≡ Some k = sym enclosed.stands ∙ stands in cc in
       let found = only squares (subst (λ (x : Colour). IsEnclosedGroup s c x q squares) same enclosed) in
       never (found.0, subst (λ (x : PointNumberSet). IsInnerUnlessNamed name s c x) found.1 inner))
-
-pub closed_marked : (wanted : WantedMarks) (text : List ℕ) (g : GameState) (q : ℕ) → IsMeant g.size wanted.name q → wanted.closes ≡ true → IsClosedText text g q
-    → IsMarkedText wanted text g
-closed_marked wanted text g q meant closes is = (q, meant, inr (closes, is))
 
 -- with stones that close the wall
 pub marked_setup : (text : List ℕ) (g : GameState) (q : ℕ) (k foe : Colour) (s : Size) (c : Colouring) (stones region squares : PointNumberSet) (made : Position)

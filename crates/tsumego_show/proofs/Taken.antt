@@ -9,7 +9,7 @@ use Rattle.tt_game.specs.Games.{GameState}
 use Rattle.tt_marks.specs.Walls.{IsOfInnerGroup}
 use Rattle.tsumego_show.specs.declared.mode.PointName.{PointName}
 use Rattle.tsumego_show.specs.declared.mode.PointName.TheVariants.{FromAbove, FromBelow}
-use Rattle.tsumego_show.specs.Written.{HasName, HasNoGroup, IsTaken, MarksNoGroup}
+use Rattle.tsumego_show.specs.Written.{HasName, IsTaken, MarksNoGroup}
 
 -- a name has one point
 one_point : (s : Size) (name : PointName) (p q : ℕ) → HasName s name p → HasName s name q → p ≡ q
@@ -25,10 +25,6 @@ pub proposed_taken : (s : Size) (c : Colouring) (found : Option ℕ) → MatchOp
     (λ p. (p < point_count s) × (entry_at c p ≢ None) × ((q : ℕ) → IsOfInnerGroup s c q → IsOfInnerGroup s c p)) → IsTaken None s c found
 proposed_taken s c None none = λ q _ k squares e inner. none q (k, squares, e, inner)
 proposed_taken s c (Some p) h = (h.0, tt, λ no q _ k squares e inner. let its = h.2 q (k, squares, e, inner) in no its.0 its.1 its.2 its.3)
-
--- where it marks no group none does
-pub none_marked : (name : Option PointName) (s : Size) (c : Colouring) (p : ℕ) → IsTaken name s c (Some p) → MarksNoGroup name s c p → HasNoGroup name s c
-none_marked name s c p taken none = taken.2 none
 
 -- it is on the board
 pub taken_on_board : (name : Option PointName) (s : Size) (c : Colouring) (found : Option ℕ) → IsTaken name s c found → IfSome found (λ p. p < point_count s)

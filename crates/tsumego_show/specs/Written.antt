@@ -83,9 +83,11 @@ abbrev pub IsClosedText : List ℕ → GameState → ℕ → Type 0
 IsClosedText text g q = (k : Colour) × (squares : PointNumberSet) × (stones : PointNumberSet) × ClosesWall g.size g.present k q stones squares
     × IsSetupText text (record { size = g.size; region = squares; targets = target q; defender = k }) (with_stones g.size g.present (other k) stones) (side_of k g.to_move)
 
--- a text is the game with marks for the stone that is meant; only where that is wanted with stones that close its wall
+-- A text is the game with marks for the stone that is meant. Stones that close its wall are added only where that is wanted, and no stone
+-- that may be meant marks a group without them.
 abbrev pub IsMarkedText : WantedMarks → List ℕ → GameState → Type 0
-IsMarkedText wanted text g = (q : ℕ) × IsMeant g.size wanted.name q × (IsEnclosedText wanted.name text g q ⊎ ((wanted.closes ≡ true) × IsClosedText text g q))
+IsMarkedText wanted text g = (q : ℕ) × IsMeant g.size wanted.name q × (IsEnclosedText wanted.name text g q
+    ⊎ ((wanted.closes ≡ true) × HasNoGroup wanted.name g.size g.present × IsClosedText text g q))
 
 -- the bytes from the first `(` on
 abbrev pub from_open : List ℕ → List ℕ

@@ -1,12 +1,12 @@
 //! Writes problems with the marks that are proposed for them.
-ghost use Rattle.std.specs.Prelude.{◌≡◌, ◌<◌, ◌↔◌, IfOk, IfSome, IsTrue, MatchOption, Ok, false, is_some, true};
+ghost use Rattle.std.specs.Prelude.{◌≡◌, ◌<◌, ◌↔◌, IfOk, IfSome, IsTrue, MatchOption, Ok, Some, false, is_some, true};
 ghost use Rattle.std.specs.List.{list_any};
 ghost use Rattle.tt_sgf.specs.Sizes.{point_count};
 ghost use Rattle.tt_game.specs.Nodes.{TR, has};
 ghost use Rattle.tt_game.specs.Problems.{game_of, posed_problem};
 ghost use Rattle.tt_marks.specs.Walls.{IsClosed};
-ghost use Rattle.tsumego_show.specs.Written.{HasNoGroup, IsClosedText, IsGivenWithMore, IsInnerUnlessNamed, IsMarkedOrKept, IsMarkedText, IsMeant, IsSetupText, IsTaken};
-ghost use Rattle.tsumego_show.specs.Written.{IsTextOf, MarksNoGroup, as_given, asking_nodes, has_triangles_alone, last_has_squares, target};
+ghost use Rattle.tsumego_show.specs.Written.{HasNoGroup, IsClosedText, IsGivenWithMore, IsInnerUnlessNamed, IsMarkedOrKept, IsMarkedText, IsSetupText, IsTaken};
+ghost use Rattle.tsumego_show.specs.Written.{IsTextOf, as_given, asking_nodes, has_triangles_alone, last_has_squares, target};
 
 use crate::hints::{put_hints, put_missing_mover_line, put_unclosed_comment_lines};
 use crate::mode::{PointName, WantedMarks};
@@ -251,7 +251,7 @@ fn is_enclosed(board: &Board, found: &WalledRegion, name: Option<PointName>) -> 
 
 /// The tree with the marks for the group of the stone on a point, where its region is closed and, where nobody named the stone, an inner
 /// one; or with the best stones that close its wall, where they are wanted and are found.
-#[tactic(auto, using(crate::proofs::Marked::empty_marks_none, crate::proofs::Marked::closed_marked))]
+#[tactic(auto, using(crate::proofs::Marked::empty_has_none))]
 fn marked_tree(
     alloc: Global,
     hints: &mut Vec<u8>,
@@ -260,10 +260,9 @@ fn marked_tree(
     game: Game,
     stone: Point,
 ) -> Result<Option<Vec<u8>>, ShowFault>
-    requires on_board { stone < point_count game.size }
-    requires meant { IsMeant game.size wanted.name stone }
+    requires { IsTaken wanted.name game.size game.present (Some stone) }
     ensures { IfOk result
-        (λ made. MatchOption made (MarksNoGroup wanted.name game.size game.present stone)
+        (λ made. MatchOption made (HasNoGroup wanted.name game.size game.present)
         (λ text. IsGivenWithMore tree.now.bytes.now text.items
         × IsMarkedText wanted text.items game)) }
 {

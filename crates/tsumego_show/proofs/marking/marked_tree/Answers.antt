@@ -1,10 +1,10 @@
-use Rattle.std.proofs.Common.{◌<◌, ◌∙◌, inl, subst, sym}
+use Rattle.std.proofs.Common.{rules, ◌<◌, ◌∙◌, inl, inr, subst, sym}
 use Rattle.std.proofs.lemmas.Bool.{false≢true}
 use Rattle.tt_sgf.specs.declared.size.Size.{Size}
 use Rattle.tt_sgf.specs.Sizes.{point_count}
 use Rattle.tt_game.specs.Line.{LineWithUndo}
 use Rattle.tt_marks.specs.Walls.{IsEnclosedGroup}
-use Rattle.tsumego_show.proofs.Marked.{marked_board, open_marks_none}
+use Rattle.tsumego_show.proofs.Marked.{empty_has_none, marked_board, open_has_none}
 use Rattle.tsumego_show.specs.Written.{IsTextOf}
 use Rattle.tsumego_show.proofs.marking.marked_tree.Goals as goal
 
@@ -14,7 +14,7 @@ returns-then-is_enclosed c =
     let squares = c.region-found.result.points in
     let closed = c.is_enclosed.ensures.0 c.if-is_enclosed.true in
     let enclosed : IsEnclosedGroup board.size board.points c.in-Some.colour c.args.stone squares = record {
-      is_point = subst (λ (s : Size). c.args.stone < point_count s) (sym c.present-board.ensures.size) c.requires.on_board;
+      is_point = subst (λ (s : Size). c.args.stone < point_count s) (sym c.present-board.ensures.size) c.requires.0;
       stands = sym c.in-Some.ensures;
       wall = c.region-found.result.wall;
       wall_on_board = c.region-found.ensures.wall_on_board;
@@ -26,7 +26,7 @@ returns-then-is_enclosed c =
       c.in_ok-text.ensures.given,
       (
         c.args.stone,
-        c.requires.meant,
+        c.requires.1,
         inl (marked_board c.args.wanted.name c.in_ok-text.text.items c.args.game c.args.stone c.in-Some.colour squares board.size board.points
             c.present-board.ensures.size c.present-board.ensures.points enclosed closed.1
             (subst (λ (l : LineWithUndo). IsTextOf c.in_ok-text.text.items l) c.in_ok-line.ensures c.in_ok-text.ensures.reads)),
@@ -36,13 +36,28 @@ returns-then-is_enclosed c =
 pub returns-then-not-wanted : goal.returns-then-not-wanted
 returns-then-not-wanted c =
     let board = c.present-board.result.now in
-    open_marks_none c.args.wanted.name c.args.game c.args.stone board.size board.points c.present-board.ensures.size c.present-board.ensures.points c.in-Some.colour
+    open_has_none c.args.wanted.name c.args.game c.args.stone c.requires board.size board.points c.present-board.ensures.size c.present-board.ensures.points c.in-Some.colour
     c.region-found.result.wall c.region-found.result.points (sym c.in-Some.ensures) c.region-found.ensures.only
     (λ h. false≢true (sym c.if-is_enclosed.false ∙ c.is_enclosed.ensures.1 h))
 
 pub returns-in-None : goal.returns-in-None
 returns-in-None c =
     let board = c.present-board.result.now in
-    open_marks_none c.args.wanted.name c.args.game c.args.stone board.size board.points c.present-board.ensures.size c.present-board.ensures.points c.in-Some.colour
+    open_has_none c.args.wanted.name c.args.game c.args.stone c.requires board.size board.points c.present-board.ensures.size c.present-board.ensures.points c.in-Some.colour
     c.region-found.result.wall c.region-found.result.points (sym c.in-Some.ensures) c.region-found.ensures.only
     (λ h. false≢true (sym c.if-is_enclosed.false ∙ c.is_enclosed.ensures.1 h))
+
+pub returns-in-Some-2 : goal.returns-in-Some-2
+returns-in-Some-2 c =
+    let board = c.present-board.result.now in
+    let none =
+    open_has_none c.args.wanted.name c.args.game c.args.stone c.requires board.size board.points c.present-board.ensures.size c.present-board.ensures.points c.in-Some.colour
+    c.region-found.result.wall c.region-found.result.points (sym c.in-Some.ensures) c.region-found.ensures.only
+    (λ h. false≢true (sym c.if-is_enclosed.false ∙ c.is_enclosed.ensures.1 h)) in
+    let made = rw c.in-Some-2.is at c.in_ok-text-2.ensures in
+    (made.0, (c.args.stone, c.requires.1, inr (search rules, none, made.1)))
+
+pub returns-in_default : goal.returns-in_default
+returns-in_default c =
+    let board = c.present-board.result.now in
+    empty_has_none c.args.wanted.name c.args.game c.args.stone c.requires board.size board.points c.present-board.ensures.size c.present-board.ensures.points (sym c.in_default.ensures)
