@@ -303,8 +303,12 @@ fn files_of<'a>(mark: bool, words: Vec<&'a str>) -> Vec<&'a str>
 
 /// What is said of an error of the parser: help and version were asked for, or words are refused.
 fn told_of_error(alloc: Global, error: &Error) -> Told
+    ensures status { (result.status ≡ 0) ⊎ (result.status ≡ 2) }
     ensures asked { result.status ≡ 0 → (kind_of error.now ≡ ErrorKind.DisplayHelp)
         ⊎ (kind_of error.now ≡ ErrorKind.DisplayVersion) }
+    ensures said { (kind_of error.now ≡ ErrorKind.DisplayHelp)
+        ⊎ (kind_of error.now ≡ ErrorKind.DisplayVersion)
+        → (result.status ≡ 0) ⊎ (string_bytes result.text ≡ []) }
     ensures memory { kind_of error.now ≡ ErrorKind.OutOfMemory → string_bytes result.text ≡ [] }
 {
     if error.kind() == ErrorKind::OutOfMemory {
@@ -373,6 +377,7 @@ pub fn asked_by_words<'a>(alloc: Global, words: &'a [String]) -> Result<Asked<'a
         (λ a. map (λ f. f.now) a.files.items
         ≡ files_in (matches_of show_app (map string_bytes words.now))) }
     ensures clean { OnOk result (fault_of show_app (map string_bytes words.now) ≡ []) }
+    ensures status { IfErr result (λ told. (told.status ≡ 0) ⊎ (told.status ≡ 2)) }
     ensures told { IfErr result (λ told. told.status ≡ 0
         → IsAmong ErrorKind.DisplayHelp (fault_of show_app (map string_bytes words.now))
         ⊎ IsAmong ErrorKind.DisplayVersion (fault_of show_app (map string_bytes words.now))) }

@@ -38,6 +38,9 @@ returns-in-Ok-try_get_matches_from-clause-clean c =
     (λ a h. sym (ap (λ (a : App). fault_of a words) c.in-Ok.ensures) ∙ c.in-Ok-try_get_matches_from.ensures.kinds (ap is_simple_and_free c.in-Ok.ensures ∙ is_tool_free))
     c.asked_by_matches.ensures.asked
 
+pub returns-in-Ok-try_get_matches_from-clause-status : goal.returns-in-Ok-try_get_matches_from-clause-status
+returns-in-Ok-try_get_matches_from-clause-status c = IfErr-weaker c.asked_by_matches.result _ _ (λ t h. inr h.0) c.asked_by_matches.ensures.told
+
 pub returns-in-Ok-try_get_matches_from-clause-told : goal.returns-in-Ok-try_get_matches_from-clause-told
 returns-in-Ok-try_get_matches_from-clause-told c =
     IfErr-weaker c.asked_by_matches.result _ _ (λ t h zero. let two = h.0 in absurd (omega (arith, two, zero))) c.asked_by_matches.ensures.told
