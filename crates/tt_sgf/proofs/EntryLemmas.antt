@@ -14,8 +14,8 @@ use Rattle.std.specs.List.{list_any, list_all}
 use Rattle.std.specs.Option.{is_some}
 use Rattle.std.proofs.lemmas.Option.{same_Some}
 use Rattle.tt_sgf.specs.Grammar.{is_blank}
-use Rattle.tt_sgf.specs.Values.{StandsAloneIn, trimmed}
-use Rattle.tt_sgf.specs.PointLists.{IsEntryWithCorners, IsPointOrRectangle, Covers, SomeEntryCovers, AreEntries, are_letters_on_board}
+use Rattle.tt_sgf.specs.Values.{StandsAloneIn, are_letters_on_board, trimmed}
+use Rattle.tt_sgf.specs.PointLists.{IsEntryWithCorners, IsPointOrRectangle, Covers, SomeEntryCovers, AreEntries}
 use Rattle.tt_sgf.specs.PointLists.{rectangle_between, rectangle_of_text, in_rectangle, rectangle_covers, covers, is_entry, set_of}
 use Rattle.tt_sgf.specs.Points.{passing}
 use Rattle.tt_sgf.specs.laws.PointLaws.{contains-passing}

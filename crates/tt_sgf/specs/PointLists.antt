@@ -11,7 +11,7 @@ use Rattle.tt_sgf.specs.declared.size.Size.{Size}
 use Rattle.tt_sgf.specs.declared.size.TheConstants.{MOST_POINTS}
 use Rattle.tt_sgf.specs.declared.point_lists.Rectangle.{Rectangle}
 use Rattle.tt_sgf.specs.Points.{passing}
-use Rattle.tt_sgf.specs.Values.{StandsAloneIn, trimmed}
+use Rattle.tt_sgf.specs.Values.{StandsAloneIn, are_letters_on_board, trimmed}
 
 -- ---- what entries mean
 
@@ -50,10 +50,6 @@ AreEntries size [] = Unit {0}
 AreEntries size (v ∷ vs) = IsPointOrRectangle size v × AreEntries size vs
 
 -- ---- the same as functions, for definitions that compute with sets; the contract of `point_set` says that both agree
-
--- the two letters name a point of the board
-abbrev pub are_letters_on_board : Size → ℕ → ℕ → Bool
-are_letters_on_board size c r = (nat_le lower_a c && nat_lt (c - lower_a) size.columns) && (nat_le lower_a r && nat_lt (r - lower_a) size.rows)
 
 -- the rectangle with these two corners
 abbrev pub rectangle_between : ℕ → ℕ → ℕ → ℕ → Rectangle

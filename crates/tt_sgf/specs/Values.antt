@@ -1,6 +1,6 @@
 -- Property values of SGF FF[4] (https://www.red-bean.com/sgf/sgf4.html, "Property value types", and go.html, "Go
 -- specific properties"): numbers, points and passes, sizes of boards. A number is at most 65,535, and a side at most 19.
-use Rattle.std.specs.Prelude.{◌≡◌, ◌≢◌, ℕ, ◌+◌, ◌-◌, ◌*◌, ◌<◌, ◌≤◌, true, cond, ◌⊎◌, nat_le, nat_lt, ◌&&◌, ◌==◌, List, [], ◌∷◌, ◌++◌, Option, Some, None}
+use Rattle.std.specs.Prelude.{◌≡◌, ◌≢◌, ℕ, ◌+◌, ◌-◌, ◌*◌, ◌<◌, ◌≤◌, Bool, true, cond, ◌⊎◌, nat_le, nat_lt, ◌&&◌, ◌==◌, List, [], ◌∷◌, ◌++◌, Option, Some, None}
 use Rattle.tt_sgf.specs.Bytes.{colon, digit_0, lower_a, lower_t, plus}
 use Rattle.tt_sgf.specs.declared.size.Size.{Size}
 use Rattle.tt_sgf.specs.declared.size.PointOrPass.{PointOrPass}
@@ -138,10 +138,13 @@ size_around_colon text (Some rows) = size_of_sides (numeral_of (before_colon tex
 unfoldable pub size_of : List ℕ → Option Size
 size_of bytes = size_around_colon (trimmed bytes) (behind_colon (trimmed bytes))
 
+-- the two letters name a point of the board
+abbrev pub are_letters_on_board : Size → ℕ → ℕ → Bool
+are_letters_on_board size c r = (nat_le lower_a c && nat_lt (c - lower_a) size.columns) && (nat_le lower_a r && nat_lt (r - lower_a) size.rows)
+
 -- the point of two letters, where the board has it
 abbrev pub lettered_point : Size → ℕ → ℕ → Option PointOrPass
-lettered_point size column row = cond ((nat_le lower_a column && nat_lt (column - lower_a) size.columns) && (nat_le lower_a row && nat_lt (row - lower_a) size.rows))
-    (Some (On ((row - lower_a) * size.columns + (column - lower_a)))) None
+lettered_point size column row = cond (are_letters_on_board size column row) (Some (On ((row - lower_a) * size.columns + (column - lower_a)))) None
 
 -- the point or the pass that a text is
 unfoldable pub point_of : Size → List ℕ → Option PointOrPass

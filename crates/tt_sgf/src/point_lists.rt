@@ -3,13 +3,13 @@
 ghost use Rattle.std.specs.Prelude.{◌≡◌, ℕ, ◌-◌, ◌*◌, ◌<◌, ◌↔◌, true, false, ◌&&◌, ◌||◌, nat_lt, OnOk, OnErr, IfOk, MatchOption, MatchResult, Some, None};
 ghost use Rattle.std.specs.FinSet as set;
 ghost use Rattle.tt_sgf.specs.Bytes.{lower_a};
-ghost use Rattle.tt_sgf.specs.PointLists.{SomeEntryCovers, AreEntries, rectangle_between, are_letters_on_board, rectangle_of_text, in_rectangle, set_of};
+ghost use Rattle.tt_sgf.specs.PointLists.{SomeEntryCovers, AreEntries, rectangle_between, rectangle_of_text, in_rectangle, set_of};
 
 use crate::faults::BadPoint;
 use crate::nodes::small_bytes::SmallBytes;
 use crate::sets::PointSet;
 use crate::size::{Size, point_from_number};
-use crate::value_kinds::trim;
+use crate::value_kinds::{read_coordinates, trim};
 
 /// A rectangle of points: its first and its last column and row, from 0.
 #[derive(Clone, Copy)]
@@ -20,34 +20,17 @@ struct Rectangle {
     bottom: u16,
 }
 
-/// The column and the row of two letters, where they are on the board.
-fn read_corner(column: u8, row: u8, size: Size) -> Option<(u16, u16)>
-    ensures { MatchOption result (are_letters_on_board size column row ≡ false)
-        (λ p. (are_letters_on_board size column row ≡ true) × (p.0 ≡ column - lower_a)
-        × (p.1 ≡ row - lower_a)) }
-{
-    if column < b'a' || row < b'a' {
-        return None;
-    }
-    let across = u16::from(column - b'a');
-    let down = u16::from(row - b'a');
-    if across >= size.columns() || down >= size.rows() {
-        return None;
-    }
-    Some((across, down))
-}
-
 /// The rectangle that a text names by a point or by two opposite corners.
 fn read_rectangle(text: &[u8], size: Size) -> Option<Rectangle>
     ensures { result ≡ rectangle_of_text size text.now }
 {
     if text.len() == 2 {
-        let (column, row) = read_corner(text[0], text[1], size)?;
+        let (column, row) = read_coordinates(text[0], text[1], size)?;
         return Some(rectangle_between(column, row, column, row));
     }
     if text.len() == 5 && text[2] == b':' {
-        let (column, row) = read_corner(text[0], text[1], size)?;
-        let (other_column, other_row) = read_corner(text[3], text[4], size)?;
+        let (column, row) = read_coordinates(text[0], text[1], size)?;
+        let (other_column, other_row) = read_coordinates(text[3], text[4], size)?;
         return Some(rectangle_between(column, row, other_column, other_row));
     }
     None

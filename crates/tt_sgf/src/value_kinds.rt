@@ -1,10 +1,11 @@
 //! What one value says: a number, a size, or a point or a pass. No call takes memory.
 
-ghost use Rattle.std.specs.Prelude.{◌≡◌, ℕ, ◌↔◌, [], ◌∷◌, Some, None, MatchOption};
+ghost use Rattle.std.specs.Prelude.{◌≡◌, ℕ, ◌-◌, ◌<◌, ◌↔◌, true, false, [], ◌∷◌, Some, None, MatchOption};
+ghost use Rattle.tt_sgf.specs.Bytes.{lower_a};
 ghost use Rattle.tt_sgf.specs.declared.size.PointOrPass.{PointOrPass};
 ghost use Rattle.tt_sgf.specs.declared.size.Size.{Size};
 ghost use Rattle.tt_sgf.specs.Values.{IsUnsignedNumber, IsPointOrPass, trimmed, value_of_some_digits, number_of, numeral_of, before_colon};
-ghost use Rattle.tt_sgf.specs.Values.{behind_colon, size_of, IsBoardSize, without_end, lettered_point, point_of};
+ghost use Rattle.tt_sgf.specs.Values.{behind_colon, size_of, IsBoardSize, without_end, are_letters_on_board, lettered_point, point_of};
 
 use crate::size::{PointOrPass, Size, point_from_number};
 use crate::tokens::{is_blank, is_digit, skip_blanks};
@@ -77,9 +78,11 @@ pub fn number(bytes: &[u8]) -> Option<u16>
     read_number(bytes)
 }
 
-/// The point of this column and row, where the board has it.
-fn point_on_board(column: u8, row: u8, size: Size) -> Option<PointOrPass>
-    ensures { result ≡ lettered_point size column row }
+/// The column and the row of two letters, where they are on the board.
+pub(crate) fn read_coordinates(column: u8, row: u8, size: Size) -> Option<(u16, u16)>
+    ensures { MatchOption result (are_letters_on_board size column row ≡ false)
+        (λ p. (are_letters_on_board size column row ≡ true) × (p.0 ≡ column - lower_a)
+        × (p.1 ≡ row - lower_a) × (p.0 < size.columns) × (p.1 < size.rows)) }
 {
     if column < b'a' || row < b'a' {
         return None;
@@ -89,6 +92,14 @@ fn point_on_board(column: u8, row: u8, size: Size) -> Option<PointOrPass>
     if across >= size.columns() || down >= size.rows() {
         return None;
     }
+    Some((across, down))
+}
+
+/// The point of two letters, where the board has it.
+fn point_on_board(column: u8, row: u8, size: Size) -> Option<PointOrPass>
+    ensures { result ≡ lettered_point size column row }
+{
+    let (across, down) = read_coordinates(column, row, size)?;
     Some(PointOrPass::On(point_from_number(down * size.columns() + across)))
 }
 
