@@ -44,6 +44,7 @@ pub struct Lifeless(pub Point);
 impl Board {
     ghost use Rattle.tt_board.specs.declared.Colour.TheVariants.{Black, White};
     ghost use Rattle.tt_board.specs.Reach.{entry_at};
+    ghost use Rattle.tt_board.specs.Around.{AreOn, AreThose};
     ghost use Rattle.tt_board.specs.Play.{play_of, is_stone_of};
     ghost use Rattle.tt_board.specs.Setup.{placed, AllHaveLiberties, IsLeastWithoutLiberty};
     ghost use Rattle.tt_board.specs.Score.{score_of};
@@ -118,6 +119,14 @@ impl Board {
             (λ p. is_stone_of (entry_at self.now.points p) colour) }
     {
         self.points.bits(colour)
+    }
+
+    /// The empty points as bits.
+    pub fn empty_points(&self) -> Bits
+        ensures those { AreThose self.now.size result.words self.now.points None }
+        ensures on_board { AreOn self.now.size result.words }
+    {
+        empty_points(self.size, &self.points)
     }
 
     /// The stones of a colour as bits: that of the point `p` is bit `p % 64` of word `p / 64`, and bits of no point are 0.
@@ -227,7 +236,7 @@ impl Board {
         ensures black { result.0 ≡ score_of self.now.size self.now.points Black }
         ensures white { result.1 ≡ score_of self.now.size self.now.points White }
     {
-        let empty = empty_points(self.size, &self.points);
+        let empty = self.empty_points();
         let by_black = empty_reaching(self.size, &self.points, &empty, Colour::Black);
         let by_white = empty_reaching(self.size, &self.points, &empty, Colour::White);
         let black = count_area(self.size, &self.points, Colour::Black, &by_black, &by_white);

@@ -2,9 +2,10 @@
 
 ghost use Rattle.std.specs.Prelude.{◌≡◌, ℕ, ◌+◌, ◌<◌, ◌≤◌, ◌↔◌, IsTrue, true, false, not, ◌&&◌, ◌||◌};
 ghost use Rattle.std.specs.FinSet as set;
+ghost use Rattle.tt_sgf.specs.Sizes.{point_count};
 ghost use Rattle.tt_sgf.specs.MachineWords.{bit_in, points_of, AreLowBitsOf, IsShiftedLeft, IsShiftedRight, AreSameBits, IsWithinUnion};
 
-use crate::size::MOST_POINTS;
+use crate::size::{MOST_POINTS, Size};
 
 /// How many bits six words have.
 pub const BITS: usize = 384;
@@ -51,6 +52,18 @@ impl Bits {
         ensures { (n : ℕ) → n < BITS → bit_in result.words n ≡ false }
     {
         Bits { words: [0; 6] }
+    }
+
+    /// The bits of all points of a board of this size, with 0 for all others.
+    pub fn whole(size: Size) -> Bits
+        ensures on { (p : ℕ) → p < point_count size → bit_in result.words p ≡ true }
+        ensures past { (p : ℕ) → point_count size ≤ p → p < BITS → bit_in result.words p ≡ false }
+    {
+        let mut found = Bits::none();
+        for p in 0..size.point_count() {
+            found.set(p);
+        }
+        found
     }
 
     /// The six words.

@@ -1,9 +1,8 @@
 //! Which points reach a colour or empty, found for all of them at once: those beside it, then those beside these, as long as there are
 //! more. Each step moves the words of a set, so a fill takes as many steps as its longest way has points.
 
-ghost use Rattle.std.specs.Prelude.{◌≡◌, ◌≢◌, Option, None, true, ℕ, ◌<◌, length};
+ghost use Rattle.std.specs.Prelude.{◌≡◌, ◌≢◌, Option, None, length};
 ghost use Rattle.tt_sgf.specs.Sizes.{point_count};
-ghost use Rattle.tt_sgf.specs.MachineWords.{bit_in};
 ghost use Rattle.tt_board.specs.declared.Colour.{Colour};
 ghost use Rattle.tt_board.specs.Position.{Colouring as Entries};
 ghost use Rattle.tt_board.specs.Around.{AreOn, AreThose, AreReaching};
@@ -13,25 +12,13 @@ use crate::colouring::Colouring;
 use crate::colouring::around::{adjacent_points, first_column};
 use tt_sgf::{BITS, Bits, Size};
 
-/// All points of the board.
-fn whole(size: Size) -> Bits
-    ensures on { (p : ℕ) → p < point_count size → bit_in result.words p ≡ true }
-    ensures on_board { AreOn size result.words }
-{
-    let mut found = Bits::none();
-    for p in 0..size.point_count() {
-        found.set(p);
-    }
-    found
-}
-
 /// The empty points of the board.
 pub(crate) fn empty_points(size: Size, points: &Colouring) -> Bits
     requires { length points.now ≡ point_count size }
     ensures those { AreThose size result.words points.now None }
     ensures on_board { AreOn size result.words }
 {
-    whole(size)
+    Bits::whole(size)
         .minus(points.bits(Colour::Black))
         .minus(points.bits(Colour::White))
 }
