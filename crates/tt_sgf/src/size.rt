@@ -97,6 +97,18 @@ impl Size {
         }
     }
 
+    /// The point of a number that is known to be below `point_count`.
+    pub fn point_numbered(self, number: usize) -> Point
+        requires { number < point_count self }
+        ensures value { result ≡ number }
+        ensures on_board { result < point_count self }
+    {
+        let Some(point) = self.point(number as u16) else {
+            unreachable!();
+        };
+        point
+    }
+
     /// Whether the point is on the board: whether its number is below `point_count`.
     pub fn holds(self, p: Point) -> bool
         ensures { IsTrue result ↔ (p < point_count self) }
