@@ -1,5 +1,5 @@
 -- What is at fault where something is refused: the first bad value, the least point.
-use Rattle.std.proofs.Common.{◌≡◌, ◌≢◌, ℕ, zero, suc, ◌+◌, ◌<◌, ◌≤◌, Bool, true, false, not, ◌&&◌, ◌||◌, cond, List, [], ◌∷◌, Some, None, refl, sym, ap, ◌∙◌, inl, inr, arith}
+use Rattle.std.proofs.Common.{◌≡◌, ◌≢◌, ℕ, zero, suc, ◌+◌, ◌<◌, ◌≤◌, Bool, true, false, not, ◌&&◌, ◌||◌, cond, List, [], ◌∷◌, Option, Some, None, MatchOption, refl, sym, ap, ◌∙◌, inl, inr, arith}
 use Rattle.std.specs.List.{find, list_all, list_any, range_with_len}
 use Rattle.std.specs.FinSet as set
 use Rattle.std.specs.Cmp.{unsigned_tied}
@@ -204,14 +204,19 @@ pub least_point_in : (s : PointNumberSet) (p : ℕ) → least_point s ≡ Some p
 least_point_in s p h = (least_in (λ p. set.contains s p) MOST_POINTS p h).1
 
 -- the least point of a set, or none
-pub no_least_point : (s : PointNumberSet) → s ≡ set.empty → least_point s ≡ None
+no_least_point : (s : PointNumberSet) → s ≡ set.empty → least_point s ≡ None
 no_least_point s h = least_missing (λ p. set.contains s p) MOST_POINTS (λ q. ap (λ (t : PointNumberSet). set.contains t q) h ∙ set.contains-empty nat_cmp q)
 
-pub least_is_point : (s : PointNumberSet) (p : ℕ) → p < MOST_POINTS → set.contains s p ≡ true → ((q : ℕ) → set.contains s q ≡ true → p ≤ q) → least_point s ≡ Some p
+least_is_point : (s : PointNumberSet) (p : ℕ) → p < MOST_POINTS → set.contains s p ≡ true → ((q : ℕ) → set.contains s q ≡ true → p ≤ q) → least_point s ≡ Some p
 least_is_point s p below here least = least_is (λ q. set.contains s q) MOST_POINTS p below here (λ q before. elim (cases_Bool (set.contains s q)) [
   | inl on ↦ let le = least q on in absurd (omega (arith, le, before))
   | inr off ↦ off
 ])
+
+pub least_point_is : (s : PointNumberSet) (found : Option ℕ)
+    → MatchOption found (s ≡ set.empty) (λ p. (set.contains s p ≡ true) × ((q : ℕ) → set.contains s q ≡ true → p ≤ q) × (p < MOST_POINTS)) → found ≡ least_point s
+least_point_is s None h = sym (no_least_point s h)
+least_point_is s (Some p) h = sym (least_is_point s p h.2 h.0 h.1)
 
 -- on the way to the least point of a set that passes a test: the points before a number are known to fail it
 module _ (s : PointNumberSet) (test : ℕ → Bool) (from : ℕ) (before : (q : ℕ) → q < from → (set.contains s q && test q) ≡ false) where

@@ -10,15 +10,10 @@ use tt_board::{Board, Colour};
 use tt_sgf::{Point, PointSet};
 
 /// The least point of a set.
-#[tactic(auto, using(crate::proofs::FaultLemmas::no_least_point))]
 pub(crate) fn least_point(points: &PointSet) -> Option<Point>
     ensures { result ≡ least_point points.now }
 {
-    let Some(p) = points.least() else {
-        return None;
-    };
-    let _number = p.number();
-    Some(p)
+    points.least()
 }
 
 /// Whether a point is empty, or has a stone of this colour.

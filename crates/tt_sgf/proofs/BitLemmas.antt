@@ -168,8 +168,8 @@ points-empty words h = same_points _ _ (λ q. contains-points words q ∙ elim (
 
 -- the least point from 0 on is the least of all
 pub least_is : (s : set.FinSet nat_cmp) (found : Option ℕ)
-    → MatchOption found ((q : ℕ) → 0 ≤ q → set.contains s q ≡ false) (λ p. (set.contains s p ≡ true) × (0 ≤ p) × ((q : ℕ) → 0 ≤ q → q < p → set.contains s q ≡ false))
-    → MatchOption found (s ≡ set.empty) (λ p. (set.contains s p ≡ true) × ((q : ℕ) → set.contains s q ≡ true → p ≤ q))
+    → MatchOption found ((q : ℕ) → 0 ≤ q → set.contains s q ≡ false) (λ p. (set.contains s p ≡ true) × (0 ≤ p) × ((q : ℕ) → 0 ≤ q → q < p → set.contains s q ≡ false) × (p < MOST_POINTS))
+    → MatchOption found (s ≡ set.empty) (λ p. (set.contains s p ≡ true) × ((q : ℕ) → set.contains s q ≡ true → p ≤ q) × (p < MOST_POINTS))
 least_is s None h = same_points s set.empty (λ q. h q (omega arith) ∙ sym (set.contains-empty nat_cmp q))
 least_is s (Some p) h = (
   h.0,
@@ -177,6 +177,7 @@ least_is s (Some p) h = (
     | inl below ↦ absurd (false≢true (sym (h.2 q (omega arith) below) ∙ has))
     | inr above ↦ above
   ],
+  h.3,
 )
 
 -- ---- word by word

@@ -84,7 +84,8 @@ impl PointSet {
     pub fn least(&self) -> Option<Point>
         ensures { MatchOption result (self.now ≡ set.empty)
             (λ p. (set.contains self.now p ≡ true)
-            × ((q : ℕ) → set.contains self.now q ≡ true → p ≤ q)) }
+            × ((q : ℕ) → set.contains self.now q ≡ true → p ≤ q)
+            × (p < MOST_POINTS)) }
     {
         self.least_from(0)
     }
@@ -93,7 +94,8 @@ impl PointSet {
     pub fn least_from(&self, from: u16) -> Option<Point>
         ensures { MatchOption result ((q : ℕ) → from ≤ q → set.contains self.now q ≡ false)
             (λ p. (set.contains self.now p ≡ true) × (from ≤ p)
-            × ((q : ℕ) → from ≤ q → q < p → set.contains self.now q ≡ false)) }
+            × ((q : ℕ) → from ≤ q → q < p → set.contains self.now q ≡ false)
+            × (p < MOST_POINTS)) }
     {
         let n = self.bits.first_from(usize::from(from).min(BITS));
         if n > 360 {

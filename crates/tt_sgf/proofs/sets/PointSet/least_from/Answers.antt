@@ -19,4 +19,5 @@ returns c =
       omega (arith, is, c.first_from-n.ensures.after, c.from.ensures, c.if-n-gt360.false),
       λ q after before. ap (λ s. set.contains s q) (sym c.self.view_is)
           ∙ no_point words q (λ small. c.first_from-n.ensures.none q (omega (arith, after, c.from.ensures)) (omega (arith, is, before)) (omega arith)),
+      omega (arith, is, c.if-n-gt360.false),
     )
