@@ -2,7 +2,7 @@
 
 ghost use Rattle.std.specs.Prelude.{◌≡◌, ◌↔◌, IsTrue};
 ghost use Rattle.tt_board.specs.Stones.{IsSetOnBoard};
-ghost use Rattle.tt_game.specs.Game.{winner_on};
+ghost use Rattle.tt_game.specs.Game.{side_colour, winner_on};
 
 use tt_board::{Board, Colour};
 use tt_sgf::{PointSet, Size};
@@ -55,6 +55,16 @@ impl Frame {
             return false;
         }
         self.targets.same(&other.targets)
+    }
+
+    /// The colour of a side.
+    pub fn colour_of(&self, side: Side) -> Colour
+        ensures { result ≡ side_colour self.now side }
+    {
+        match side {
+            Side::Attacker => self.defender.other(),
+            Side::Defender => self.defender,
+        }
     }
 
     /// Who has won on a board of this size after so many passes in a row: the attacker where some target is empty, else the

@@ -122,10 +122,7 @@ impl Line {
     pub(crate) fn colour_to_move(&self) -> Colour
         ensures { result ≡ side_colour self.now.frame self.now.state.to_move }
     {
-        match self.to_move {
-            Side::Attacker => self.frame.defender.other(),
-            Side::Defender => self.frame.defender,
-        }
+        self.frame.colour_of(self.to_move)
     }
 
     /// What all lines of its beginning share.
@@ -337,6 +334,18 @@ impl Line {
             Turn::Pass => None,
             Turn::Play(p) => self.play_refusal(p),
         }
+    }
+
+    /// Whether a turn is legal. A play off the board isn't.
+    pub fn is_legal(&self, t: Turn) -> bool
+        ensures { IsTrue result ↔ IsLegal self.now.frame self.now.state t }
+    {
+        if let Turn::Play(p) = t {
+            if !self.frame.size.holds(p) {
+                return false;
+            }
+        }
+        self.refusal(t).is_none()
     }
 
     /// Adds a pass; the line is unchanged where memory is refused.
