@@ -11,7 +11,7 @@ use Rattle.tt_board.specs.Position.{Colouring}
 use Rattle.tt_board.specs.Reach.{entry_at}
 use Rattle.tt_board.specs.Around.{AreOn, IsBesideSome}
 use Rattle.tt_board.specs.laws.NearLaws.{near_back}
-use Rattle.tt_life.specs.Life.{Points, AreOnBoard, StoneTouches, IsEyeOf, HasTwoEyes}
+use Rattle.tt_life.specs.Life.{Points, AreOnBoard, StoneTouches, IsEyeOf, HasTwoEyes, HasTwoEyesAt}
 use Rattle.tt_life.specs.inside.Linked.{points_in, IsLinked, IsLinkedSet, IsWalled, IsSubset, IsEyeAt}
 use Rattle.tt_life.proofs.LinkedLemmas.{in_points, points_on_board, bit_of_point, linked_itself, linked_all, linked_join, linked_more, linked_in, linked_back, linked_points}
 use Rattle.tt_life.proofs.LinkedSetLemmas.{small}
@@ -124,9 +124,9 @@ module _ (s : Size) (c : Colouring) (k : Colour) (stones : Points) (own : (q : �
     )
 
   -- two eyes from two empty points that aren't linked
-  pub two_from : (a b : ℕ) → a < point_count s → b < point_count s → entry_at c a ≡ None → entry_at c b ≡ None → IsEyeAt s space stones near a → IsEyeAt s space stones near b
-      → (IsLinked s space a b → ⊥) → HasTwoEyes s c k stones p
-  two_from a b in_a in_b e d at_a at_b apart =
+  pub two_at : (a b : ℕ) → a < point_count s → b < point_count s → entry_at c a ≡ None → entry_at c b ≡ None → IsEyeAt s space stones near a → IsEyeAt s space stones near b
+      → (IsLinked s space a b → ⊥) → HasTwoEyesAt s c k stones p a b
+  two_at a b in_a in_b e d at_a at_b apart =
       let x = linked_points s space a space_on (empty_space a in_a e) in
       let y = linked_points s space b space_on (empty_space b in_b d) in (
         x.0,
@@ -134,6 +134,10 @@ module _ (s : Size) (c : Colouring) (k : Colour) (stones : Points) (own : (q : �
         eye_from a in_a e at_a x.0 x.1,
         eye_from b in_b d at_b y.0 y.1,
         λ q in_x in_y. apart (linked_join s space a q b ((x.1 q).0 in_x) (linked_back s space space_on b q (empty_space b in_b d) ((y.1 q).0 in_y))),
+        (x.1 a).1 (linked_itself s space a),
+        (y.1 b).1 (linked_itself s space b),
+        e,
+        d,
       )
 
   -- and two such points from two eyes

@@ -1,13 +1,14 @@
 -- A look at the eye of each empty point that is near; one eye is looked at once.
 use Rattle.std.proofs.Common.{◌≡◌, ℕ, ◌+◌, ◌<◌, ◌≤◌, ◌↔◌, ◌&&◌, ◌||◌, not, List, true, false, IsTrue, inl, inr, sym, ap, ◌∙◌, arith}
-use Rattle.std.proofs.lemmas.Bool.{cases_eq, cases_lt, cases_Bool, true≢false, and_parts, and_from, or_cases, or_left, or_right}
+use Rattle.std.proofs.lemmas.Bool.{cases_eq, cases_lt, cases_Bool, true≢false, and_parts, and_from, not-true, not_from_false, or_cases, or_left, or_right}
 use Rattle.tt_sgf.specs.declared.size.Size.{Size}
 use Rattle.tt_sgf.specs.declared.bits.TheConstants.{BITS}
 use Rattle.tt_sgf.specs.Sizes.{point_count}
 use Rattle.tt_sgf.specs.MachineWords.{bit_in}
 use Rattle.tt_board.specs.Around.{AreOn}
-use Rattle.tt_life.specs.inside.Linked.{points_in, IsLinkedSet, IsWalled, IsSubset, IsEyeAt}
-use Rattle.tt_life.proofs.LinkedLemmas.{in_points, points_on_board, bit_of_point, linked_itself}
+use Rattle.tt_life.specs.inside.Linked.{points_in, IsLinked, IsLinkedSet, IsWalled, IsSubset, IsEyeAt, IsAtEye, IsAtOneEye, AreAtTwoEyes, IsSoundGround}
+use Rattle.tt_life.specs.declared.elimination.Ground.{Ground}
+use Rattle.tt_life.proofs.LinkedLemmas.{in_points, points_on_board, bit_of_point, linked_itself, linked_join, linked_back}
 use Rattle.tt_life.proofs.LinkedSetLemmas.{small}
 use Rattle.tt_life.proofs.EyeLemmas.{start_empty, start_needed, eye_at_of, walled_at, within_at}
 use Rattle.tt_life.proofs.SiftLemmas.{same_chain, none_left}
@@ -112,3 +113,36 @@ module _ (s : Size) (space near empty stones : List ℕ) where
         let there = bit_of_point s near q (h.1.0 q (linked_itself s (points_in s space) q)) in
         was.full q lt (was.covers q (omega arith) in_q there (bit_of_point s empty q h.0)) h.0 h.1,
   )
+
+-- ---- two of the eyes that are found
+
+module _ (s : Size) (g : Ground) (sound : IsSoundGround s g) (stones near eyes : List ℕ)
+    (eyes_are : (q : ℕ) → q < BITS → (bit_in eyes q ≡ true) ↔ IsAtEye s g (points_in s stones) (points_in s near) q) where
+  on_board : (q : ℕ) → IsAtEye s g (points_in s stones) (points_in s near) q → q < BITS
+  on_board q at = small s q (points_on_board s g.empty.words q at.0)
+
+  -- where none is found all are at one
+  pub one_of_none : ((q : ℕ) → q < BITS → bit_in eyes q ≡ false) → IsAtOneEye s g (points_in s stones) (points_in s near)
+  one_of_none none a b at_a at_b = absurd (true≢false (sym ((eyes_are a (on_board a at_a)).1 at_a) ∙ none a (on_board a at_a)))
+
+  module _ (one : ℕ) (in_one : one < BITS) (on : bit_in eyes one ≡ true) (eye rest : List ℕ)
+      (eye_linked : IsLinkedSet s (points_in s g.space.words) one (points_in s eye))
+      (rest_is : (q : ℕ) → q < BITS → bit_in rest q ≡ (bit_in eyes q && not (bit_in eye q))) where
+    -- where none is left behind one eye all are at it
+    pub one_of_rest : ((q : ℕ) → q < BITS → bit_in rest q ≡ false) → IsAtOneEye s g (points_in s stones) (points_in s near)
+    one_of_rest none a b at_a at_b =
+        let space = points_in s g.space.words in
+        let mine = sound.empty_within one ((eyes_are one in_one).0 on).0 in
+        linked_join s space a one b (linked_back s space (points_on_board s g.space.words) one a mine (in_eye a at_a)) (in_eye b at_b)
+      where
+        in_eye : (q : ℕ) → IsAtEye s g (points_in s stones) (points_in s near) q → IsLinked s (points_in s g.space.words) one q
+        in_eye q at = elim (cases_Bool (bit_in eye q)) [
+          | inl inside ↦ (eye_linked q).0 (in_points s eye q (points_on_board s g.empty.words q at.0) inside)
+          | inr out ↦ absurd (true≢false (sym (rest_is q (on_board q at) ∙ and_from _ _ ((eyes_are q (on_board q at)).1 at) (not_from_false _ out)) ∙ none q (on_board q at)))
+        ]
+
+    -- and one that is left is at another
+    pub two_of_rest : (q : ℕ) → q < BITS → bit_in rest q ≡ true → AreAtTwoEyes s g (points_in s stones) (points_in s near) one q
+    two_of_rest q lt h =
+        let parts = and_parts (bit_in eyes q) (not (bit_in eye q)) (sym (rest_is q lt) ∙ h) in
+        ((eyes_are one in_one).0 on, (eyes_are q lt).0 parts.0, λ l. true≢false (sym (bit_of_point s eye q ((eye_linked q).1 l)) ∙ not-true _ parts.1))

@@ -57,6 +57,12 @@ AreDisjoint a b = (q : ℕ) → IsTrue (a q) → IsTrue (b q) → ⊥
 abbrev pub HasTwoEyes : Size → Colouring → Colour → Points → ℕ → Type 0
 HasTwoEyes size c k stones p = (a : Points) × (b : Points) × IsEyeOf size c k stones p a × IsEyeOf size c k stones p b × AreDisjoint a b
 
+-- a and b are empty points of two disjoint eyes of the stone on p
+abbrev pub HasTwoEyesAt : Size → Colouring → Colour → Points → ℕ → ℕ → ℕ → Type 0
+HasTwoEyesAt size c k stones p a b =
+    (x : Points) × (y : Points) × IsEyeOf size c k stones p x × IsEyeOf size c k stones p y × AreDisjoint x y × IsTrue (x a) × IsTrue (y b)
+    × (entry_at c a ≡ None) × (entry_at c b ≡ None)
+
 -- the stone on p touches an empty point outside the region, where nobody plays
 abbrev pub HasLibertyOutside : Frame → Colouring → Points → ℕ → Type 0
 HasLibertyOutside f c stones p = (q : ℕ) × StoneTouches f.size stones p q × (entry_at c q ≡ None) × (IsTrue (set.contains f.region q) → ⊥)
@@ -64,6 +70,17 @@ HasLibertyOutside f c stones p = (q : ℕ) × StoneTouches f.size stones p q × 
 -- the stone on p has a liberty outside the region, or two eyes
 abbrev pub IsAliveAmong : Frame → Colouring → Points → ℕ → Type 0
 IsAliveAmong f c stones p = HasLibertyOutside f c stones p ⊎ HasTwoEyes f.size c f.defender stones p
+
+-- a and b are empty points of two disjoint eyes of a target, which is among stones of the defender that are alive among themselves
+pub record AreEyesOfTarget (f : Frame) (c : Colouring) (a b : ℕ) : Type 0 where
+  pub stones : Points
+  pub on_board : AreOnBoard f.size stones
+  pub defenders : (p : ℕ) → IsTrue (stones p) → entry_at c p ≡ Some f.defender
+  pub alive : (p : ℕ) → IsTrue (stones p) → IsAliveAmong f c stones p
+  pub target : ℕ
+  pub is_target : IsTrue (set.contains f.targets target)
+  pub stands : IsTrue (stones target)
+  pub eyes : HasTwoEyesAt f.size c f.defender stones target a b
 
 -- These stones of the defender, all targets among them, are unconditionally alive: each has a liberty outside the region, or two
 -- eyes

@@ -1,6 +1,6 @@
 //! The test of unconditional life: stones are taken away that have neither a liberty outside the region nor two eyes, till none goes.
 
-ghost use Rattle.std.specs.Prelude.{◌≡◌, ℕ, ◌<◌, ◌↔◌, true, IsTrue};
+ghost use Rattle.std.specs.Prelude.{◌≡◌, ℕ, ◌<◌, ◌↔◌, true, IsTrue, MatchOption};
 ghost use Rattle.tt_sgf.specs.Sizes.{point_count};
 ghost use Rattle.tt_sgf.specs.MachineWords.{bit_in};
 ghost use Rattle.tt_sgf.specs.declared.bits.TheConstants.{BITS};
@@ -8,7 +8,7 @@ ghost use Rattle.tt_board.specs.Position.{Colouring};
 ghost use Rattle.tt_board.specs.Stones.{IsSetOnBoard};
 ghost use Rattle.tt_board.specs.Around.{AreFirstColumn, AreOn};
 ghost use Rattle.tt_life.specs.Life.{HasWonOrLives, IsAliveAmong, IsUnconditionallyAlive};
-ghost use Rattle.tt_life.specs.inside.Linked.{points_in, IsLinkedSet, IsWalled, IsSubset, IsEyeAt, IsGroundOf, IsSoundGround, AreDefenders, AreMostAlive};
+ghost use Rattle.tt_life.specs.inside.Linked.{points_in, IsLinkedSet, IsWalled, IsSubset, IsAtEye, IsAtOneEye, AreAtTwoEyes, IsGroundOf, IsSoundGround, AreDefenders, AreMostAlive};
 
 use tt_board::{Board, adjacent_points, first_column, reaching};
 use tt_game::{Frame, Line, Side};
@@ -65,8 +65,7 @@ pub(crate) fn touched_eyes(
     requires first { AreFirstColumn size first.now.words }
     requires sound { IsSoundGround size ground.now }
     ensures { (q : ℕ) → q < BITS → (bit_in result.words q ≡ true)
-        ↔ (IsTrue (points_in size ground.now.empty.words q)
-        × IsEyeAt size (points_in size ground.now.space.words) (points_in size stones.now.words) (points_in size near.now.words) q) }
+        ↔ IsAtEye size ground.now (points_in size stones.now.words) (points_in size near.now.words) q }
 {
     let starts = near.and(&ground.empty);
     let mut eyes = Bits::none();
@@ -87,6 +86,32 @@ pub(crate) fn touched_eyes(
     }
 }
 
+/// Two eyes that are walled in by the stones and all near, by their least empty points. None where there aren't two.
+pub(crate) fn two_touched_eyes(
+    size: Size,
+    ground: &Ground,
+    first: &Bits,
+    stones: &Bits,
+    near: &Bits,
+) -> Option<(usize, usize)>
+    requires first { AreFirstColumn size first.now.words }
+    requires sound { IsSoundGround size ground.now }
+    ensures { MatchOption result (IsAtOneEye size ground.now (points_in size stones.now.words) (points_in size near.now.words))
+        (λ eyes. AreAtTwoEyes size ground.now (points_in size stones.now.words) (points_in size near.now.words) eyes.0 eyes.1) }
+{
+    let eyes = touched_eyes(size, ground, first, stones, near);
+    let one = eyes.first_from(0);
+    if one == BITS {
+        return None;
+    }
+    let eye = linked_to(size, &ground.space, one);
+    let other = eyes.minus(&eye).first_from(0);
+    if other == BITS {
+        return None;
+    }
+    Some((one, other))
+}
+
 /// Whether a chain has a liberty outside the region, or two eyes.
 fn is_alive(frame: &Frame, ground: &Ground, first: &Bits, stones: &Bits, chain: &Bits) -> bool
     requires first { AreFirstColumn frame.now.size first.now.words }
@@ -102,13 +127,7 @@ fn is_alive(frame: &Frame, ground: &Ground, first: &Bits, stones: &Bits, chain: 
     if near.and(&ground.outside).first_from(0) < BITS {
         return true;
     }
-    let eyes = touched_eyes(frame.size, ground, first, stones, &near);
-    let one = eyes.first_from(0);
-    if one == BITS {
-        return false;
-    }
-    let eye = linked_to(frame.size, &ground.space, one);
-    eyes.minus(&eye).first_from(0) < BITS
+    two_touched_eyes(frame.size, ground, first, stones, &near).is_some()
 }
 
 /// The stones that are alive among these: all with a liberty outside the region, which are found at once, and the others chain by chain.

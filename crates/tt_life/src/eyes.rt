@@ -2,8 +2,9 @@
 
 ghost use Rattle.std.specs.Prelude.{◌<◌, IfSome};
 ghost use Rattle.tt_sgf.specs.Sizes.{point_count};
+ghost use Rattle.tt_life.specs.Life.{AreEyesOfTarget};
 
-use crate::elimination::{eliminate, ground_of, linked_to, touched_eyes};
+use crate::elimination::{eliminate, ground_of, linked_to, two_touched_eyes};
 use tt_board::{adjacent_points, first_column};
 use tt_game::Line;
 use tt_sgf::Point;
@@ -11,8 +12,9 @@ use tt_sgf::Point;
 /// Two eyes of the first target, by their least empty points. Stones that are unconditionally alive wall them in, and the target touches
 /// each of their points. None where the target is no such stone, and where it has no two eyes.
 pub fn two_eyes(line: &Line) -> Option<(Point, Point)>
-    ensures { IfSome result (λ eyes. (eyes.0 < point_count line.now.frame.size)
+    ensures on_board { IfSome result (λ eyes. (eyes.0 < point_count line.now.frame.size)
         × (eyes.1 < point_count line.now.frame.size)) }
+    ensures eyes { IfSome result (λ eyes. AreEyesOfTarget line.now.frame line.now.state.present eyes.0 eyes.1) }
 {
     let frame = line.frame();
     let size = frame.size;
@@ -26,12 +28,6 @@ pub fn two_eyes(line: &Line) -> Option<(Point, Point)>
     }
     let chain = linked_to(size, &stones, target);
     let near = adjacent_points(size, &first, &chain);
-    let eyes = touched_eyes(size, &ground, &first, &stones, &near);
-    let one = eyes.first_from(0);
-    if one >= size.point_count() {
-        return None;
-    }
-    let eye = linked_to(size, &ground.space, one);
-    let other = eyes.minus(&eye).first_from(0);
-    Some((size.point(one as u16)?, size.point(other as u16)?))
+    let (one, other) = two_touched_eyes(size, &ground, &first, &stones, &near)?;
+    Some((size.point_numbered(one), size.point_numbered(other)))
 }

@@ -40,6 +40,18 @@ abbrev pub IsEyeAt : Size → Points → Points → Points → ℕ → Type 0
 IsEyeAt size space stones near p =
     ((q : ℕ) → IsLinked size space p q → IsTrue (near q)) × ((x y : ℕ) → IsLinked size space p x → IsNeighbour size x y → IsLinked size space p y ⊎ IsTrue (stones y))
 
+-- an empty point at such an eye
+abbrev pub IsAtEye : Size → Ground → Points → Points → ℕ → Type 0
+IsAtEye size g stones near q = IsTrue (points_in size g.empty.words q) × IsEyeAt size (points_in size g.space.words) stones near q
+
+-- all of them are at one eye, if there is any
+abbrev pub IsAtOneEye : Size → Ground → Points → Points → Type 0
+IsAtOneEye size g stones near = (a b : ℕ) → IsAtEye size g stones near a → IsAtEye size g stones near b → IsLinked size (points_in size g.space.words) a b
+
+-- these two are at different eyes
+abbrev pub AreAtTwoEyes : Size → Ground → Points → Points → ℕ → ℕ → Type 0
+AreAtTwoEyes size g stones near a b = IsAtEye size g stones near a × IsAtEye size g stones near b × (IsLinked size (points_in size g.space.words) a b → ⊥)
+
 -- the points of a frame and a colouring: those without a stone of the defender, those without any, and of these the ones outside the region
 pub record IsGroundOf (f : Frame) (c : Colouring) (g : Ground) : Type 0 where
   pub space_is : (q : ℕ) → IsTrue (points_in f.size g.space.words q) ↔ ((q < point_count f.size) × (entry_at c q ≢ Some f.defender))
