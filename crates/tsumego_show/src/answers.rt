@@ -2,7 +2,7 @@
 use crate::certificates::{put_no_certificate, read_strategy};
 use crate::endings::{has_ended, put_ending};
 use crate::main_lines::{main_line, make_turns};
-use crate::picture::{colour_name, side_colour};
+use crate::picture::colour_name;
 use crate::points::{PointForm, put_point};
 use crate::shown::ShowFault;
 use std::alloc::Global;
@@ -104,12 +104,12 @@ impl Answers {
     /// Writes who moves, and who wins, where that is known, behind the text.
     pub fn put_verdict(&self, out: &mut Vec<u8>, line: &Line) -> Result<(), ShowFault> {
         let mover = line.to_move();
-        let name = colour_name(side_colour(line, mover));
+        let name = colour_name(line.frame().colour_of(mover));
         write!(out, "{name} to play")?;
         let Some(winner) = self.winner(mover) else {
             return Ok(());
         };
-        let colour = colour_name(side_colour(line, winner));
+        let colour = colour_name(line.frame().colour_of(winner));
         let verb = match winner {
             Side::Attacker => "kill",
             Side::Defender => "live",

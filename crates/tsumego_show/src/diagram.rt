@@ -5,7 +5,7 @@ ghost use Rattle.tt_sgf.specs.Sizes.{point_count};
 use crate::answers::read_answers;
 use crate::endings::{has_ended, put_ending};
 use crate::main_lines::{main_line, make_turns};
-use crate::picture::{editor_column_letter, point_of_coordinates, side_colour, unmarked_frame};
+use crate::picture::{editor_column_letter, point_of_coordinates, unmarked_frame};
 use crate::shown::ShowFault;
 use crate::windows::{Window, window_of};
 use std::alloc::Global;
@@ -295,7 +295,7 @@ fn put_main_line(
         if plays.is_empty() && 0 < above {
             break;
         }
-        let mover = side_colour(&at, at.to_move());
+        let mover = at.frame().colour_of(at.to_move());
         let numbers = Numbers {
             plays,
             first,

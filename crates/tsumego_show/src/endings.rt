@@ -1,5 +1,5 @@
 //! How a strategy ends.
-use crate::picture::{colour_name, side_colour};
+use crate::picture::colour_name;
 use crate::points::{PointForm, put_point};
 use crate::shown::ShowFault;
 use std::io::Write;
@@ -34,7 +34,7 @@ pub fn put_ending(out: &mut Vec<u8>, line: &Line) -> Result<(), ShowFault> {
         }
         return Ok(out.extend_from_slice(b"The strategy ends, and nobody has won")?);
     };
-    let winner = colour_name(side_colour(line, side));
+    let winner = colour_name(line.frame().colour_of(side));
     let defender = colour_name(line.frame().defender);
     match side {
         Side::Attacker => Ok(write!(out, "{winner} has won: {defender}'s stones are captured")?),

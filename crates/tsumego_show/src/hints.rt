@@ -1,6 +1,6 @@
 //! Hints on what is likely wrong in a problem.
 
-use crate::points::{point_numbered, put_points_line_if_any};
+use crate::points::put_points_line_if_any;
 use crate::shown::ShowFault;
 use std::io::Write;
 use tt_game::{Line, has_move, has_value, sets_up};
@@ -45,7 +45,7 @@ fn other_defender_stones(line: &Line) -> PointSet {
     for _time in 0..MOST_JOINED {
         let before = joined.copy();
         for number in 0..size.point_count() {
-            let stone = point_numbered(size, number);
+            let stone = size.point_numbered(number);
             if !others.has(stone) || joined.has(stone) {
                 continue;
             }

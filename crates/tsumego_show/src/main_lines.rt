@@ -1,9 +1,6 @@
 //! The main line of a strategy: what its other side does that lasts.
-ghost use Rattle.std.specs.Prelude.{◌≡◌, true};
-ghost use Rattle.tt_game.specs.Game.{IsLegal};
 
 use crate::depths::shown_depth;
-use crate::picture::side_colour;
 use crate::shown::ShowFault;
 use std::alloc::Global;
 use tt_board::Board;
@@ -15,22 +12,10 @@ use tt_sgf::{Point, PointSet};
 /// without a measurement.
 const MOST_SEARCHED_TURNS: usize = 50_000;
 
-/// Whether a turn is legal.
-pub fn is_legal(line: &Line, turn: &Turn) -> bool
-    ensures { result ≡ true → IsLegal line.now.frame line.now.state turn.now }
-{
-    if let Turn::Play(point) = turn {
-        if !line.frame().size.holds(*point) {
-            return false;
-        }
-    }
-    line.refusal(*turn).is_none()
-}
-
 /// Makes these turns, up to one that isn't legal.
 pub fn make_turns(line: &mut Line, turns: &[Turn]) -> Result<(), ShowFault> {
     for turn in turns {
-        if !is_legal(line, turn) {
+        if !line.is_legal(*turn) {
             return Ok(());
         }
         line.push_legal(*turn)?;
@@ -51,7 +36,7 @@ fn is_taken(line: &Line, board: &Board, point: Point, answer: Turn) -> bool {
     if !board.size().holds(place) {
         return false;
     }
-    match board.play(side_colour(line, line.to_move().opponent()), place) {
+    match board.play(line.frame().colour_of(line.to_move().opponent()), place) {
         Ok(next) => !has_stone(&next, point),
         Err(_) => false,
     }
@@ -63,7 +48,7 @@ fn weakness(line: &Line, turns: &[Turn]) -> usize {
     let Some(turn) = turns.first() else {
         return 4;
     };
-    if !is_legal(line, turn) {
+    if !line.is_legal(*turn) {
         return 4;
     }
     let Turn::Play(point) = *turn else {
@@ -116,7 +101,7 @@ fn turn_and_rest(
 ) -> Result<Vec<Turn>, ShowFault>
     ensures { line.new ≡ line.old }
 {
-    if !is_legal(line, turn) {
+    if !line.is_legal(*turn) {
         return Ok(Vec::new(alloc));
     }
     line.push_legal(*turn)?;

@@ -10,8 +10,8 @@ ghost use Rattle.tsumego_show.specs.Written.{IsTextOf, as_given, asking_nodes, h
 
 use crate::hints::{put_hints, put_missing_mover_line, put_unclosed_comment_lines};
 use crate::mode::{PointName, WantedMarks};
-use crate::picture::{colour_name, side_colour};
-use crate::points::{PointForm, point_numbered, point_of_name, put_points, put_points_line_if_any};
+use crate::picture::colour_name;
+use crate::points::{PointForm, point_of_name, put_points, put_points_line_if_any};
 use crate::reading_back::{check_problem, check_setup};
 use crate::refusals::{put_refusal_and_why, put_refusal_line};
 use crate::shown::{ShowFault, Shown};
@@ -42,7 +42,7 @@ fn other_enclosed_chains(
     let mut known = group(board, colour, stone).or(squares);
     let mut made = PointSet::empty();
     for number in 0..size.point_count() {
-        let point = point_numbered(size, number);
+        let point = size.point_numbered(number);
         if known.has(point) {
             continue;
         }
@@ -74,7 +74,7 @@ fn put_node_with_stones(out: &mut Vec<u8>, line: &Line, added: &PointSet) -> Res
     let letter = colour_letter(colour);
     write!(out, ";A{letter}")?;
     put_points(out, size, added, PointForm::Value)?;
-    let letter = colour_letter(side_colour(line, line.to_move()));
+    let letter = colour_letter(line.frame().colour_of(line.to_move()));
     write!(out, "PL[{letter}]")?;
     put_marks(out, line)?;
     let name = colour_name(colour);

@@ -5,7 +5,7 @@ ghost use Rattle.tt_sgf.specs.Sizes.{point_count};
 use crate::shown::ShowFault;
 use std::io::Write;
 use tt_board::{Board, Colour};
-use tt_game::{Frame, Line, Side};
+use tt_game::{Frame, Line};
 use tt_sgf::{Point, PointSet, Size};
 
 /// The letters of columns as SGF and as editors have them, who leave out I.
@@ -102,14 +102,6 @@ pub fn colour_name(colour: Colour) -> &'static str {
     }
 }
 
-/// The colour of a side.
-pub fn side_colour(line: &Line, side: Side) -> Colour {
-    match side {
-        Side::Attacker => line.frame().defender.other(),
-        Side::Defender => line.frame().defender,
-    }
-}
-
 /// Writes how many positions came before the present one, where any did, behind the text.
 fn put_earlier_position_count(out: &mut Vec<u8>, line: &Line) -> Result<(), ShowFault> {
     match line.history().len().saturating_sub(1) {
@@ -124,7 +116,7 @@ fn put_earlier_position_count(out: &mut Vec<u8>, line: &Line) -> Result<(), Show
 /// stones of Black and White, small letters are stones on a point of the region, + is an empty point of the region and .
 /// another one.
 pub fn put_picture(out: &mut Vec<u8>, line: &Line) -> Result<(), ShowFault> {
-    let mover = colour_name(side_colour(line, line.to_move()));
+    let mover = colour_name(line.frame().colour_of(line.to_move()));
     let defender = colour_name(line.frame().defender);
     write!(out, "{mover} to move, T is {defender}")?;
     put_earlier_position_count(out, line)?;

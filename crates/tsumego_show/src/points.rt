@@ -1,5 +1,5 @@
 //! Points by their numbers, and their names.
-ghost use Rattle.std.specs.Prelude.{◌≡◌, ◌<◌, ℕ, IfSome, MatchOption};
+ghost use Rattle.std.specs.Prelude.{◌<◌, ℕ, IfSome, MatchOption};
 ghost use Rattle.tt_sgf.specs.Sizes.{point_count};
 ghost use Rattle.tsumego_show.specs.Written.{HasName};
 
@@ -17,18 +17,6 @@ pub enum PointForm {
     Editor,
     Both,
     Value,
-}
-
-/// The point of this number.
-pub fn point_numbered(size: Size, number: usize) -> Point
-    requires { number < point_count size }
-    ensures value { result ≡ number }
-    ensures on_board { result < point_count size }
-{
-    let Some(point) = size.point(number as u16) else {
-        unreachable!();
-    };
-    point
 }
 
 /// The point of a place, where the board has it.
@@ -82,7 +70,7 @@ pub fn put_points(
     form: PointForm,
 ) -> Result<(), ShowFault> {
     for number in 0..size.point_count() {
-        let point = point_numbered(size, number);
+        let point = size.point_numbered(number);
         if points.has(point) {
             put_point(out, size, point, form)?;
         }

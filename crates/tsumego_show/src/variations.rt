@@ -5,8 +5,8 @@ ghost use Rattle.tsumego_show.specs.Written.{IsTextOf};
 use crate::answers::{Answers, read_answers};
 use crate::depths::shown_depth;
 use crate::endings::put_ending;
-use crate::main_lines::{is_legal, main_line};
-use crate::picture::{colour_name, side_colour};
+use crate::main_lines::main_line;
+use crate::picture::colour_name;
 use crate::reading_back::check_problem;
 use crate::shown::ShowFault;
 use crate::tree_bytes::GivenTree;
@@ -82,7 +82,7 @@ fn put_given_nodes(out: &mut Vec<u8>, nodes: &[Node]) -> Result<(), ShowFault> {
 /// Writes whose strategies follow, or why there are none, as the name of the problem's node behind the text.
 fn put_name(out: &mut Vec<u8>, line: &Line, found: &Answers) -> Result<(), ShowFault> {
     if let Some((side, _)) = found.strategies.first() {
-        let owner = colour_name(side_colour(line, *side));
+        let owner = colour_name(line.frame().colour_of(*side));
         return Ok(write!(out, "N[{owner}'s strategy]")?);
     }
     Ok(out.extend_from_slice(if found.is_vain() {
@@ -150,7 +150,7 @@ fn put_move_node(
     turn: Turn,
     wins: Option<bool>,
 ) -> Result<(), ShowFault> {
-    let letter = colour_letter(side_colour(line, line.to_move()));
+    let letter = colour_letter(line.frame().colour_of(line.to_move()));
     write!(out, "\n(;{letter}[")?;
     put_move(out, line.frame().size, turn)?;
     let mark = match wins {
@@ -173,10 +173,10 @@ fn put_variation(
 ) -> Result<(), ShowFault>
     ensures { line.new ≡ line.old }
 {
-    if !is_legal(line, turn) {
+    if !line.is_legal(*turn) {
         return Ok(());
     }
-    let is_own = side_colour(line, line.to_move()) == place.owner;
+    let is_own = line.frame().colour_of(line.to_move()) == place.owner;
     let wins = if place.is_first { Some(is_own) } else { None };
     put_move_node(out, line, *turn, wins)?;
     let below = TurnPlace {
@@ -267,7 +267,7 @@ fn put_strategies(
         let mut main = main_line(alloc, line, tree)?;
         main.truncate(depth);
         let place = TurnPlace {
-            owner: side_colour(line, *side),
+            owner: line.frame().colour_of(*side),
             is_first: true,
             left: shown_depth(tree, depth, most.saturating_sub(main.len())),
         };
@@ -283,7 +283,7 @@ fn put_bare_first_turns(out: &mut Vec<u8>, line: &Line, found: &Answers) -> Resu
             .strategies
             .iter()
             .any(|known| known.1.first().unwrap_or(*turn) == *turn);
-        if !is_written && is_legal(line, turn) {
+        if !is_written && line.is_legal(*turn) {
             put_move_node(out, line, *turn, Some(*wins))?;
             out.push(b')')?;
         }

@@ -45,18 +45,6 @@ fn ends_at_life(line: &Line, side: Side, memo: &mut Memo) -> bool
     side == Side::Defender && line.to_move() == Side::Attacker && memo.may_end_here(line)
 }
 
-/// Whether the turn is legal at the line.
-fn is_legal(line: &Line, turn: &Turn) -> bool
-    ensures { result ≡ true → IsLegal line.now.frame line.now.state turn.now }
-{
-    if let Turn::Play(p) = turn {
-        if !line.frame().size.holds(*p) {
-            return false;
-        }
-    }
-    line.refusal(*turn).is_none()
-}
-
 impl<A: Advice> Certifier<A> {
     /// A certifier that has made nothing, with so many visits.
     pub fn new(
@@ -244,7 +232,7 @@ impl<A: Advice> Certifier<A> {
         ensures fewer { self.new.visits.left ≤ self.old.visits.left }
         ensures same { line.new ≡ line.old }
     {
-        if !is_legal(line, turn) {
+        if !line.is_legal(*turn) {
             return Ok(None);
         }
         let child = self.proof_after(line, side, room - 1, turn)?;

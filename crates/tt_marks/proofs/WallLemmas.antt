@@ -1,5 +1,5 @@
 -- Lemmas on walls and what is within.
-use Rattle.std.proofs.Common.{◌≡◌, ℕ, ◌<◌, ◌⊎◌, ◌↔◌, ◌&&◌, ◌||◌, not, count_by, List, [], ◌∷◌, Option, Some, None, Bool, true, false, All, inl, inr, refl, sym, ap, ◌∙◌, arith}
+use Rattle.std.proofs.Common.{◌≡◌, ℕ, ◌<◌, ◌⊎◌, ◌↔◌, ◌&&◌, ◌||◌, not, count_by, List, [], ◌∷◌, None, Bool, true, false, All, inl, inr, refl, sym, ap, ◌∙◌, arith}
 use Rattle.std.specs.List.{range_with_len}
 use Rattle.std.proofs.lemmas.Bool.{true≢false, false≢true, cases_eq, cases_lt, cases_Bool, and_parts, and_from, not_from_false}
 use Rattle.std.proofs.lemmas.List.Elements.{All-head, All-tail}
@@ -8,7 +8,6 @@ use Rattle.tt_sgf.specs.declared.bits.TheConstants.{BITS}
 use Rattle.tt_sgf.specs.Sizes.{point_count}
 use Rattle.tt_sgf.specs.MachineWords.{AreBitsOf, bit_in}
 use Rattle.tt_board.specs.declared.Colour.{Colour}
-use Rattle.tt_board.specs.declared.Colour.TheVariants.{Black, White}
 use Rattle.tt_board.specs.Around.{AreOn, IsBesideSome}
 use Rattle.tt_board.specs.Play.{is_stone_of, other}
 use Rattle.tt_board.specs.Position.{Colouring}
@@ -93,32 +92,6 @@ or_on s own other made on too is q past lt = is q lt ∙ or_off (bit_in own q) (
 -- the stones of a colour are those of the board
 pub stones_on : (s : Size) (words : List ℕ) (test : ℕ → Bool) → AreBitsOf words (point_count s) test → AreOn s words
 stones_on s words test b q past lt = b.behind q past lt
-
-no_stone : (x : Option Colour) → (is_stone_of x Black ≡ false) → (is_stone_of x White ≡ false) → x ≡ None
-no_stone None b w = refl
-no_stone (Some Black) b w = absurd (true≢false b)
-no_stone (Some White) b w = absurd (true≢false w)
-
-not_true : (b : Bool) → (b ≡ true → ⊥) → b ≡ false
-not_true true h = absurd (h refl)
-not_true false h = refl
-
--- the empty points are those of the board without a stone of either colour
-pub empty_is : (s : Size) (c : Colouring) (all black white some made : List ℕ) → ((p : ℕ) → p < point_count s → Has (bit_in all) p)
-    → AreBitsOf black (point_count s) (λ p. is_stone_of (entry_at c p) Black) → AreBitsOf white (point_count s) (λ p. is_stone_of (entry_at c p) White)
-    → ((q : ℕ) → q < BITS → bit_in some q ≡ (bit_in all q && not (bit_in black q))) → ((q : ℕ) → q < BITS → bit_in made q ≡ (bit_in some q && not (bit_in white q)))
-    → (p : ℕ) → p < point_count s → Has (bit_in made) p ↔ (entry_at c p ≡ None)
-empty_is s c all black white some made on b w first_is then_is p in_p = (
-  λ h.
-      let second = both_of (bit_in some p) (bit_in white p) (sym (then_is p (small s p in_p)) ∙ h) in
-      let first = both_of (bit_in all p) (bit_in black p) (sym (first_is p (small s p in_p)) ∙ second.0) in
-      no_stone (entry_at c p) (sym (b.below p in_p (small s p in_p)) ∙ not_true (bit_in black p) first.1) (sym (w.below p in_p (small s p in_p)) ∙ not_true (bit_in white p) second.1),
-  λ e.
-      let no_black : bit_in black p ≡ false = b.below p in_p (small s p in_p) ∙ ap (λ x. is_stone_of x Black) e in
-      let no_white : bit_in white p ≡ false = w.below p in_p (small s p in_p) ∙ ap (λ x. is_stone_of x White) e in
-      then_is p (small s p in_p) ∙ of_both (bit_in some p) (bit_in white p)
-      (first_is p (small s p in_p) ∙ of_both (bit_in all p) (bit_in black p) (on p in_p) (λ h. true≢false (sym h ∙ no_black))) (λ h. true≢false (sym h ∙ no_white)),
-)
 
 -- one bit alone
 pub alone_is : (s : Size) (q : ℕ) (none made : List ℕ) → ((p : ℕ) → p < BITS → bit_in none p ≡ false) → bit_in made q ≡ true

@@ -6,7 +6,7 @@ ghost use Rattle.tt_sgf.specs.Sizes.{point_count};
 ghost use Rattle.tt_board.specs.Setup.{AllHaveLiberties};
 ghost use Rattle.tt_marks.specs.Closings.{AreClosings, AreEmptyPoints, AreEnclosing, ClosesWall, with_stones};
 
-use crate::regions::{empties, is_inner, point_numbered, region, set_of};
+use crate::regions::{empties, is_inner, region, set_of};
 use crate::ways::{Ways, neighbours};
 use std::alloc::Global;
 use tt_board::{Board, Colour};
@@ -90,7 +90,7 @@ fn unneeded(board: &Board, colour: Colour, stone: Point, stones: &PointSet) -> O
 {
     let size = board.size();
     for number in 0..size.point_count() {
-        let point = point_numbered(size, number);
+        let point = size.point_numbered(number);
         if stones.has(point) {
             let others = stones.minus(&PointSet::empty().with(point));
             if are_enclosing(board, colour, stone, &others) {

@@ -6,7 +6,7 @@ ghost use Rattle.tt_board.specs.Reach.{entry_at};
 ghost use Rattle.tt_marks.specs.Walls.{IsOfInnerGroup};
 
 use crate::gaps::{MOST_STONES, closings_by};
-use crate::regions::{is_inner, point_numbered, region, set_of};
+use crate::regions::{is_inner, region, set_of};
 use crate::walls::group_bits;
 use crate::ways::Ways;
 use std::alloc::Global;
@@ -136,7 +136,7 @@ fn best_closed(board: &Board) -> Option<Candidate>
     let size = board.size();
     let mut best = None;
     for number in 0..size.point_count() {
-        let stone = point_numbered(size, number);
+        let stone = size.point_numbered(number);
         if let Some(colour) = board.at(stone) {
             best = smaller(best, closed_candidate(board, colour, stone));
         }
@@ -155,7 +155,7 @@ fn best_open(alloc: Global, board: &Board, stones: usize) -> Result<Option<Candi
     let size = board.size();
     let mut best = None;
     for number in 0..size.point_count() {
-        let stone = point_numbered(size, number);
+        let stone = size.point_numbered(number);
         if let Some(colour) = colour_if_first(board, stone) {
             let next = open_candidate(alloc, board, colour, stone, stones)?;
             best = outer_or_smaller(best, next);

@@ -10,23 +10,12 @@ ghost use Rattle.tt_board.specs.Stones.{IsSetOnBoard, PointNumberSet};
 ghost use Rattle.tt_marks.specs.Reached.{Has};
 ghost use Rattle.tt_marks.specs.Walls.{IsClosed, IsEnclosedGroup, IsInner, IsOfGroup, IsRegion, IsWholeWall, empty_set};
 
-use crate::walls::{empty_points, group_bits, wall_bits, within};
+use crate::walls::{group_bits, wall_bits, within};
 use tt_board::{Board, Colour};
 use tt_sgf::{Bits, Point, PointSet, Size};
 
 /// The most points of a region that is closed: with more of them no search comes to an end.
 pub const MOST_ENCLOSED_POINTS: u16 = 40;
-
-/// The point of this number.
-pub(crate) fn point_numbered(size: Size, number: usize) -> Point
-    requires { number < point_count size }
-    ensures { result ≡ number }
-{
-    let Some(point) = size.point(number as u16) else {
-        unreachable!();
-    };
-    point
-}
 
 /// The points of a board that are kept as bits, as a set.
 #[tactic(auto, using(crate::proofs::SetLemmas::passing_none, crate::proofs::SetLemmas::passing_more, crate::proofs::SetLemmas::passing_same))]
@@ -36,7 +25,7 @@ pub(crate) fn set_of(size: Size, bits: &Bits) -> PointSet
     let mut made = PointSet::empty();
     for number in 0..size.point_count() {
         if bits.has(number) {
-            made = made.with(point_numbered(size, number));
+            made = made.with(size.point_numbered(number));
         }
     }
     made
@@ -97,7 +86,7 @@ impl WalledRegion {
 pub fn empties(board: &Board) -> PointSet
     ensures { result ≡ empty_set board.now.size board.now.points }
 {
-    set_of(board.size(), &empty_points(board))
+    set_of(board.size(), &board.empty_points())
 }
 
 /// Whether no more empty points are in a region than outside: else the group seems to be the wall of what stands outside.

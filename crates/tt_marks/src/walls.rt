@@ -1,11 +1,10 @@
 //! The group of a stone, the wall around it, and what is within.
 
-ghost use Rattle.std.specs.Prelude.{◌≡◌, ℕ, ◌<◌, ◌↔◌, None};
+ghost use Rattle.std.specs.Prelude.{◌≡◌, ℕ, ◌<◌, ◌↔◌};
 ghost use Rattle.tt_sgf.specs.declared.size.Size.{Size};
 ghost use Rattle.tt_sgf.specs.Sizes.{point_count};
 ghost use Rattle.tt_sgf.specs.MachineWords.{bit_in};
 ghost use Rattle.tt_board.specs.Around.{AreOn};
-ghost use Rattle.tt_board.specs.Reach.{entry_at};
 ghost use Rattle.tt_board.specs.Play.{other};
 ghost use Rattle.tt_marks.specs.Reached.{Has};
 ghost use Rattle.tt_marks.specs.Walls.{HasOuterLiberty, IsOfGroup, IsWholeWall, IsWithin};
@@ -13,29 +12,6 @@ ghost use Rattle.tt_marks.specs.Walls.{HasOuterLiberty, IsOfGroup, IsWholeWall, 
 use crate::filling::{beside, reached};
 use tt_board::{Board, Colour};
 use tt_sgf::{BITS, Bits, Point, Size};
-
-/// All points of the board.
-pub(crate) fn whole(size: Size) -> Bits
-    ensures on { (p : ℕ) → p < point_count size → Has (bit_in result.words) p }
-    ensures on_board { AreOn size result.words }
-{
-    let mut found = Bits::none();
-    for p in 0..size.point_count() {
-        found.set(p);
-    }
-    found
-}
-
-/// The empty points.
-pub(crate) fn empty_points(board: &Board) -> Bits
-    ensures those { (p : ℕ) → p < point_count board.now.size
-        → Has (bit_in result.words) p ↔ (entry_at board.now.points p ≡ None) }
-    ensures on_board { AreOn board.now.size result.words }
-{
-    whole(board.size())
-        .minus(board.bits(Colour::Black))
-        .minus(board.bits(Colour::White))
-}
 
 /// The set of one point, which is on each board that has it.
 fn alone(point: Point) -> Bits
@@ -65,7 +41,7 @@ pub(crate) fn within(size: Size, stones: &Bits, point: Point) -> Bits
         → Has (bit_in result.words) p ↔ IsWithin size point (bit_in stones.now.words) p }
     ensures on_board { AreOn size result.words }
 {
-    reached(size, &whole(size).minus(stones), &alone(point))
+    reached(size, &Bits::whole(size).minus(stones), &alone(point))
 }
 
 /// The stones of a wall's colour whose chains have a liberty that isn't inside.
@@ -75,7 +51,7 @@ pub(crate) fn stones_with_liberty_outside(board: &Board, wall_colour: Colour, in
     ensures on_board { AreOn board.now.size result.words }
 {
     let stones = board.bits(wall_colour);
-    let liberties = empty_points(board).minus(inside);
+    let liberties = board.empty_points().minus(inside);
     reached(
         board.size(),
         stones,

@@ -6,7 +6,7 @@ ghost use Rattle.tt_marks.specs.Closings.{AreEmptyPoints};
 
 use crate::filling::{beside, reached};
 use crate::regions::{empties, set_of};
-use crate::walls::{empty_points, group_bits};
+use crate::walls::group_bits;
 use tt_board::{Board, Colour};
 use tt_sgf::{BITS, Bits, NoMemory, Point, PointSet, Size};
 
@@ -40,7 +40,7 @@ pub(crate) fn neighbours(size: Size, points: &Bits) -> Bits {
     beside(size, &points.truncated_to(size.point_count()))
 }
 
-/// The first points, and what is reached from them over free ones.
+/// What is `reached`, of sets that may have bits of no point.
 fn flood(size: Size, free: &Bits, first: &Bits) -> Bits {
     let count = size.point_count();
     reached(size, &free.truncated_to(count), &first.truncated_to(count))
@@ -108,7 +108,7 @@ impl Ways {
         requires { stone < point_count board.now.size }
     {
         let size = board.size();
-        let empty = empty_points(board);
+        let empty = board.empty_points();
         let own = board.bits(colour);
         let free = empty.or(own);
         let group = group_bits(board, colour, stone);

@@ -21,5 +21,5 @@ loop-number-preserved c =
           c.loop-number.invariant
       | else-has w ↦
           needed_more s points c.args.colour c.args.stone stones n
-          (λ h _. false≢true (sym w.if-has.false ∙ c.has.ensures ∙ ap (set.contains stones) c.point_numbered-point.ensures ∙ h)) c.loop-number.invariant
+          (λ h _. false≢true (sym w.if-has.false ∙ c.has.ensures ∙ ap (set.contains stones) c.point_numbered-point.ensures.value ∙ h)) c.loop-number.invariant
     ]

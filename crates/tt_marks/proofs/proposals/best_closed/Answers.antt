@@ -16,7 +16,7 @@ loop-number-preserved c =
     elim c.match-at.branch [
       | in-Some w ↦
           let one = subst (λ (q : ℕ). MatchOption w.closed_candidate.result (IsOfInnerGroup s points q → ⊥) (λ m. IsOfInnerGroup s points m.stone))
-          c.point_numbered-stone.ensures w.closed_candidate.ensures in
+          c.point_numbered-stone.ensures.value w.closed_candidate.ensures in
           subst (λ (b : Option Candidate). IsBestBefore s points (n + 1) b) (sym w.best-is)
           (best_more s points n c.loop-number.best w.closed_candidate.result w.smaller-best.result c.loop-number.invariant one w.smaller-best.ensures)
       | in_default w ↦
