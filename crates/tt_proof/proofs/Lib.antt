@@ -8,6 +8,7 @@ pub mod BoundLemmas
 pub mod CarryLemmas
 pub mod TakenLemmas
 pub mod SharedLemmas
+mod RetainLemmas
 pub mod RisingLemmas
 pub mod NeedLemmas
 pub mod FootprintLemmas

@@ -3,7 +3,6 @@
 ghost use Rattle.std.specs.Prelude.{◌≡◌, ◌≢◌, ◌↔◌, ◌⊎◌, Contains, IfOk, IsTrue};
 ghost use Rattle.tt_board.specs.Position.{Position};
 ghost use Rattle.tt_game.specs.Line.{HasBoardInHistory};
-ghost use Rattle.tt_proof.specs.inside.RisingHashes.{DoHashesRise};
 
 use crate::board_set::BoardSet;
 use std::alloc::Global;
@@ -13,25 +12,20 @@ use tt_board::Board;
 use tt_game::Line;
 use tt_sgf::NoMemory;
 
-/// A set of boards, held by a handle. `rises` says that it is known to be in the order of hashes, in which a board is found by halving.
-/// Contracts see the boards.
+/// A set of boards, held by a handle. Contracts see the boards.
 #[derive(Drop)]
 pub struct SharedBoardSet {
     set: Arc<BoardSet>,
-    rises: bool,
 }
 
 impl Model for SharedBoardSet {
-    ghost use Rattle.std.specs.Prelude.{List, IsTrue};
+    ghost use Rattle.std.specs.Prelude.{List};
     ghost use Rattle.std.specs.Arc.{arc_value};
     ghost use Rattle.tt_board.specs.Position.{Position};
-    ghost use Rattle.tt_proof.specs.inside.RisingHashes.{DoHashesRise};
 
     ghost Value = { List Position };
 
     ghost view = { λ s. arc_value s.set };
-
-    ghost invariant = { λ s. IsTrue s.rises → DoHashesRise (arc_value s.set) };
 }
 
 impl SharedBoardSet {
@@ -39,9 +33,8 @@ impl SharedBoardSet {
     pub fn of(alloc: Global, set: BoardSet) -> Result<SharedBoardSet, NoMemory>
         ensures { IfOk result (λ s. s ≡ set) }
     {
-        let rises = set.do_hashes_rise();
         let set = Arc::new(alloc, set)?;
-        Ok(SharedBoardSet { set, rises })
+        Ok(SharedBoardSet { set })
     }
 
     /// The set.
@@ -51,29 +44,19 @@ impl SharedBoardSet {
         &self.set
     }
 
-    /// Whether its hashes are known to rise.
-    fn does_rise(&self) -> bool
-        ensures { IsTrue result → DoHashesRise self.now }
-    {
-        self.rises
-    }
-
     /// The same set, by another handle.
     pub fn try_clone(&self) -> Result<SharedBoardSet, NoMemory>
         ensures { IfOk result (λ s. s ≡ self.now) }
     {
         let set = Arc::try_clone(&self.set)?;
-        Ok(SharedBoardSet {
-            set,
-            rises: self.rises,
-        })
+        Ok(SharedBoardSet { set })
     }
 
     /// The set, to be changed: a copy, where another handle holds it.
     fn into_set(self, alloc: Global) -> Result<BoardSet, NoMemory>
         ensures { IfOk result (λ s. s ≡ self) }
     {
-        let SharedBoardSet { set, rises: _ } = self;
+        let SharedBoardSet { set } = self;
         match Arc::try_unwrap(set) {
             Ok(set) => Ok(set),
             Err(set) => set.try_clone(alloc),
@@ -84,9 +67,6 @@ impl SharedBoardSet {
     fn has(&self, board: &Board) -> bool
         ensures { IsTrue result ↔ Contains self.now board.now }
     {
-        if self.does_rise() {
-            return self.set().has_by_halving(board);
-        }
         self.set().has(board)
     }
 
@@ -156,7 +136,7 @@ impl SharedBoardSet {
     {
         let boards = line.history();
         let set = self.set();
-        if self.does_rise() && boards.len() < set.len() {
+        if boards.len() < set.len() {
             return set.has_none_of(boards);
         }
         set.none_in_history(line)

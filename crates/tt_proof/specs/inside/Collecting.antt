@@ -1,5 +1,5 @@
 -- What the parts of a walk for a footprint find.
-use Rattle.std.specs.Prelude.{◌≡◌, ◌↔◌, ◌⊎◌, ℕ, ◌<◌, Option, List, [], ◌∷◌, ◌++◌, Contains}
+use Rattle.std.specs.Prelude.{◌≡◌, ◌↔◌, ◌⊎◌, ℕ, ◌<◌, Option, Contains}
 use Rattle.tt_board.specs.Position.{Position, Colouring}
 use Rattle.tt_game.specs.Game.{State, colouring_after_play}
 use Rattle.tt_game.specs.Line.{IsBarredBySuperko}
@@ -25,8 +25,3 @@ pub record IsPicked (t : Turn) (board : Position) (behind x : Footprint) : Type 
 abbrev pub IsMadeWithin : Turn → Position → Option BoardSetBound → Type 0
 IsMadeWithin Pass b bound = Unit {0}
 IsMadeWithin (Play p) b bound = MayContainBoard bound b
-
--- one of two lists gave its last board, and the other is as before
-abbrev pub IsOneLess : List Position → List Position → List Position → List Position → Position → Type 0
-IsOneLess left left' right right' b =
-    ((left ≡ left' ++ b ∷ []) × (right' ≡ right)) ⊎ ((right ≡ right' ++ b ∷ []) × (left' ≡ left))

@@ -1,5 +1,6 @@
 -- Lists of boards in the order of their hashes.
-use Rattle.std.specs.Prelude.{ℕ, ◌<◌, ◌≤◌, List, length, get_or}
+use Rattle.std.specs.Prelude.{ℕ, ◌<◌, ◌≤◌, List, length}
+use Rattle.std.specs.List.Sorted.{IsNonDecreasingBy, IsPartitionPoint}
 use Rattle.tt_board.specs.Position.{Position}
 use Rattle.tt_game.specs.Mixing.{board_hash}
 
@@ -7,8 +8,8 @@ abbrev pub hash_of_board : Position → ℕ
 hash_of_board b = board_hash b.size b.points
 
 abbrev pub DoHashesRise : List Position → Type 0
-DoHashesRise bs = (i j : ℕ) (d : Position) → i ≤ j → j < length bs → hash_of_board (get_or bs i d) ≤ hash_of_board (get_or bs j d)
+DoHashesRise bs = IsNonDecreasingBy hash_of_board bs
 
--- each board before the index has a lesser hash
-abbrev pub AreLessBefore : List Position → ℕ → ℕ → Type 0
-AreLessBefore bs k hash = (i : ℕ) (d : Position) → i < k → hash_of_board (get_or bs i d) < hash
+-- the boards before the index have lesser hashes, and those from it on haven't
+abbrev pub IsPlaceOfHash : List Position → ℕ → ℕ → Type 0
+IsPlaceOfHash bs hash k = (k ≤ length bs) × IsPartitionPoint (λ b. hash_of_board b < hash) (λ b. hash ≤ hash_of_board b) bs k

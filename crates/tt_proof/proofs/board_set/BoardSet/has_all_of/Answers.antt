@@ -8,9 +8,9 @@ loop-other-preserved c =
     let n = c.loop-other.other-index in
     let lt : n < length items = search rules in
     let is : c.other-item.result ≡ get_or items n c.other-item.result = search rules in
-    let yes : IsTrue c.has_in_hash_run.result = search rules in
+    let yes : IsTrue c.has_shared.result = search rules in
     one_more_place c.args.others.now (λ x. Contains c.args.self.now x) n c.other-item.result c.loop-other.invariant
-    (shown_at items c.args.others.now n c.other-item.result c.others.view_is lt is) (c.has_in_hash_run.ensures yes)
+    (shown_at items c.args.others.now n c.other-item.result c.others.view_is lt is) (c.has_shared.ensures.0 yes)
 
 pub returns : goal.returns
 returns c =

@@ -11,16 +11,16 @@ loop-board-preserved c =
     let is : c.board-item.result ≡ get_or boards n c.board-item.result = search rules in
     one_more_place boards (λ x. Contains c.args.self.now x → ⊥) n c.board-item.result c.loop-board.invariant
     (shown_at boards boards n c.board-item.result refl lt is)
-    (λ m. false≢true (sym c.if-has_by_halving.false ∙ c.has_by_halving.ensures.all c.requires m))
+    (λ m. false≢true (sym c.if-has.false ∙ c.has.ensures.1 m))
 
-pub returns-then-has_by_halving : goal.returns-then-has_by_halving
-returns-then-has_by_halving c =
+pub returns-then-has : goal.returns-then-has
+returns-then-has c =
     let boards = c.args.boards.now in
     let n = c.loop-board.board-index in
     let lt : n < length boards = search rules in
     let is : c.board-item.result ≡ get_or boards n c.board-item.result = search rules in (
       λ y. absurd (false≢true y),
-      λ h. absurd (h c.board-item.result (c.has_by_halving.ensures.there c.if-has_by_halving.true)
+      λ h. absurd (h c.board-item.result (c.has.ensures.0 c.if-has.true)
           (stands_in boards n c.board-item.result lt (shown_at boards boards n c.board-item.result refl lt is))),
     )
 

@@ -1,20 +1,8 @@
 use Rattle.std.proofs.Common.{rules, ◌≡◌, ◌⊎◌, inl, inr}
 use Rattle.tt_proof.proofs.ResultLemmas.{on_ok}
-use Rattle.tt_proof.proofs.SharedLemmas.{either_way, right_empty}
+use Rattle.tt_proof.proofs.SharedLemmas.{either_way}
 use Rattle.tt_proof.proofs.board_set.BoardSet.join.Goals as goal
 use Rattle.tt_proof.proofs.board_set.BoardSet.join.Goals.{then-len, else-len}
-
-pub returns-then-is_empty : goal.returns-then-is_empty
-returns-then-is_empty c =
-    let more = c.if-len.self in
-    let fewer = c.if-len.fewer in
-    let old = c.args.self.now in
-    let others = c.args.others in
-    let which : ((more ≡ others) × (fewer ≡ old)) ⊎ ((more ≡ old) × (fewer ≡ others)) = elim c.if-len.branch [
-      | then-len w ↦ inl (search rules, search rules)
-      | else-len w ↦ inr (search rules, search rules)
-    ] in
-    either_way more more fewer old others which (right_empty more fewer (c.is_empty.ensures c.if-is_empty.true))
 
 pub returns : goal.returns
 returns c =

@@ -1,6 +1,0 @@
-use Rattle.std.proofs.Common.{◌≡◌, ℕ, ◌<◌, get_or}
-use Rattle.tt_board.specs.Position.{Position}
-use Rattle.tt_proof.proofs.board_set.BoardSet.index_of.Given as goal
-
-abbrev pub invariant-loop-k : goal.invariant-loop-k
-invariant-loop-k l = (i : ℕ) (d : Position) → i < l.k → get_or l.self i d ≡ l.board → ⊥
