@@ -103,17 +103,13 @@ pub(crate) fn new_results_or_answer<'a, S: Store>(
 }
 
 /// The answer that the results make. Its proof is offered to the store. The counts of the results are those of searches.
-pub(crate) fn conclude_and_offer<S: Store>(
-    alloc: Global,
-    results: Results<'_>,
-    store: &mut S,
-) -> Answer
+pub(crate) fn conclude_and_offer<S: Store>(results: Results<'_>, store: &mut S) -> Answer
     requires ready { IsReady results.line.state.to_move results.ends }
     ensures answer { (total : Option ℕ) → KeepsTotal total results.entry
         → IsAnswer results.entry.line results.entry.limits total result }
     ensures counts { AreSearchCounts results.entry.line results.entry.limits results.entry.spent }
 {
-    results.tell_counts();
+    let alloc = results.jobs.alloc;
     match results.conclude() {
         Ok(answer) => {
             offer_answer(&answer, store);
@@ -134,7 +130,7 @@ pub fn solve_one<S: Store>(alloc: Global, line: &Line, limits: &Limits, store: &
     match new_results_or_answer(alloc, line, limits, store) {
         Ok(mut results) => {
             results.search_missing_until_win(store, &mut Free::new());
-            conclude_and_offer(alloc, results, store)
+            conclude_and_offer(results, store)
         }
         Err(answer) => answer,
     }
@@ -156,7 +152,7 @@ pub fn solve_one_within_total<S: Store>(
         Ok(mut results) => {
             let mut grants = OwnGrants::new(total);
             results.search_missing_until_win(store, &mut grants);
-            conclude_and_offer(alloc, results, store)
+            conclude_and_offer(results, store)
         }
         Err(answer) => answer,
     }

@@ -7,7 +7,7 @@ ghost use Rattle.tt_game.specs.Turns.{legal_turns};
 ghost use Rattle.tt_game.specs.declared.turns.TheConstants.{MOST_LEGAL};
 ghost use Rattle.tt_search.specs.declared.limits.TheConstants.{MOST_EXPANDED};
 ghost use Rattle.tt_share.specs.declared.jobs.JobResult.{JobResult};
-ghost use Rattle.tt_share.specs.Answers.{AreSearchCounts, spent_in_all};
+ghost use Rattle.tt_share.specs.Answers.{spent_in_all};
 ghost use Rattle.tt_share.specs.inside.Jobs.{IsResult, IsWinFor};
 ghost use Rattle.tt_share.specs.inside.Results.{HasEnd, HasResult, HasWonIn, AllStuckOrWon, IsPastStuck, IsStuckIn, IsWinIn, IsWinAt, NoWin, IsLeastWin, IsReady};
 ghost use Rattle.tt_share.specs.inside.Results.{Notes, AskedFor, StopsAtWin, KeepsEnds, Puts};
@@ -249,13 +249,6 @@ impl<'a> Results<'a> {
             return false;
         }
         self.search_and_put(job, store, grants)
-    }
-
-    /// Does nothing. Its contract says what the counts are.
-    pub fn tell_counts(&self)
-        ensures { AreSearchCounts self.now.line self.now.limits self.now.spent }
-    {
-        let _ = &self.spent;
     }
 
     /// Where no job wins for the side to move, searches each that has no result, in rising order, until one does.

@@ -111,7 +111,7 @@ pub fn solve_counting_grants<R: Threads + Wait + Sync, G: Gate>(
     match new_results_or_answer(alloc, line, limits, &mut store) {
         Ok(mut results) => {
             match search_together(rt, &mut results, total, workers, log, gate, &mut store) {
-                Ok(granted) => (conclude_and_offer(alloc, results, &mut store), granted),
+                Ok(granted) => (conclude_and_offer(results, &mut store), granted),
                 Err(_) => (no_memory_answer(alloc), 0),
             }
         }
