@@ -18,7 +18,7 @@ use std::io::{Read, Write};
 use std::sync::Wait;
 use std::thread::Threads;
 use tt_sgf::{MAX_BYTES, SgfFault, has_tree, read_tree};
-use tt_text::{TreeOutcome, check_input, line};
+use tt_text::{TreeOutcome, check_input, outcome_line};
 
 /// One byte more than the longest input whose trees are read.
 const MOST_READ: usize = MAX_BYTES + 1;
@@ -34,7 +34,7 @@ fn write_outcome_line<W: Write>(
     ensures written { WritesText (outcome_line number outcome.now) result (W.contents writer.old.device) (W.contents writer.new.device) }
     ensures failed { writer.new.failed ≡ is_output_fault result }
 {
-    match line(alloc, number, outcome) {
+    match outcome_line(alloc, number, outcome) {
         Ok(text) => write_bytes(writer, text.as_slice()),
         Err(_) => Err(RunFault::Memory),
     }
@@ -128,7 +128,7 @@ fn answer_check<W: Write>(
     let Ok(finding) = check_input(alloc, parts, input) else {
         return Err(RunFault::Memory);
     };
-    let Ok(text) = finding.line(alloc) else {
+    let Ok(text) = finding.check_line(alloc) else {
         return Err(RunFault::Memory);
     };
     write_bytes(writer, text.as_bytes())?;

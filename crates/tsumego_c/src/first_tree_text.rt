@@ -11,7 +11,7 @@ use crate::statuses::{DONE, REFUSED};
 use std::alloc::Global;
 use tt_sgf::{NoMemory, SgfFault, read_tree};
 use tt_solve::Options;
-use tt_text::{TreeOutcome, check_input, line, score, solve_alone};
+use tt_text::{TreeOutcome, check_input, outcome_line, score, solve_alone};
 
 /// What becomes of the first tree as a record.
 fn score_first_tree(alloc: Global, sgf: &[u8]) -> Result<TreeOutcome, NoMemory>
@@ -41,7 +41,7 @@ fn text_and_status_of(alloc: Global, outcome: &TreeOutcome) -> Result<TextAndSta
     ensures { IfOk result (λ t. (t.bytes.items ≡ outcome_line 1 outcome.now)
         × (t.status ≡ status_of (outcome.now ∷ []))) }
 {
-    let bytes = line(alloc, 1, outcome)?;
+    let bytes = outcome_line(alloc, 1, outcome)?;
     let status = if outcome.is_refused() { REFUSED } else { DONE };
     Ok(TextAndStatus { bytes, status })
 }
@@ -68,7 +68,7 @@ pub fn check_text(alloc: Global, parts: bool, sgf: &[u8]) -> Result<TextAndStatu
     ensures { IfOk result (λ t. IsCheckText parts sgf.now t.bytes.items t.status) }
 {
     let finding = check_input(alloc, parts, sgf)?;
-    let bytes = finding.line(alloc)?.into_bytes();
+    let bytes = finding.check_line(alloc)?.into_bytes();
     let status = u32::from(finding.status());
     Ok(TextAndStatus { bytes, status })
 }

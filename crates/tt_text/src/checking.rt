@@ -33,7 +33,7 @@ impl CheckOutcome {
     }
 
     /// The line on a finding.
-    pub fn line(&self, alloc: Global) -> Result<String, AllocError>
+    pub fn check_line(&self, alloc: Global) -> Result<String, AllocError>
         ensures { IfOk result (λ text. string_bytes text ≡ check_line self.now) }
     {
         match self {

@@ -18,6 +18,6 @@ mod solving;
 mod verdict;
 
 pub use checking::{CheckOutcome, check_input};
-pub use outcome::{TreeOutcome, line, score};
+pub use outcome::{TreeOutcome, outcome_line, score};
 pub use reasons::reason_of_refusal;
 pub use solving::{solve, solve_alone};

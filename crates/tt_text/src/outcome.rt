@@ -63,7 +63,11 @@ fn refusal_line(alloc: Global, number: usize, code: u8) -> Result<Vec<u8>, Alloc
 }
 
 /// The line on the outcome of the tree with this number, with the line of a certificate where there is one.
-pub fn line(alloc: Global, number: usize, outcome: &TreeOutcome) -> Result<Vec<u8>, AllocError>
+pub fn outcome_line(
+    alloc: Global,
+    number: usize,
+    outcome: &TreeOutcome,
+) -> Result<Vec<u8>, AllocError>
     ensures { IfOk result (λ text. text.items ≡ outcome_line number outcome.now) }
 {
     match outcome {

@@ -7,4 +7,4 @@ pub returns-in_err-write_bytes-clause-written : goal.returns-in_err-write_bytes-
 returns-in_err-write_bytes-clause-written g c =
     let p = err_from_is_err_and c.from_residual.result c.from_residual.ensures.1 in
     rw (p.1, p.2) (check_breaks c.args.parts c.args.input.now c.as_bytes.result.now c.in-Ok.finding c.in_err-write_bytes.field-0.0 _ _ c.in-Ok.ensures
-    (search (rules, c.as_bytes.ensures.value, c.in-Ok-line.ensures)) c.in_err-write_bytes.ensures.written)
+    (search (rules, c.as_bytes.ensures.value, c.in-Ok-check_line.ensures)) c.in_err-write_bytes.ensures.written)
