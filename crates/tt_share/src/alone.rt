@@ -12,7 +12,7 @@ use crate::answer::root_proof::{answer_from_store, offer_answer};
 use crate::results::Results;
 use std::alloc::Global;
 use tt_game::Line;
-use tt_search::{Free, Grants, Limits, Store};
+use tt_search::{Grants, Limits, Store};
 
 /// Grants of a total, where there is one, for one caller.
 #[derive(Drop)]
@@ -127,13 +127,7 @@ pub fn solve_one<S: Store>(alloc: Global, line: &Line, limits: &Limits, store: &
     requires open { winner_of line.now.frame line.now.state ≡ None }
     ensures { IsAnswer line.now limits.now None result }
 {
-    match new_results_or_answer(alloc, line, limits, store) {
-        Ok(mut results) => {
-            results.search_missing_until_win(store, &mut Free::new());
-            conclude_and_offer(results, store)
-        }
-        Err(answer) => answer,
-    }
+    solve_one_within_total(alloc, line, limits, None, store)
 }
 
 /// The same, but where there is a total, all searches together expand at most so many nodes.
