@@ -6,15 +6,15 @@
 //! | `solution` | what solving a problem gives |
 //! | `solving` | `solve`: the problem, and then the position behind each legal turn where these are asked for, within one total; `solve_alone`, without threads |
 //! | `dfpn` | the solution that df-pn finds, first: in the caller's thread, or by workers |
-//! | `engines` | the search that comes next: in the caller's thread, or by workers |
+//! | `searches` | the search that comes next: in the caller's thread, or by workers |
 //! | `certificate_kinds` | the solution that a proof is, with a certificate of the kind that is asked for |
 
 #![tactic(auto)]
 
 mod certificate_kinds;
 mod dfpn;
-mod engines;
 mod options;
+mod searches;
 mod solution;
 mod solving;
 

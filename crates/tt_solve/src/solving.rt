@@ -10,8 +10,8 @@ ghost use Rattle.tt_solve.specs.Totals.{HasGrants, HoldsLeaving, total_left};
 
 use crate::certificate_kinds::solution_of_proof;
 use crate::dfpn::dfpn_solution;
-use crate::engines::{search_alone, search_by_workers};
 use crate::options::Options;
+use crate::searches::{search_alone, search_by_workers};
 use crate::solution::{Solution, Solved};
 use std::alloc::Global;
 use std::sync::Wait;
