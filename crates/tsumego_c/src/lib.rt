@@ -18,8 +18,9 @@ mod first_tree_text;
 pub mod laws;
 mod statuses;
 
-ghost use Rattle.std.specs.Prelude.{◌≡◌, ◌≢◌};
+ghost use Rattle.std.specs.Prelude.{◌≡◌, ◌≢◌, ◌↔◌, []};
 ghost use Rattle.tt_text.specs.Checking.{IsCheckText};
+ghost use Rattle.tt_text.specs.Reasons.{IsRefusalNumber};
 ghost use Rattle.tt_text.specs.Scoring.{Scores};
 ghost use Rattle.tsumego_c.specs.Calls.{CallEnds, WritesNothing};
 ghost use Rattle.tsumego_c.specs.declared.statuses.TheConstants.{BAD_OPTION, DONE};
@@ -108,7 +109,8 @@ pub extern "C" fn tsumego_c_explain(
 /// Hands over the words of the refusal with this number: no byte where no refusal has it.
 #[unsafe(no_mangle)]
 pub extern "C" fn tsumego_c_reason(number: u8, out: &mut [u8], taken: &mut usize) -> u32
-    ensures { CallEnds (λ _ status. status ≡ DONE) out.old out.new taken.new result }
+    ensures { CallEnds
+        (λ words status. ((words ≢ []) ↔ IsRefusalNumber number) × (status ≡ DONE)) out.old out.new taken.new result }
 {
     hand_over_text(reason_of_refusal(number), DONE, out, taken)
 }

@@ -1,6 +1,8 @@
 //! Why a turn is refused, and why a main line is no record or no problem.
 
-ghost use Rattle.std.specs.Prelude.{◌≡◌};
+ghost use Rattle.std.specs.Prelude.{◌≡◌, ◌≢◌, []};
+ghost use Rattle.tt_game.specs.declared.faults.GameFault.{GameFault};
+ghost use Rattle.tt_game.specs.Faults.{code_of};
 
 use tt_sgf::{NoMemory, Point};
 
@@ -199,14 +201,19 @@ impl GameFault {
     }
 
     /// Why a main line is refused, and how to go on, in English words. No newline ends them.
-    pub fn reason(&self) -> &'static [u8] {
+    pub fn reason(&self) -> &'static [u8]
+        ensures { result.now ≢ [] }
+    {
         reason_of_code(self.code())
     }
 }
 
 /// The words of the refusal with this number, as `reason` has them: why a main line is refused, and how to go on. Empty where no
 /// refusal of a main line has the number.
-pub fn reason_of_code(code: u8) -> &'static [u8] {
+pub fn reason_of_code(code: u8) -> &'static [u8]
+    ensures words { (e : GameFault) → code_of e ≡ code → result.now ≢ [] }
+    ensures numbers { result.now ≢ [] → (e : GameFault) × (code_of e ≡ code) }
+{
     match code {
         10 => b"GM must be 1, which is Go",
         11 =>

@@ -1,6 +1,6 @@
 //! Reads certificates.
 
-ghost use Rattle.std.specs.Prelude.{◌≡◌, ◌<◌, ◌≤◌, ◌+◌, ◌/◌, ◌%◌, ◌++◌, ◌∷◌, ℕ, List, MatchOption, MatchResult};
+ghost use Rattle.std.specs.Prelude.{◌≡◌, ◌≢◌, [], ◌<◌, ◌≤◌, ◌+◌, ◌/◌, ◌%◌, ◌++◌, ◌∷◌, ℕ, List, MatchOption, MatchResult};
 ghost use Rattle.tt_sgf.specs.Bytes.{lower_a, semicolon};
 ghost use Rattle.tt_sgf.specs.Sizes.{point_count};
 ghost use Rattle.tt_sgf.specs.declared.size.TheConstants.{MOST_POINTS};
@@ -41,7 +41,9 @@ impl CertFault {
     }
 
     /// Why bytes are not a certificate, in English words. No newline ends them.
-    pub fn reason(&self) -> &'static [u8] {
+    pub fn reason(&self) -> &'static [u8]
+        ensures { result.now ≢ [] }
+    {
         match *self {
             CertFault::Syntax => {
                 b"the text is no certificate: a wrong symbol, turns out of order, a point off the board, or text after the end"

@@ -14,7 +14,7 @@ pub enum SgfFault {
 }
 
 impl SgfFault {
-    ghost use Rattle.std.specs.Prelude.{◌≡◌};
+    ghost use Rattle.std.specs.Prelude.{◌≡◌, ◌≢◌, []};
     ghost use Rattle.tt_sgf.specs.Faults.{code_of};
 
     /// The number of the refusal: 1 or 2, or 40 for want of memory.
@@ -29,7 +29,9 @@ impl SgfFault {
     }
 
     /// Why there is no main line, and how to go on, in English words. No newline ends them.
-    pub fn reason(&self) -> &'static [u8] {
+    pub fn reason(&self) -> &'static [u8]
+        ensures { result.now ≢ [] }
+    {
         match self {
             SgfFault::Syntax => {
                 b"no game tree can be read: a bracket is missing, or the ] of a value"

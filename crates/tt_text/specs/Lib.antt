@@ -3,6 +3,7 @@ pub mod Checking
 pub mod Headline
 pub mod Laws
 pub mod OtherLines
+pub mod Reasons
 pub mod Scoring
 pub mod Solving
 pub mod Trees

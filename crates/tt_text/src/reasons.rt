@@ -1,5 +1,8 @@
 //! The words of each refusal: they stand where its fault is found.
 
+ghost use Rattle.std.specs.Prelude.{◌≢◌, []};
+ghost use Rattle.tt_text.specs.Reasons.{IsRefusalNumber};
+
 use tt_game::reason_of_code;
 use tt_proof::CertFault;
 use tt_sgf::SgfFault;
@@ -9,7 +12,10 @@ pub(crate) const UNFIT_PART: u8 = 32;
 
 /// Why an input, a main line or a certificate is refused with this number, in English words. No newline ends them. Empty where no
 /// refusal has the number.
-pub fn reason_of_refusal(number: u8) -> &'static [u8] {
+pub fn reason_of_refusal(number: u8) -> &'static [u8]
+    ensures words { IsRefusalNumber number → result.now ≢ [] }
+    ensures numbers { result.now ≢ [] → IsRefusalNumber number }
+{
     match number {
         1 => SgfFault::Syntax.reason(),
         2 => SgfFault::TooLong.reason(),
