@@ -276,8 +276,8 @@ fn numbered_count(board: &Board, turns: &[Turn]) -> usize
     turns.len()
 }
 
-/// Writes the boards on which the main line of a strategy is numbered up to a pass behind the text, and how it ends behind the words. The
-/// answer is how many boards.
+/// Writes the boards on which the main line of a strategy is numbered up to a pass behind the text, and how it ends behind the words, or that
+/// a pass comes. The answer is how many boards.
 fn put_main_line(
     alloc: Global,
     out: &mut Vec<u8>,
@@ -310,6 +310,8 @@ fn put_main_line(
     if has_ended(&at) {
         words.push(b'\n')?;
         put_ending(words, &at)?;
+    } else if !rest.is_empty() {
+        words.extend_from_slice(b"\nThe main line goes on with a pass")?;
     }
     Ok(count)
 }
@@ -330,7 +332,7 @@ pub fn put_unmarked_svg(
 /// Writes the diagram of the problem at a line, and of the strategy that stands behind it, as SVG behind the text: what matters of the
 /// board, with the coordinates of editors, the targets marked, and the region or the plays of the main line up to a pass, as stones with
 /// numbers; a new board stands below after nine plays, and where the next one is on a point that had a stone or a number; below them who
-/// moves, who wins, where that is said, and how the line ends.
+/// moves, who wins, where that is said, and how the line ends, or that a pass comes.
 pub fn put_svg(
     alloc: Global,
     out: &mut Vec<u8>,

@@ -66,6 +66,17 @@ fn put_marks(out: &mut Vec<u8>, line: &Line) -> Result<(), ShowFault> {
     put_points(out, frame.size, &frame.region, PointForm::Value)
 }
 
+/// Writes the words in front of the names of stones that are added behind the text.
+fn put_added(out: &mut Vec<u8>, colour: Colour, added: &PointSet) -> Result<(), ShowFault> {
+    let name = colour_name(colour);
+    let stones = if added.count() == 1 {
+        "stone"
+    } else {
+        "stones"
+    };
+    Ok(write!(out, "{name} {stones} added to close the wall:")?)
+}
+
 /// Writes a node that adds stones of the attacker, and has the side to move, the marks of a problem, and a comment that names the stones,
 /// behind the text.
 fn put_node_with_stones(out: &mut Vec<u8>, line: &Line, added: &PointSet) -> Result<(), ShowFault> {
@@ -77,8 +88,8 @@ fn put_node_with_stones(out: &mut Vec<u8>, line: &Line, added: &PointSet) -> Res
     let letter = colour_letter(line.frame().colour_of(line.to_move()));
     write!(out, "PL[{letter}]")?;
     put_marks(out, line)?;
-    let name = colour_name(colour);
-    write!(out, "C[{name} stones added to close the wall:")?;
+    out.extend_from_slice(b"C[")?;
+    put_added(out, colour, added)?;
     put_points(out, size, added, PointForm::Editor)?;
     Ok(out.push(b']')?)
 }
@@ -184,8 +195,8 @@ fn put_closing_hint(
     best: &Closing,
     others: &[Closing],
 ) -> Result<(), ShowFault> {
-    let name = colour_name(colour.other());
-    write!(hints, "hint: {name} stones added to close the wall:")?;
+    hints.extend_from_slice(b"hint: ")?;
+    put_added(hints, colour.other(), &best.stones)?;
     put_points(hints, board.size(), &best.stones, PointForm::Both)?;
     if others.is_empty() {
         return Ok(hints.push(b'\n')?);

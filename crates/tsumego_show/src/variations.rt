@@ -22,6 +22,9 @@ const MOST_TURNS: usize = 2_000;
 
 const MOST_TURNS_TO_DEPTH: usize = 350_000;
 
+/// What is said where turns of a strategy are left out.
+const MORE_TURNS: &str = "The strategy has more turns here than are written.";
+
 /// Where in a strategy a turn stands: whose strategy it is, whether the turn is a first one, and how many more are written.
 #[derive(Clone, Copy)]
 struct TurnPlace {
@@ -105,13 +108,14 @@ fn put_labels(out: &mut Vec<u8>, size: Size, found: &Answers) -> Result<(), Show
     Ok(())
 }
 
-/// Writes a comment behind the text: the one that was given, and the answer, also that it has ended there.
+/// Writes a comment behind the text: the one that was given, and the answer, also that it has ended there, or that turns are left out there.
 fn put_comment(
     out: &mut Vec<u8>,
     given: Option<&[u8]>,
     line: &Line,
     found: &Answers,
     is_end: bool,
+    is_cut: bool,
 ) -> Result<(), ShowFault> {
     let has_answer = !found.strategies.is_empty() || !found.first_turns.is_empty();
     if given.is_none() && !has_answer {
@@ -131,6 +135,9 @@ fn put_comment(
         out.push(b'\n')?;
         put_ending(out, line)?;
         out.push(b'.')?;
+    }
+    if is_cut {
+        write!(out, "\n{MORE_TURNS}")?;
     }
     Ok(out.push(b']')?)
 }
@@ -212,8 +219,32 @@ fn put_replies(
     Ok(())
 }
 
-/// Writes what follows a position behind the text: the main line, and the rest where more turns are written; where no turn follows, how the
-/// strategy ends.
+/// Whether a turn isn't the next one of the main line, and is legal.
+fn is_aside(turn: &Turn, line: &Line, main: &[Turn]) -> bool {
+    main.first() != Some(turn) && is_legal(line, turn)
+}
+
+/// Whether turns of a strategy at a position are left out: only the next one of the main line is written, and others are legal.
+fn is_cut(tree: &Tree, line: &Line, left: usize, main: &[Turn]) -> bool {
+    if 0 < left {
+        return false;
+    }
+    match tree {
+        Tree::Done => false,
+        Tree::Pick(turn, _) => is_aside(turn, line, main),
+        Tree::Reply(list) => {
+            for (turn, _) in list.as_slice() {
+                if is_aside(turn, line, main) {
+                    return true;
+                }
+            }
+            false
+        }
+    }
+}
+
+/// Writes what follows a position behind the text: the main line, and the rest where more turns are written; a comment where turns are left
+/// out or none follows. The comment of the problem's node is written apart.
 #[cycle(vary)]
 fn put_tree_variations(
     out: &mut Vec<u8>,
@@ -225,15 +256,17 @@ fn put_tree_variations(
     ensures { line.new ≡ line.old }
 {
     let count = out.len();
+    if !place.is_first && is_cut(tree, line, place.left, main) {
+        let owner = colour_name(place.owner);
+        write!(out, "C[{owner} wins. {MORE_TURNS}]")?;
+    }
     match tree {
         Tree::Done => {}
-        _ if place.left == 0 && main.is_empty() => {
-            let owner = colour_name(place.owner);
-            return Ok(write!(out, "C[{owner} wins.]")?);
-        }
         Tree::Pick(turn, behind) => {
-            let rest = main.get(1..).unwrap_or(main);
-            put_variation(out, turn, behind, line, place, rest)?;
+            if 0 < place.left || !main.is_empty() {
+                let rest = main.get(1..).unwrap_or(main);
+                put_variation(out, turn, behind, line, place, rest)?;
+            }
         }
         Tree::Reply(list) => {
             put_replies(out, list, line, place, main, true)?;
@@ -250,19 +283,21 @@ fn put_tree_variations(
     Ok(())
 }
 
-/// Writes the strategies as variations behind the text: of each the main line, and the rest as deep as there are not too many turns.
+/// Writes the strategies as variations behind the text: of each the main line, and the rest as deep as there are not too many turns. Says
+/// whether first turns are left out.
 fn put_strategies(
     alloc: Global,
     out: &mut Vec<u8>,
     line: &Line,
     found: &Answers,
     asked: Option<usize>,
-) -> Result<(), ShowFault> {
+) -> Result<bool, ShowFault> {
     let depth = asked.unwrap_or(usize::from(MOST_DEPTH));
     let most = match asked {
         Some(_) => MOST_TURNS_TO_DEPTH,
         None => MOST_TURNS / found.strategies.len().max(1),
     };
+    let mut is_any_cut = false;
     for (side, tree) in found.strategies.as_slice() {
         let mut main = main_line(alloc, line, tree)?;
         main.truncate(depth);
@@ -271,9 +306,10 @@ fn put_strategies(
             is_first: true,
             left: shown_depth(tree, depth, most.saturating_sub(main.len())),
         };
+        is_any_cut |= is_cut(tree, line, place.left, main.as_slice());
         put_tree_variations(out, tree, &mut line.try_clone()?, place, main.as_slice())?;
     }
-    Ok(())
+    Ok(is_any_cut)
 }
 
 /// Writes the first turns that no strategy begins with or answers as variations behind the text.
@@ -292,7 +328,8 @@ fn put_bare_first_turns(out: &mut Vec<u8>, line: &Line, found: &Answers) -> Resu
 }
 
 /// Writes the problem of a tree, which the line is at, as a game tree of SGF behind the text: its nodes, and the answer that stands
-/// behind it as words and variations, with at most 2,000 turns, or so many turns deep where that is asked.
+/// behind it as words and variations, with at most 2,000 turns, or so many turns deep where that is asked; comments say where turns are left
+/// out.
 fn put_game_tree(
     alloc: Global,
     out: &mut Vec<u8>,
@@ -306,9 +343,9 @@ fn put_game_tree(
     put_name(out, line, &found)?;
     put_labels(out, line.frame().size, &found)?;
     let mut variations = Vec::new(alloc);
-    put_strategies(alloc, &mut variations, line, &found, depth)?;
+    let is_cut = put_strategies(alloc, &mut variations, line, &found, depth)?;
     let is_end = variations.is_empty() && !found.strategies.is_empty();
-    put_comment(out, given_comment(tree.nodes()), line, &found, is_end)?;
+    put_comment(out, given_comment(tree.nodes()), line, &found, is_end, is_cut)?;
     out.extend_from_slice(variations.as_slice())?;
     put_bare_first_turns(out, line, &found)?;
     Ok(out.extend_from_slice(b")\n")?)
