@@ -18,7 +18,7 @@ opened_here b bs opens = ap (λ x. if x then b ∷ bs else from_open bs) (eq-eqb
 pub opened_behind : (b : ℕ) (bs : List ℕ) → (b ≡ open_tree → ⊥) → from_open (b ∷ bs) ≡ from_open bs
 opened_behind b bs other = past b bs (ne_eqb b open_tree other)
 
-neither : (a b : Bool) → (a || b) ≡ false → (a ≡ false) × (b ≡ false)
+pub neither : (a b : Bool) → (a || b) ≡ false → (a ≡ false) × (b ≡ false)
 neither true b h = absurd (true≢false h)
 neither false b h = (refl, h)
 
@@ -28,7 +28,7 @@ from_skipped (b ∷ skipped) behind none =
     let others = neither (b == open_tree) (list_any (λ x. x == open_tree) skipped) none in
     past b (skipped ++ (open_tree ∷ behind)) others.0 ∙ from_skipped skipped behind others.1
 
-opens : (text : List ℕ) (t : GameTree) → Spells text t → (behind : List ℕ) × (text ≡ open_tree ∷ behind)
+pub opens : (text : List ℕ) (t : GameTree) → Spells text t → (behind : List ℕ) × (text ≡ open_tree ∷ behind)
 opens text (game nodes trees) h = (_, h.7)
 
 -- the bytes up to the end of the first tree, from its `(` on, are its text

@@ -1,14 +1,15 @@
 -- What the game trees that are written are when they are read.
-use Rattle.std.specs.Prelude.{◌≡◌, ◌⊎◌, ◌<◌, ◌≤◌, ◌+◌, ◌-◌, ◌*◌, ◌++◌, ◌==◌, ℕ, Bool, true, false, not, List, [], ◌∷◌, length, take, slice_get, Ok, Err, Option, None, Some, MatchOption, if◌then◌else◌}
+use Rattle.std.specs.Prelude.{◌≡◌, ◌⊎◌, ◌<◌, ◌≤◌, ◌+◌, ◌-◌, ◌*◌, ◌++◌, ◌==◌}
+use Rattle.std.specs.Prelude.{ℕ, Bool, true, false, not, List, [], ◌∷◌, drop, length, take, slice_get, Ok, Err, Option, None, Some, MatchOption, if◌then◌else◌}
 use Rattle.std.specs.List.{list_any}
 use Rattle.std.specs.declared.result.Result.{Result}
 use Rattle.std.specs.FinSet as set
 use Rattle.tt_sgf.specs.declared.nodes.Node.{Node}
 use Rattle.tt_sgf.specs.declared.size.Size.{Size}
 use Rattle.tt_sgf.specs.declared.trees.TheConstants.{MAX_BYTES}
-use Rattle.tt_sgf.specs.Bytes.{newline, open_tree}
+use Rattle.tt_sgf.specs.Bytes.{close_tree, newline, open_tree}
 use Rattle.tt_sgf.specs.Sizes.{point_count}
-use Rattle.tt_sgf.specs.Grammar.{GameTree, FirstTreeEndsAt, main_line}
+use Rattle.tt_sgf.specs.Grammar.{GameTree, FirstTreeEndsAt, HasOpeningParenthesis, main_line}
 use Rattle.tt_board.specs.declared.Colour.{Colour}
 use Rattle.tt_board.specs.Play.{other}
 use Rattle.tt_board.specs.Position.{Colouring}
@@ -28,13 +29,23 @@ use Rattle.tsumego_show.specs.declared.mode.PointName.{PointName}
 use Rattle.tsumego_show.specs.declared.mode.PointName.TheVariants.{FromAbove, FromBelow}
 use Rattle.tsumego_show.specs.declared.mode.WantedMarks.{WantedMarks}
 
--- the first tree of a text is this problem
+-- a text begins with a tree, which ends behind so many bytes, and no other may follow
+abbrev pub IsOneTree : List ℕ → ℕ → GameTree → Type 0
+IsOneTree text count t = (ends : FirstTreeEndsAt text count t) × (ends.skipped ≡ []) × (HasOpeningParenthesis (drop count text) → ⊥)
+
+-- a text is one tree, which is this problem
 abbrev pub IsProblemText : List ℕ → LineWithUndo → Type 0
-IsProblemText text q = (count : ℕ) × (t : GameTree) × FirstTreeEndsAt text count t × (problem_of (main_line t) ≡ Ok q)
+IsProblemText text q = (count : ℕ) × (t : GameTree) × IsOneTree text count t × (problem_of (main_line t) ≡ Ok q)
 
 -- a text, if it isn't too long to be read, is the problem p, with the same frame, board, history and side to move
 abbrev pub IsTextOf : List ℕ → LineWithUndo → Type 0
 IsTextOf text p = length text ≤ MAX_BYTES → (q : LineWithUndo) × IsProblemText text q × (q.frame ≡ p.frame) × (q.state ≡ p.state)
+
+-- A text is the problem p with variations, for a tree with these bytes. What stands in front of the variations, with the end of the tree
+-- behind it, is the problem too, and has at most 4,096 bytes more than were given.
+abbrev pub IsTextWithVariations : List ℕ → List ℕ → LineWithUndo → Type 0
+IsTextWithVariations given text p = IsTextOf text p × ((front : List ℕ) × (variations : List ℕ) × (text ≡ front ++ variations)
+    × (length front ≤ length given + 4096) × IsTextOf (front ++ (close_tree ∷ [])) p)
 
 -- A text, if it isn't too long to be read, is a problem with this frame, these stones and this side to move. Nothing stood before, as behind
 -- any setup.
@@ -98,9 +109,9 @@ from_open (b ∷ bs) = if b == open_tree then b ∷ bs else from_open bs
 abbrev pub as_given : List ℕ → List ℕ
 as_given given = given ++ (newline ∷ [])
 
--- the same with more bytes in one place
+-- the same with at most 1,024 bytes more in one place
 abbrev pub IsGivenWithMore : List ℕ → List ℕ → Type 0
-IsGivenWithMore given text = (front : List ℕ) × (more : List ℕ) × (behind : List ℕ) × (given ≡ front ++ behind) × (text ≡ front ++ (more ++ as_given behind))
+IsGivenWithMore given text = (front : List ℕ) × (more : List ℕ) × (behind : List ℕ) × (given ≡ front ++ behind) × (length more ≤ 1024) × (text ≡ front ++ (more ++ as_given behind))
 
 -- the nodes of a main line but those of a solution
 abbrev pub asking_nodes : List Node → List Node
@@ -142,7 +153,7 @@ IsWrittenOnNoTree (Marks wanted) text = text ≡ []
 abbrev pub IsWrittenOn : Mode → List ℕ → List Node → Result LineWithUndo GameFault → Bool → List ℕ → Type 0
 IsWrittenOn Picture given nodes r refused text = Unit {0}
 IsWrittenOn Diagram given nodes r refused text = Unit {0}
-IsWrittenOn (Variations depth) given nodes (Ok p) refused text = IsTextOf text p
+IsWrittenOn (Variations depth) given nodes (Ok p) refused text = IsTextWithVariations given text p
 IsWrittenOn (Variations depth) given nodes (Err e) refused text = text ≡ as_given given
 IsWrittenOn (Marks wanted) given nodes (Ok p) refused text = (text ≡ as_given given) × IsTextOf text p × (refused ≡ has_triangles_alone nodes)
 IsWrittenOn (Marks wanted) given nodes (Err e) refused text = IsMarkedOrKept wanted given nodes refused text

@@ -1,5 +1,7 @@
 //! The main line of a strategy: what its other side does that lasts.
 
+ghost use Rattle.std.specs.Prelude.{◌≡◌};
+
 use crate::depths::shown_depth;
 use crate::shown::ShowFault;
 use std::alloc::Global;

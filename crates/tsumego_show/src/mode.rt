@@ -1,4 +1,6 @@
 //! What is written on each problem.
+ghost use Rattle.std.specs.Prelude.{◌↔◌, IsTrue};
+ghost use Rattle.tsumego_show.specs.Writing.{WritesTrees};
 
 /// What is written: pictures of characters, diagrams as SVG, or game trees of SGF: with variations to so many turns, or
 /// to as many as there is room for, or with marks.
@@ -8,6 +10,18 @@ pub enum Mode {
     Diagram,
     Variations(Option<usize>),
     Marks(WantedMarks),
+}
+
+impl Mode {
+    /// Whether game trees are written, which are read back.
+    pub fn writes_trees(&self) -> bool
+        ensures { IsTrue result ↔ WritesTrees self.now }
+    {
+        match self {
+            Mode::Picture | Mode::Diagram => false,
+            Mode::Variations(_) | Mode::Marks(_) => true,
+        }
+    }
 }
 
 /// What the command line asks for: what is written, and the files that are read; without one standard input is.

@@ -49,10 +49,11 @@ pub fn run<R: Read, W: Write>(
             write_bytes(writer, shown.text.as_slice())?;
             Ok(status)
         }
-        Err(ShowFault::NoMemory) => Err(RunFault::Memory),
-        Err(ShowFault::OtherProblem) => {
+        Err(ShowFault::OtherProblem) if mode.writes_trees() => {
             let _ = said.extend_from_slice(OTHER_PROBLEM);
             Ok(2)
         }
+        // Nothing else is read back, so it fails for want of memory alone.
+        Err(_) => Err(RunFault::Memory),
     }
 }

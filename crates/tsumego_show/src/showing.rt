@@ -14,7 +14,7 @@ use crate::picture::{put_board, put_picture, unmarked_frame};
 use crate::refusals::{put_no_tree, put_refusal_and_why, put_unread};
 use crate::shown::{ShowFault, Shown};
 use crate::tree_bytes::{GivenTree, from_first_parenthesis};
-use crate::variations::put_sgf;
+use crate::variations::sgf_text;
 use std::alloc::Global;
 use std::io::Write;
 use tt_game::{GameFault, Line, game_before_solution, problem};
@@ -81,7 +81,7 @@ fn put_problem(
     match mode {
         Mode::Picture => put_problem_and_strategy(alloc, &mut shown.text, tree, line)?,
         Mode::Diagram => return put_diagram(alloc, shown, tree, line),
-        Mode::Variations(depth) => put_sgf(alloc, &mut shown.text, tree, line, depth)?,
+        Mode::Variations(depth) => shown.text = sgf_text(alloc, tree, line, depth)?,
         Mode::Marks(_) => return put_kept_problem(alloc, shown, tree, line),
     }
     Ok(false)

@@ -6,6 +6,9 @@ use crate::shown::ShowFault;
 use std::alloc::Global;
 use tt_sgf::{MainLine, Node};
 
+/// Bytes that are added to a tree at most: marks on 41 points, up to three stones, their names in a comment, and the side to move.
+const MOST_MORE: usize = 1_024;
+
 /// A game tree of an input: its number, counted from 1, its bytes from its first `(` on, its main line, and the bytes behind it.
 #[derive(Drop)]
 pub struct GivenTree<'a> {
@@ -33,11 +36,14 @@ impl<'a> GivenTree<'a> {
         Ok(text)
     }
 
-    /// The tree with more bytes in front of that of this index.
+    /// The tree with more bytes in front of that of this index. They are no more than marks and added stones take.
     pub fn with_more(&self, alloc: Global, at: usize, more: &[u8]) -> Result<Vec<u8>, ShowFault>
         requires { at ≤ length self.now.bytes.now }
         ensures { IfOk result (λ text. IsGivenWithMore self.now.bytes.now text.items) }
     {
+        if MOST_MORE < more.len() {
+            return Err(ShowFault::OtherProblem);
+        }
         let mut text = Vec::new(alloc);
         text.extend_from_slice(&self.bytes[..at])?;
         text.extend_from_slice(more)?;

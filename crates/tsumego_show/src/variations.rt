@@ -1,13 +1,13 @@
 //! A problem as a game tree of SGF, with the answer and the strategies behind it as variations.
 ghost use Rattle.std.specs.Prelude.{◌≡◌, IfOk};
-ghost use Rattle.tsumego_show.specs.Written.{IsTextOf};
+ghost use Rattle.tsumego_show.specs.Written.{IsTextWithVariations};
 
 use crate::answers::{Answers, read_answers};
 use crate::depths::shown_depth;
 use crate::endings::put_ending;
 use crate::main_lines::main_line;
 use crate::picture::colour_name;
-use crate::reading_back::check_problem;
+use crate::reading_back::text_with_variations;
 use crate::shown::ShowFault;
 use crate::tree_bytes::GivenTree;
 use std::alloc::Global;
@@ -221,7 +221,7 @@ fn put_replies(
 
 /// Whether a turn isn't the next one of the main line, and is legal.
 fn is_aside(turn: &Turn, line: &Line, main: &[Turn]) -> bool {
-    main.first() != Some(turn) && is_legal(line, turn)
+    main.first() != Some(turn) && line.is_legal(*turn)
 }
 
 /// Whether turns of a strategy at a position are left out: only the next one of the main line is written, and others are legal.
@@ -327,40 +327,55 @@ fn put_bare_first_turns(out: &mut Vec<u8>, line: &Line, found: &Answers) -> Resu
     Ok(())
 }
 
-/// Writes the problem of a tree, which the line is at, as a game tree of SGF behind the text: its nodes, and the answer that stands
-/// behind it as words and variations, with at most 2,000 turns, or so many turns deep where that is asked; comments say where turns are left
-/// out.
-fn put_game_tree(
+/// What stands in front of the variations: the nodes of a tree up to that of its problem, which the line is at, and the answer that stands
+/// behind it as words and labels.
+fn front_text(
     alloc: Global,
-    out: &mut Vec<u8>,
+    tree: &GivenTree,
+    line: &Line,
+    found: &Answers,
+    is_end: bool,
+    is_cut: bool,
+) -> Result<Vec<u8>, ShowFault> {
+    let mut out = Vec::new(alloc);
+    out.push(b'(')?;
+    put_given_nodes(&mut out, tree.nodes())?;
+    put_name(&mut out, line, found)?;
+    put_labels(&mut out, line.frame().size, found)?;
+    put_comment(
+        &mut out,
+        given_comment(tree.nodes()),
+        line,
+        found,
+        is_end,
+        is_cut,
+    )?;
+    Ok(out)
+}
+
+/// The problem of a tree, which the line is at, as a game tree of SGF: its nodes, and the answer that stands behind it as words and
+/// variations, with at most 2,000 turns, or so many turns deep where that is asked; comments say where turns are left out. It is read as
+/// the same problem.
+pub fn sgf_text(
+    alloc: Global,
     tree: &GivenTree,
     line: &Line,
     depth: Option<usize>,
-) -> Result<(), ShowFault> {
+) -> Result<Vec<u8>, ShowFault>
+    ensures { IfOk result (λ text. IsTextWithVariations tree.now.bytes.now text.items line.now) }
+{
     let found = read_answers(alloc, line, tree.behind)?;
-    out.push(b'(')?;
-    put_given_nodes(out, tree.nodes())?;
-    put_name(out, line, &found)?;
-    put_labels(out, line.frame().size, &found)?;
     let mut variations = Vec::new(alloc);
     let is_cut = put_strategies(alloc, &mut variations, line, &found, depth)?;
     let is_end = variations.is_empty() && !found.strategies.is_empty();
-    put_comment(out, given_comment(tree.nodes()), line, &found, is_end, is_cut)?;
-    out.extend_from_slice(variations.as_slice())?;
-    put_bare_first_turns(out, line, &found)?;
-    Ok(out.extend_from_slice(b")\n")?)
-}
-
-/// Writes the game tree of a problem behind the text, and sees that it is read as the same problem.
-pub fn put_sgf(
-    alloc: Global,
-    out: &mut Vec<u8>,
-    tree: &GivenTree,
-    line: &Line,
-    depth: Option<usize>,
-) -> Result<(), ShowFault>
-    ensures { IfOk result (λ _. IsTextOf out.new.items line.now) }
-{
-    put_game_tree(alloc, out, tree, line, depth)?;
-    check_problem(alloc, out.as_slice(), line)
+    let front = front_text(alloc, tree, line, &found, is_end, is_cut)?;
+    put_bare_first_turns(&mut variations, line, &found)?;
+    variations.extend_from_slice(b")\n")?;
+    text_with_variations(
+        alloc,
+        tree.bytes,
+        front.as_slice(),
+        variations.as_slice(),
+        line,
+    )
 }

@@ -3,4 +3,4 @@ use Rattle.tsumego_show.specs.Written.{IsTextOf}
 use Rattle.tsumego_show.proofs.marking.tree_with_marks.Goals as goal
 
 pub returns-clause-reads : goal.returns-clause-reads
-returns-clause-reads c = subst (λ (text : List ℕ). IsTextOf text c.args.line.now) c.as_slice-2.ensures.value c.in_ok-check_problem.ensures
+returns-clause-reads c = subst (λ (text : List ℕ). IsTextOf text c.args.line.now) c.as_slice-2.ensures.value c.in_ok-check_problem.ensures.reads

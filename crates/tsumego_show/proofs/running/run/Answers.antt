@@ -1,4 +1,4 @@
-use Rattle.std.proofs.Common.{rules, Err, Ok, inl}
+use Rattle.std.proofs.Common.{rules, [], Err, Ok, inl, inr}
 use Rattle.std.proofs.lemmas.Result.{err_from_is_err_and}
 use Rattle.tsumego_show.proofs.Limit.{text_breaks, writes_read}
 use Rattle.tsumego_show.proofs.running.run.Goals as goal
@@ -16,3 +16,8 @@ returns-in_err-write_bytes-in-Ok-clause-written g c =
     rw (p.1, p.2) (writes_read c.args.mode _ c.as_slice.result.now (Err fault) _ _ (rw c.as_slice.ensures.value c.in_ok-input.ensures.read)
     (text_breaks c.args.mode c.as_slice.result.now c.as_slice-in-Ok.result.now c.status-status.result fault _ _
     (c.in-Ok.shown.refused, search rules, search rules) c.in_err-write_bytes-in-Ok.ensures.written))
+
+pub returns-in-Err-OtherProblem-clause-written : goal.returns-in-Err-OtherProblem-clause-written
+returns-in-Err-OtherProblem-clause-written g c =
+    writes_read c.args.mode _ c.as_slice.result.now (Ok 2) _ _ (rw c.as_slice.ensures.value c.in_ok-input.ensures.read)
+    ([], inr (c.writes_trees.ensures.0 c.if-writes_trees.true, search rules, search rules), search rules)

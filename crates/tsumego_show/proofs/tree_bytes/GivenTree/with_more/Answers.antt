@@ -10,4 +10,4 @@ returns c =
     let front = take at given in
     let behind = take (length given - at) (drop at given) in
     let all : behind ≡ drop at given = take_all (length given - at) (drop at given) (omega (arith, length-drop at given)) in
-    (front, c.args.more.now, behind, sym (take-append-drop at given) ∙ ap (λ l. front ++ l) (sym all), laid front c.args.more.now behind _ (search rules))
+    (front, c.args.more.now, behind, sym (take-append-drop at given) ∙ ap (λ l. front ++ l) (sym all), search rules, laid front c.args.more.now behind _ (search rules))
