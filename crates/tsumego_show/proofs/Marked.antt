@@ -18,7 +18,7 @@ use Rattle.tt_game.specs.declared.faults.GameFault.{GameFault}
 use Rattle.tt_game.specs.Nodes.{SQ, TR, has}
 use Rattle.tt_game.specs.Problems.{game_of, posed_problem, side_of}
 use Rattle.tt_marks.specs.Closings.{ClosesWall, with_stones}
-use Rattle.tt_marks.specs.Walls.{IsClosed, IsEnclosedGroup}
+use Rattle.tt_marks.specs.Walls.{IsClosed, IsEnclosedGroup, IsWalledIn}
 use Rattle.tsumego_show.specs.declared.mode.PointName.{PointName}
 use Rattle.tsumego_show.specs.declared.mode.WantedMarks.{WantedMarks}
 use Rattle.tsumego_show.specs.Written.{HasNoGroup, IsClosedText, IsEnclosedText, IsGivenWithMore, IsInnerUnlessNamed, IsMarkedOrKept, IsMarkedText}
@@ -53,10 +53,10 @@ module _ (name : Option PointName) (g : GameState) (q : ℕ) (taken : IsTaken na
 
 -- with stones that close the wall
 pub marked_setup : (text : List ℕ) (g : GameState) (q : ℕ) (k foe : Colour) (s : Size) (c : Colouring) (stones region squares : PointNumberSet) (made : Position)
-    (l : LineWithUndo) → s ≡ g.size → c ≡ g.present → foe ≡ other k → squares ≡ region → ClosesWall s c k q stones region
+    (l : LineWithUndo) → s ≡ g.size → c ≡ g.present → foe ≡ other k → squares ≡ region → (IsWalledIn s c k q → ⊥) → ClosesWall s c k q stones region
     → made ≡ record { size = s; points = with_stones s c foe stones } → l ≡ posed_problem g squares (target q) k
     → IsSetupText text l.frame made.points l.state.to_move → IsClosedText text g q
-marked_setup text g q k foe s c stones region squares made l size points others same closes stands posed is =
+marked_setup text g q k foe s c stones region squares made l size points others same unwalled closes stands posed is =
     let f : Frame = record { size = g.size; region = squares; targets = target q; defender = k } in
     let side = side_of k g.to_move in
     let on = subst (λ (x : LineWithUndo). IsSetupText text x.frame made.points x.state.to_move) posed is in
@@ -64,7 +64,9 @@ marked_setup text g q k foe s c stones region squares made l size points others 
     let added = subst (λ (x : Colour). IsSetupText text f (with_stones s c x stones) side) others placed in
     let sized = subst (λ (x : Size). ClosesWall x c k q stones region × IsSetupText text f (with_stones x c (other k) stones) side) size (closes, added) in
     let both = subst (λ (x : Colouring). ClosesWall g.size x k q stones region × IsSetupText text f (with_stones g.size x (other k) stones) side) points sized in
-    (k, squares, stones, subst (λ (x : PointNumberSet). ClosesWall g.size g.present k q stones x) (sym same) both.0, both.1)
+    let free : IsWalledIn g.size g.present k q → ⊥ =
+    subst (λ (x : Colouring). IsWalledIn g.size x k q → ⊥) points (subst (λ (x : Size). IsWalledIn x c k q → ⊥) size unwalled) in
+    (k, squares, stones, free, subst (λ (x : PointNumberSet). ClosesWall g.size g.present k q stones x) (sym same) both.0, both.1)
 
 module _ (wanted : WantedMarks) (given : List ℕ) (nodes : List Node) (text : List ℕ) where
   -- a tree stays as it was where marks stand there, its game can't be played, or no stone that may be meant marks a group

@@ -22,7 +22,7 @@ use Rattle.tt_game.specs.Line.{LineWithUndo}
 use Rattle.tt_game.specs.Nodes.{SQ, TR, has}
 use Rattle.tt_game.specs.Problems.{game_of, node_count_before_solution, posed_problem, problem_of, side_of}
 use Rattle.tt_marks.specs.Closings.{ClosesWall, with_stones}
-use Rattle.tt_marks.specs.Walls.{IsEnclosedGroup, IsInner}
+use Rattle.tt_marks.specs.Walls.{IsEnclosedGroup, IsInner, IsWalledIn}
 use Rattle.tsumego_show.specs.declared.mode.Mode.{Mode}
 use Rattle.tsumego_show.specs.declared.mode.Mode.TheVariants.{Picture, Diagram, Marks, Variations}
 use Rattle.tsumego_show.specs.declared.mode.PointName.{PointName}
@@ -89,9 +89,11 @@ abbrev pub IsEnclosedText : Option PointName → List ℕ → GameState → ℕ 
 IsEnclosedText name text g q = (k : Colour) × (squares : PointNumberSet) × IsEnclosedGroup g.size g.present k q squares × IsInnerUnlessNamed name g.size g.present squares
     × IsTextOf text (posed_problem g squares (target q) k)
 
--- a text is the game with more stones, which close the wall around the group of the stone on q, with such marks too, and who moves stays
+-- a text is the game with more stones, which close the wall around the group of the stone on q where it isn't walled in, with such marks too, and
+-- who moves stays
 abbrev pub IsClosedText : List ℕ → GameState → ℕ → Type 0
-IsClosedText text g q = (k : Colour) × (squares : PointNumberSet) × (stones : PointNumberSet) × ClosesWall g.size g.present k q stones squares
+IsClosedText text g q = (k : Colour) × (squares : PointNumberSet) × (stones : PointNumberSet) × (IsWalledIn g.size g.present k q → ⊥)
+    × ClosesWall g.size g.present k q stones squares
     × IsSetupText text (record { size = g.size; region = squares; targets = target q; defender = k }) (with_stones g.size g.present (other k) stones) (side_of k g.to_move)
 
 -- A text is the game with marks for the stone that is meant. Stones that close its wall are added only where that is wanted, and no stone

@@ -78,6 +78,11 @@ fn put_how_to_go_on(
 ) -> Result<(), ShowFault>
     requires { stone < point_count board.now.size }
 {
+    let found = region(board, colour, stone);
+    if 0 < found.wall.count() && is_inner(board, &found.points) {
+        let count = found.points.count();
+        return Ok(writeln!(out, "it is enclosed with {count}: mark it by hand")?);
+    }
     let ways = closings(alloc, board, colour, stone)?;
     if let Some(best) = ways.first() {
         let count = best.stones.count();

@@ -12,7 +12,7 @@ use Rattle.tt_board.specs.Reach.{entry_at}
 use Rattle.tt_board.specs.Stones.{IsSetOnBoard, PointNumberSet}
 use Rattle.tt_marks.specs.declared.proposals.Candidate.{Candidate}
 use Rattle.tt_marks.specs.Reached.{Has}
-use Rattle.tt_marks.specs.Walls.{IsClosed, IsEnclosedGroup, IsInner, IsOfInnerGroup, IsRegion, IsWholeWall}
+use Rattle.tt_marks.specs.Walls.{IsClosed, IsEnclosedGroup, IsInner, IsOfInnerGroup, IsRegion, IsWalledIn, IsWholeWall}
 
 both_ways : (a b : Bool) → (a ≡ true → b ≡ true) → (b ≡ true → a ≡ true) → a ≡ b
 both_ways true b there back = sym (there refl)
@@ -25,16 +25,30 @@ same_points s xs ys on_x on_y same = set.same_set nat_cmp_total set.nat_cmp-IsAn
     (λ p. both_ways (set.contains xs p) (set.contains ys p) (λ h. (same p (on_x p h)).0 h) (λ h. (same p (on_y p h)).1 h))
 
 -- a group has one whole wall, and one region
+one_region : (s : Size) (c : Colouring) (k : Colour) (q : ℕ) (wall region : PointNumberSet) → IsSetOnBoard s wall → IsSetOnBoard s region
+    → IsWholeWall s c k q (set.contains wall) → IsRegion s c k q (set.contains wall) (set.contains region)
+    → (w r : PointNumberSet) → IsSetOnBoard s w → IsSetOnBoard s r → IsWholeWall s c k q (set.contains w) → IsRegion s c k q (set.contains w) (set.contains r)
+    → (w ≡ wall) × (r ≡ region)
+one_region s c k q wall region wall_on on whole within w r w_on r_on w_whole r_within =
+    let walls : w ≡ wall = same_points s w wall w_on wall_on
+    (λ p in_p. (λ h. whole.whole (set.contains w) w_whole.is_wall p in_p h, λ h. w_whole.whole (set.contains wall) whole.is_wall p in_p h)) in
+    let its = subst (λ (x : PointNumberSet). IsRegion s c k q (set.contains x) (set.contains r)) walls r_within in
+    (walls, same_points s r region r_on on (λ p in_p. (λ h. (within p in_p).1 ((its p in_p).0 h), λ h. (its p in_p).1 ((within p in_p).0 h))))
+
 pub only_enclosed : (s : Size) (c : Colouring) (k : Colour) (q : ℕ) (wall region : PointNumberSet) → IsSetOnBoard s wall → IsSetOnBoard s region
     → IsWholeWall s c k q (set.contains wall) → IsRegion s c k q (set.contains wall) (set.contains region)
     → (points : PointNumberSet) → IsEnclosedGroup s c k q points → IsClosed wall region × (points ≡ region)
 only_enclosed s c k q wall region wall_on on whole within points e =
-    let walls : e.wall ≡ wall = same_points s e.wall wall e.wall_on_board wall_on
-    (λ p in_p. (λ h. whole.whole (set.contains e.wall) e.whole.is_wall p in_p h, λ h. e.whole.whole (set.contains wall) whole.is_wall p in_p h)) in
-    let its = subst (λ (w : PointNumberSet). IsRegion s c k q (set.contains w) (set.contains points)) walls e.within in
-    let same : points ≡ region = same_points s points region e.on_board on
-    (λ p in_p. (λ h. (within p in_p).1 ((its p in_p).0 h), λ h. (its p in_p).1 ((within p in_p).0 h))) in
-    (subst (λ (r : PointNumberSet). IsClosed wall r) same (subst (λ (w : PointNumberSet). IsClosed w points) walls e.closed), same)
+    let one = one_region s c k q wall region wall_on on whole within e.wall points e.wall_on_board e.on_board e.whole e.within in
+    (subst (λ (r : PointNumberSet). IsClosed wall r) one.1 (subst (λ (w : PointNumberSet). IsClosed w points) one.0 e.closed), one.1)
+
+-- so where it is walled in, that wall has a stone, and that region is inner
+pub walled_in_by : (s : Size) (c : Colouring) (k : Colour) (q : ℕ) (wall region : PointNumberSet) → IsSetOnBoard s wall → IsSetOnBoard s region
+    → IsWholeWall s c k q (set.contains wall) → IsRegion s c k q (set.contains wall) (set.contains region)
+    → IsWalledIn s c k q → (0 < set.len wall) × IsInner s c region
+walled_in_by s c k q wall region wall_on on whole within h =
+    let one = one_region s c k q wall region wall_on on whole within h.wall h.region h.wall_on_board h.on_board h.whole h.within in
+    (subst (λ (w : PointNumberSet). 0 < set.len w) one.0 h.has_stone, subst (λ (r : PointNumberSet). IsInner s c r) one.1 h.inner)
 
 -- so where that region isn't closed and inner, none is
 pub not_inner : (s : Size) (c : Colouring) (k : Colour) (q : ℕ) (wall region : PointNumberSet) → entry_at c q ≡ Some k

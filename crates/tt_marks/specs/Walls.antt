@@ -73,3 +73,14 @@ pub record IsEnclosedGroup (s : Size) (c : Colouring) (k : Colour) (q : ℕ) (re
 -- the group of the stone on q is enclosed, with an inner region
 abbrev pub IsOfInnerGroup : Size → Colouring → ℕ → Type 0
 IsOfInnerGroup s c q = (k : Colour) × (region : PointNumberSet) × IsEnclosedGroup s c k q region × IsInner s c region
+
+-- The group of the stone of colour k on q is walled in: its whole wall has a stone, and its region is inner, however many points it has
+pub record IsWalledIn (s : Size) (c : Colouring) (k : Colour) (q : ℕ) : Type 0 where
+  pub wall : PointNumberSet
+  pub wall_on_board : IsSetOnBoard s wall
+  pub whole : IsWholeWall s c k q (set.contains wall)
+  pub has_stone : 0 < set.len wall
+  pub region : PointNumberSet
+  pub within : IsRegion s c k q (set.contains wall) (set.contains region)
+  pub on_board : IsSetOnBoard s region
+  pub inner : IsInner s c region

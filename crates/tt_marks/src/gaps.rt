@@ -5,6 +5,7 @@ ghost use Rattle.std.specs.FinSet as set;
 ghost use Rattle.tt_sgf.specs.Sizes.{point_count};
 ghost use Rattle.tt_board.specs.Setup.{AllHaveLiberties};
 ghost use Rattle.tt_marks.specs.Closings.{AreClosings, AreEmptyPoints, AreEnclosing, ClosesWall, with_stones};
+ghost use Rattle.tt_marks.specs.Walls.{IsWalledIn};
 
 use crate::regions::{empties, is_inner, region, set_of};
 use crate::ways::{Ways, neighbours};
@@ -215,9 +216,18 @@ pub(crate) fn closings_by(
     Ok(found)
 }
 
+/// Whether the group of a stone of this colour is walled in already, however many points it has.
+fn is_walled_in(board: &Board, colour: Colour, stone: Point) -> bool
+    requires { stone < point_count board.now.size }
+    ensures { IsWalledIn board.now.size board.now.points colour stone → IsTrue result }
+{
+    let found = region(board, colour, stone);
+    0 < found.wall.count() && is_inner(board, &found.points)
+}
+
 /// The stones that close the wall around the group of a stone of this colour, at most `MOST_STONES` together, and as many in each closing:
-/// more are looked for only where fewer weren't found, and each is needed. The best come first: those of which fewest are beside a stone of
-/// the group's colour, then those that leave the group most room.
+/// more are looked for only where fewer weren't found, and each is needed. None where the group is walled in already. The best come first:
+/// those of which fewest are beside a stone of the group's colour, then those that leave the group most room.
 pub fn closings(
     alloc: Global,
     board: &Board,
@@ -225,8 +235,12 @@ pub fn closings(
     stone: Point,
 ) -> Result<Vec<Closing>, NoMemory>
     requires { stone < point_count board.now.size }
-    ensures { IfOk result (λ v. AreClosings board.now.size board.now.points colour stone v.items) }
+    ensures those { IfOk result (λ v. AreClosings board.now.size board.now.points colour stone v.items) }
+    ensures walled { IsWalledIn board.now.size board.now.points colour stone → IfOk result (λ v. v.items ≡ []) }
 {
+    if is_walled_in(board, colour, stone) {
+        return Ok(Vec::new(alloc));
+    }
     let ways = Ways::of(board, colour, stone);
     let fewest = ways.separate(MOST_STONES + 1);
     for stones in fewest..=MOST_STONES {
