@@ -37,7 +37,8 @@ pub trait WinnerSearch {
         requires ready { Self.ready self.now }
         ensures fewer { visits.new.left ≤ visits.old.left };
 
-    /// Makes parts of the proof that the side wins at the line, which the certifier then finds, or nothing at all.
+    /// Makes parts of the proof that the side wins at the line, which the certifier then finds, or nothing at all. `NoMemory` where memory
+    /// was refused for some of that.
     fn certify_ahead(
         &self,
         certifier: &mut Certifier<Advisor>,
@@ -101,10 +102,14 @@ fn find_by_attempts<S: WinnerSearch>(
         let Some(side) = search.search_winner(line, attempt, advisor, &mut certifier.visits)? else {
             return Ok(None);
         };
-        search.certify_ahead(certifier, line, side, depth, attempt)?;
+        let ahead = search.certify_ahead(certifier, line, side, depth, attempt);
         let found = certifier.certify(line, side, depth)?;
-        if found.is_some() || certifier.visits.left == 0 {
+        if found.is_some() {
             return Ok(found);
+        }
+        ahead?;
+        if certifier.visits.left == 0 {
+            return Ok(None);
         }
         if attempt == 0 {
             certifier.advice.restart_without_pruning();

@@ -2,7 +2,7 @@
 //!
 //! It is up to 512 turns deep. What isn't on the way down is never inlined, so that it takes no stack at each turn.
 
-ghost use Rattle.std.specs.Prelude.{◌≡◌, ◌≤◌, ◌<◌, ℕ, true, false, IfOk, IfSome, None};
+ghost use Rattle.std.specs.Prelude.{◌≡◌, ◌≤◌, ◌<◌, ℕ, true, IfOk, IfSome, None};
 ghost use Rattle.tt_game.specs.Game.{winner_of, opponent, IsLegal};
 ghost use Rattle.tt_life.specs.Life.{HasWonOrLives};
 ghost use Rattle.tt_proof.specs.declared.tree.TheConstants.{MOST_DEPTH};
@@ -14,12 +14,12 @@ ghost use Rattle.tt_dfpn.specs.inside.Certifying.{AreLegal, IsChildWithin};
 use crate::advice::{Advice, VisitsLeft};
 use crate::memo::Memo;
 use std::alloc::Global;
-use tt_game::{Line, Side, Turn};
+use tt_game::{Line, MOST_LEGAL, Side, Turn};
 use tt_proof::LifeProof;
 use tt_sgf::NoMemory;
 
 /// How many turns the certifier asks for at one line.
-const MOST_ADVISED_TURNS: u16 = 362;
+const MOST_ADVISED_TURNS: u16 = MOST_LEGAL as u16;
 
 /// Makes proofs after advice, and keeps them. All may end at life, or none does.
 #[derive(Drop)]
@@ -28,14 +28,6 @@ pub struct Certifier<A: Advice> {
     pub visits: VisitsLeft,
     alloc: Global,
     pub(crate) memo: Memo,
-}
-
-/// Whether two sides are the same.
-fn is_same_side(a: Side, b: Side) -> bool
-    ensures yes { result ≡ true → a ≡ b }
-    ensures no { result ≡ false → b ≡ opponent a }
-{
-    a == b
 }
 
 /// Whether a proof for the side may end at the line, since its targets live and the attacker is to move.
@@ -84,7 +76,7 @@ impl<A: Advice> Certifier<A> {
                 if ends_at_life(line, side, &mut self.memo) {
                     return self.proof_that_ends(line, side);
                 }
-                if is_same_side(line.to_move(), side) {
+                if line.to_move() == side {
                     let known = self.memo.known_proof(line, side, room)?;
                     if known.is_some() {
                         return Ok(known);
@@ -121,7 +113,7 @@ impl<A: Advice> Certifier<A> {
         if self.memo.has_ended() {
             return Ok(None);
         }
-        if !is_same_side(line.to_move(), side) {
+        if line.to_move() != side {
             return self.proof_by_reply(line, side, room);
         }
         self.memo.begin(line);

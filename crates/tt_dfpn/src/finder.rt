@@ -14,7 +14,7 @@ mod simulation;
 mod threats;
 mod transpositions;
 mod workers;
-pub(crate) mod zobrist;
+mod zobrist;
 
 pub use advisor::Advisor;
-pub use workers::{Finding, SharedSearch, SharedWork};
+pub use workers::{Finding, Guess, SharedSearch, SharedWork};

@@ -1,9 +1,9 @@
 //! Proofs by depth-first proof-number search (df-pn: A. Nagai, "Df-pn Algorithm for Searching AND/OR Trees and Its
 //! Applications", 2002).
 //!
-//! `find_proof` joins two halves that know each other by `Advice` alone. The finder searches with one table for all histories,
-//! which is fast and may err; it says what a side should play. The certifier makes a proof bottom up at the exact line, and
-//! believes nothing of that.
+//! `find_proof` joins two halves. The finder searches with one table for all histories, which is fast and may err; it says what a
+//! side should play. The certifier makes a proof bottom up at the exact line, and believes nothing of that. It knows the finder by
+//! `Advice` alone, and the finder doesn't know it: only `attempts` and `team` name both.
 //!
 //! | Module | What it has |
 //! |---|---|
@@ -14,7 +14,8 @@
 //! | `shared_proofs` | proofs that several certifiers share |
 //! | `team` | several certifiers of one proof |
 //! | `no_life` | life as the certifier sees it: it need not look again where there was none |
-//! | `life_cache` | what both halves know of the targets' life |
+//! | `life_cache` | what is known of the targets' life: each half has one |
+//! | `mixing` | numbers whose bits are mixed, of which both halves make their hashes |
 //! | `finder` | df-pn, with a board and tables of its own |
 
 #![tactic(auto)]
@@ -25,6 +26,7 @@ mod certifier;
 mod finder;
 mod life_cache;
 mod memo;
+mod mixing;
 mod no_life;
 mod shared_proofs;
 mod team;
@@ -32,5 +34,5 @@ mod team;
 pub use advice::{Advice, VisitsLeft};
 pub use attempts::{MOST_POSITIONS, OneFinder, WinnerSearch, find_life_proof, find_proof};
 pub use certifier::Certifier;
-pub use finder::{Advisor, Finding, SharedSearch, SharedWork};
+pub use finder::{Advisor, Finding, Guess, SharedSearch, SharedWork};
 pub use team::SharedCertification;

@@ -4,19 +4,28 @@
 use std::alloc::Global;
 use tt_sgf::NoMemory;
 
-/// How many are kept at most: 128 KB of them, which stay in the cache. Four times as many took as long.
-const MOST_KNOWN: usize = 16_384;
+/// How many of a key's upper bits are its index. So many are kept at most: 128 KB of them, which stay in the cache. Four times as many
+/// took as long.
+const INDEX_BITS: u32 = 14;
+
+const MOST_KNOWN: usize = 1 << INDEX_BITS;
 
 // The last two bits of a word: whether something is known, and whether the targets live.
 const IS_KNOWN: u64 = 2;
 
 const IS_ALIVE: u64 = 1;
 
-/// A word stands at the index that its key's upper 14 bits are, and is the key but for the last two bits. It's the last that was kept
-/// there. A key is a hash: nobody has to believe what is found.
+/// A word stands at its key's index, and is the key but for the last two bits. It's the last that was kept there. A key is a hash: nobody
+/// has to believe what is found.
 #[derive(Drop)]
 pub(crate) struct LifeCache {
     words: Vec<u64>,
+}
+
+/// The index of a key's word.
+#[inline(always)]
+fn index_of(key: u64) -> usize {
+    (key >> (u64::BITS - INDEX_BITS)) as usize
 }
 
 impl LifeCache {
@@ -30,7 +39,7 @@ impl LifeCache {
     /// Whether the targets live, where that is known.
     #[inline(always)]
     pub(crate) fn find(&self, key: u64) -> Option<bool> {
-        let word = *self.words.get((key >> 50) as usize)?;
+        let word = *self.words.get(index_of(key))?;
         if (word ^ key) | 3 == 3 && word & IS_KNOWN != 0 {
             Some(word & IS_ALIVE != 0)
         } else {
@@ -41,7 +50,7 @@ impl LifeCache {
     /// Keeps whether the targets live.
     #[inline(always)]
     pub(crate) fn keep(&mut self, key: u64, lives: bool) {
-        if let Some(word) = self.words.get_mut((key >> 50) as usize) {
+        if let Some(word) = self.words.get_mut(index_of(key)) {
             *word = key & !3 | IS_KNOWN | u64::from(lives);
         }
     }

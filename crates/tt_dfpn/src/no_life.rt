@@ -4,8 +4,8 @@
 ghost use Rattle.std.specs.Prelude.{◌≡◌, true};
 ghost use Rattle.tt_life.specs.Life.{IsUnconditionallyAlive};
 
-use crate::finder::zobrist::mixed;
 use crate::life_cache::LifeCache;
+use crate::mixing::mixed;
 use tt_game::Line;
 use tt_life::has_unconditional_life;
 

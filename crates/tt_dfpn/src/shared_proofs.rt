@@ -9,7 +9,7 @@ use once_cell::race::OnceBox;
 use std::alloc::Global;
 use std::sync::atomic::{AtomicBool, AtomicU64, Ordering};
 use tt_game::{Line, Side, Turn};
-use tt_proof::LifeProof;
+use tt_proof::{LifeProof, Tree};
 use tt_sgf::NoMemory;
 
 /// How many slots there are, and how many of them a key has: those from the one on that its hash names.
@@ -17,11 +17,15 @@ const SLOTS: usize = 262_144;
 
 const SLOTS_PER_KEY: usize = 4;
 
-/// How many boards kept proofs may hold: about 16 bytes each, so some 320 MB. Past it no more are kept here.
-pub(crate) const MOST_KEPT_BOARDS: usize = 20_000_000;
+/// How many bytes kept proofs may take, as they are counted. Past it no more are kept here.
+pub(crate) const MOST_KEPT_BYTES: usize = 320_000_000;
 
-/// What a kept proof counts for besides the boards of its footprint.
-const BOARDS_PER_PROOF: usize = 60;
+// For how much a kept proof counts: for the handles of its footprint's boards, for the entries of its reply, and for all else.
+const BYTES_PER_BOARD: usize = 16;
+
+const BYTES_PER_ENTRY: usize = 24;
+
+const BYTES_PER_PROOF: usize = 960;
 
 /// How many keys there is room for at which a certifier is.
 const MOST_BEGUN: usize = 4096;
@@ -31,13 +35,25 @@ const MOST_BEGUN: usize = 4096;
 pub(crate) struct SharedProofs {
     slots: Vec<OnceBox<LifeProof>>,
     begun: Vec<AtomicU64>,
-    boards: AtomicU64,
+    bytes: AtomicU64,
     has_ended: AtomicBool,
 }
 
-/// For how many boards a kept proof counts.
-pub(crate) fn counted_boards(proof: &LifeProof) -> usize {
-    proof.footprint_len().saturating_add(BOARDS_PER_PROOF)
+/// How many turns a reply answers; none where the tree is no reply.
+fn reply_entries(tree: &Tree) -> usize {
+    match tree {
+        Tree::Reply(entries) => entries.len(),
+        _ => 0,
+    }
+}
+
+/// For how many bytes a kept proof counts. Its tree's parts are those of other kept proofs.
+pub(crate) fn counted_bytes(proof: &LifeProof) -> usize {
+    let boards = proof.footprint_len().saturating_mul(BYTES_PER_BOARD);
+    let entries = reply_entries(proof.tree()).saturating_mul(BYTES_PER_ENTRY);
+    boards
+        .saturating_add(entries)
+        .saturating_add(BYTES_PER_PROOF)
 }
 
 /// The index of a hash's first slot.
@@ -64,7 +80,7 @@ impl SharedProofs {
         Ok(SharedProofs {
             slots,
             begun,
-            boards: AtomicU64::new(0),
+            bytes: AtomicU64::new(0),
             has_ended: AtomicBool::new(false),
         })
     }
@@ -109,10 +125,10 @@ impl SharedProofs {
 
     /// Keeps the proof for all, or hands it back where there is no room for it.
     pub(crate) fn keep(&self, alloc: Global, proof: LifeProof) -> Option<LifeProof> {
-        if self.boards.load(Ordering::Relaxed) > MOST_KEPT_BOARDS as u64 {
+        if self.bytes.load(Ordering::Relaxed) > MOST_KEPT_BYTES as u64 {
             return Some(proof);
         }
-        let boards = counted_boards(&proof) as u64;
+        let bytes = counted_bytes(&proof) as u64;
         let first = first_slot(proof.key_hash());
         let Ok(mut proof) = Box::new(alloc, proof) else {
             return None;
@@ -123,7 +139,7 @@ impl SharedProofs {
             };
             match slot.set(proof) {
                 Ok(()) => {
-                    self.boards.fetch_add(boards, Ordering::Relaxed);
+                    self.bytes.fetch_add(bytes, Ordering::Relaxed);
                     return None;
                 }
                 Err(back) => proof = back,

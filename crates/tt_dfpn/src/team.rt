@@ -64,7 +64,7 @@ impl<'a> SharedCertification<'a> {
         Ok(certifier)
     }
 
-    /// Makes the proof.
+    /// Makes the proof, where no other certifier has it first.
     fn certify(&self, certifier: &mut Certifier<Advisor>) -> Result<(), NoMemory>
         ensures fewer { certifier.new.visits.left ≤ certifier.old.visits.left }
     {
@@ -84,13 +84,24 @@ impl<'a> SharedCertification<'a> {
 }
 
 impl SharedWork for SharedCertification<'_> {
-    fn run_worker(&self, worker: u32, most: u32) -> Finding {
+    /// What a certifier finds it keeps for all.
+    type Found = ();
+
+    // Not inlined, so that the levels at which threads fork have small frames.
+    #[inline(never)]
+    fn run_worker(&self, worker: u32, most: u32) -> Finding<()> {
         match self.certifier(worker, most) {
             Ok(mut certifier) => {
-                let _ = self.certify(&mut certifier);
-                self.search.finding_without(most - certifier.visits.left)
+                let found = self.certify(&mut certifier);
+                Finding {
+                    found,
+                    visited: most - certifier.visits.left,
+                }
             }
-            Err(NoMemory) => self.search.finding_without(0),
+            Err(NoMemory) => Finding {
+                found: Err(NoMemory),
+                visited: 0,
+            },
         }
     }
 }

@@ -3,9 +3,9 @@
 ghost use Rattle.std.specs.Prelude.{◌≡◌, ◌≤◌, IfOk};
 ghost use Rattle.tt_proof.specs.declared.tree.TheConstants.{MOST_DEPTH};
 
-use crate::rounds::{MOST_WORKERS, Workers, count_visits};
+use crate::rounds::{MOST_DFPN_WORKERS, Workers, count_visits};
 use std::thread::Threads;
-use tt_dfpn::{Advisor, Certifier, SharedCertification};
+use tt_dfpn::{Advisor, Certifier, Finding, SharedCertification};
 use tt_game::{Line, Side};
 use tt_sgf::NoMemory;
 
@@ -32,9 +32,19 @@ pub(crate) fn certify_alone(
     Ok(found?.is_some())
 }
 
+/// `NoMemory` where a certifier had none.
+fn each_had_memory(findings: &[Finding<()>]) -> Result<(), NoMemory> {
+    for one in findings {
+        if one.found.is_err() {
+            return Err(NoMemory);
+        }
+    }
+    Ok(())
+}
+
 impl<R: Threads + Sync> Workers<'_, R> {
     /// Lets certifiers make the proof together, and hand what they made to the caller's, which keeps a share of the visits to put it
-    /// together.
+    /// together. `NoMemory` where memory was refused, also to one of them.
     pub(crate) fn certify_together(
         &self,
         certifier: &mut Certifier<Advisor>,
@@ -45,12 +55,14 @@ impl<R: Threads + Sync> Workers<'_, R> {
         requires depth { depth ≤ MOST_DEPTH }
         ensures fewer { certifier.new.visits.left ≤ certifier.old.visits.left }
     {
-        let workers = self.count.min(MOST_WORKERS) as u32;
+        let workers = self.count.min(MOST_DFPN_WORKERS) as u32;
         let share = certifier.visits.left / workers.saturating_add(1);
         let shared = SharedCertification::of(certifier, line, side, depth)?;
-        let findings = self.run_workers(&shared, workers, share)?;
+        let findings = self.run_workers(&shared, workers, share);
         shared.finish();
+        let findings = findings?;
+        let memory = each_had_memory(findings.as_slice());
         count_visits(findings, &mut certifier.visits);
-        Ok(())
+        memory
     }
 }

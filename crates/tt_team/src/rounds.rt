@@ -8,12 +8,14 @@ use crate::certifying::certify_alone;
 use std::alloc::Global;
 use std::thread;
 use std::thread::Threads;
-use tt_dfpn::{Advisor, Certifier, Finding, OneFinder, SharedWork, VisitsLeft, WinnerSearch};
+use tt_dfpn::{
+    Advisor, Certifier, Finding, Guess, OneFinder, SharedWork, VisitsLeft, WinnerSearch,
+};
 use tt_game::{Line, Side};
 use tt_sgf::NoMemory;
 
 /// So many workers search at most. The number was chosen without a measurement of more.
-pub(crate) const MOST_WORKERS: usize = 8;
+pub(crate) const MOST_DFPN_WORKERS: usize = 8;
 
 /// In the first attempts all workers search: the one that leaves out turns, and the one that leaves out none. In those after, the
 /// first worker has to know which lines the certifier refused.
@@ -41,7 +43,7 @@ pub struct Workers<'a, R> {
 }
 
 /// Takes the visits of all findings off those that are left.
-pub(crate) fn count_visits(mut findings: Vec<Finding>, visits: &mut VisitsLeft)
+pub(crate) fn count_visits<T: Drop>(mut findings: Vec<Finding<T>>, visits: &mut VisitsLeft)
     ensures { visits.new.left ≡ visits.old.left - sum_by (λ f. f.visited) findings.items }
 {
     while let Some(one) = findings.pop() {
@@ -50,16 +52,23 @@ pub(crate) fn count_visits(mut findings: Vec<Finding>, visits: &mut VisitsLeft)
 }
 
 /// Who wins, by the guess of the first worker that has one. `NoMemory` where none has, and a worker had no memory.
-fn guessed_winner(findings: &[Finding]) -> Result<Option<Side>, NoMemory> {
-    let mut guess = Ok(None);
+fn guessed_winner(findings: &[Finding<Guess>]) -> Result<Option<Side>, NoMemory> {
+    let mut lacks_memory = false;
     for one in findings {
-        match one.winner {
-            Ok(None) => continue,
-            Ok(Some(_)) => return one.winner,
-            Err(NoMemory) => guess = one.winner,
+        match &one.found {
+            Ok(guess) => {
+                if guess.winner.is_some() {
+                    return Ok(guess.winner);
+                }
+            }
+            Err(NoMemory) => lacks_memory = true,
         }
     }
-    guess
+    if lacks_memory {
+        Err(NoMemory)
+    } else {
+        Ok(None)
+    }
 }
 
 impl<R: Threads + Sync> Workers<'_, R> {
@@ -69,14 +78,14 @@ impl<R: Threads + Sync> Workers<'_, R> {
         work: &W,
         workers: u32,
         share: u32,
-    ) -> Result<Vec<Finding>, NoMemory>
+    ) -> Result<Vec<Finding<W::Found>>, NoMemory>
         ensures { IfOk result (λ v. All (λ f. f.visited ≤ share) v.items) }
     {
         let mut numbers = Vec::new(self.alloc);
         for worker in 0..workers {
             numbers.push(worker)?;
         }
-        let find = |worker: u32| -> Finding
+        let find = |worker: u32| -> Finding<W::Found>
             ensures { result.visited ≤ share }
         { work.run_worker(worker, share) };
         match thread::map_vec(self.rt, numbers, &find) {
@@ -100,13 +109,15 @@ impl<R: Threads + Sync> Workers<'_, R> {
         let search = advisor.shared_search(line, round)?;
         let share = round / workers.max(1);
         let findings = self.run_workers(&search, workers, share)?;
-        let before = visits.left;
         let winner = guessed_winner(findings.as_slice());
-        let first = findings.first().copied();
-        count_visits(findings, visits);
-        if let Some(finding) = first {
-            advisor.learn(&finding, before - visits.left);
+        if let Some(first) = findings.first() {
+            if let Ok(guess) = &first.found {
+                advisor.learn(guess);
+            }
         }
+        let before = visits.left;
+        count_visits(findings, visits);
+        advisor.count_visited(before - visits.left);
         winner
     }
 
@@ -123,7 +134,7 @@ impl<R: Threads + Sync> Workers<'_, R> {
         if alone.is_some() {
             return Ok(alone);
         }
-        let finders = self.count.min(MOST_WORKERS) as u32;
+        let finders = self.count.min(MOST_DFPN_WORKERS) as u32;
         let mut most = FIRST_ROUND_VISITS;
         for _ in 0..MOST_ROUNDS {
             if visits.left == 0 {

@@ -6,7 +6,7 @@ use crate::advice::{Advice, VisitsLeft};
 use crate::finder::board::{SearchBoard, SearchTurn};
 use crate::finder::search::{Finder, Listed, hashes_of};
 use crate::finder::transpositions::{LOST, ProofNumbers, UNKNOWN, WON};
-use crate::finder::workers::{Finding, SharedSearch, winner_by_numbers};
+use crate::finder::workers::{Guess, SharedSearch, winner_by_numbers};
 use std::alloc::Global;
 use tt_board::{Board, Colour};
 use tt_game::{Line, Side, Turn};
@@ -265,8 +265,8 @@ impl Advisor {
         self.finder.restart_without_pruning();
     }
 
-    /// Searches where the finder's board stands, with at most so many visits. Nobody else ends this search: what stops it is want of
-    /// memory.
+    /// Searches where the finder's board stands, with at most so many visits; what is known then, also where another worker ended the
+    /// search.
     fn search(
         &mut self,
         mover: Colour,
@@ -278,7 +278,7 @@ impl Advisor {
         let before = visits.left;
         let numbers = self.finder.search_from_board(mover, most, visits);
         self.visited = self.visited.saturating_add(before - visits.left);
-        if self.finder.has_stopped() {
+        if self.finder.lacks_memory() {
             return Err(NoMemory);
         }
         Ok(numbers)
@@ -308,9 +308,13 @@ impl Advisor {
         SharedSearch::of(&mut self.finder, line, visits, self.visited)
     }
 
-    /// Goes on from how often each turn won in a worker's search, behind so many more visits.
-    pub fn learn(&mut self, finding: &Finding, visited: u32) {
-        self.finder.wins = finding.wins;
+    /// Goes on from how often each turn won in a worker's search.
+    pub fn learn(&mut self, guess: &Guess) {
+        self.finder.wins = guess.wins;
+    }
+
+    /// Counts what workers visited for its problem.
+    pub fn count_visited(&mut self, visited: u32) {
         self.visited = self.visited.saturating_add(visited);
     }
 
@@ -334,8 +338,8 @@ impl Advisor {
                 return Ok(entry.best);
             }
         }
-        // a search that ran out of all visits says nothing
-        if visits.left > 0 {
+        // a search that ran out of all visits says nothing, nor does one that another worker ended
+        if visits.left > 0 && !self.finder.has_stopped() {
             self.finder.note_lost_line_and_parent(line, mover);
         }
         Ok(None)
@@ -352,6 +356,9 @@ impl Advice for Advisor {
     ) -> Result<Option<Turn>, NoMemory>
         ensures fewer { visits.new.left ≤ visits.old.left }
     {
+        if self.finder.has_ended() {
+            return Ok(None);
+        }
         self.finder.follow(line)?;
         let mover = self.finder.colour_of_side(line.to_move());
         if refused == 0 {

@@ -4,7 +4,7 @@
 //! Positions that differ by their history alone share one entry, but for lines that were found to differ (A. Kishimoto,
 //! M. Müller, "A General Solution to the Graph History Interaction Problem", 2004).
 
-ghost use Rattle.std.specs.Prelude.{◌≡◌, ◌<◌, ◌≤◌, length, true, false, IfSome};
+ghost use Rattle.std.specs.Prelude.{◌≡◌, ◌<◌, ◌≤◌, length, true, false, None, IfSome};
 
 use crate::advice::VisitsLeft;
 use crate::finder::board::{CELLS, SearchBoard, SearchTurn, index};
@@ -81,6 +81,14 @@ pub(crate) enum Listed {
     NoRepeat,
 }
 
+/// What stops a search before its visits are spent.
+#[derive(Clone, Copy, PartialEq, Eq)]
+pub(crate) enum Stop {
+    /// Another worker ended the work of all.
+    Ended,
+    NoMemory,
+}
+
 /// The finder.
 #[derive(Drop)]
 pub(crate) struct Finder {
@@ -102,6 +110,8 @@ pub(crate) struct Finder {
     pub(crate) prunes: bool,
     /// The search ends where no more visits are left than these.
     reserve: u32,
+    /// What stopped the last search, if anything did.
+    stop: Option<Stop>,
     /// The hashes of the positions from the first to here, by the room that was left there. Empty where nobody else holds the table.
     pub(crate) path: Vec<Hashes>,
     /// One more than the room at the first of them that another worker was seen to have settled; 0 where there is none.
@@ -217,6 +227,7 @@ impl Finder {
             lists: Vec::new(alloc),
             prunes: true,
             reserve: 0,
+            stop: None,
             path: Vec::new(alloc),
             cut: 0,
         })
@@ -292,6 +303,11 @@ impl Finder {
         !self.path.is_empty()
     }
 
+    /// Whether another worker ended the work of all.
+    pub(crate) fn has_ended(&self) -> bool {
+        self.shares_table() && self.main_table.shared().has_ended()
+    }
+
     /// Gives a line an entry of its own.
     pub(crate) fn keep_line_entry(
         &mut self,
@@ -333,7 +349,7 @@ impl Finder {
             place: place_of(hashes.position),
         };
         if list.push(child).is_err() {
-            self.stop_search();
+            self.stop_search(Stop::NoMemory);
             return;
         }
         for k in (1..list.len()).rev() {
@@ -453,15 +469,20 @@ impl Finder {
         }
     }
 
-    /// Ends the search that runs: it has no memory, or another worker settled the problem.
-    pub(crate) fn stop_search(&mut self) {
-        self.reserve = u32::MAX;
+    /// Stops the search that runs.
+    pub(crate) fn stop_search(&mut self, stop: Stop) {
+        self.stop = Some(stop);
     }
 
-    /// Whether the last search was so ended.
+    /// Whether the last search was stopped.
     #[inline(always)]
     pub(crate) fn has_stopped(&self) -> bool {
-        self.reserve == u32::MAX
+        self.stop.is_some()
+    }
+
+    /// Whether it was stopped for want of memory.
+    pub(crate) fn lacks_memory(&self) -> bool {
+        self.stop == Some(Stop::NoMemory)
     }
 
     /// An empty list.
@@ -483,11 +504,11 @@ impl Finder {
 
     /// Whether the search that runs is at its end.
     #[inline(always)]
-    fn is_out_of_visits(&self, visits: &VisitsLeft) -> bool
-        ensures over { result ≡ true → visits.now.left ≤ self.now.reserve }
+    fn is_over(&self, visits: &VisitsLeft) -> bool
+        ensures over { result ≡ true → self.now.stop ≡ None → visits.now.left ≤ self.now.reserve }
         ensures open { result ≡ false → self.now.reserve < visits.now.left }
     {
-        visits.left <= self.reserve
+        visits.left <= self.reserve || self.stop.is_some()
     }
 
     /// Searches where the board stands and a colour moves, until no more visits than these are left; what is known then.
@@ -495,6 +516,7 @@ impl Finder {
         ensures fewer { visits.new.left ≤ visits.old.left }
     {
         self.reserve = reserve;
+        self.stop = None;
         self.cut = 0;
         let most = ProofNumbers {
             proof: INFINITE,
@@ -536,9 +558,10 @@ impl Finder {
         visits: &mut VisitsLeft,
     ) -> ProofNumbers
         ensures fewer { visits.new.left ≤ visits.old.left }
-        ensures counts { self.old.reserve < visits.old.left → visits.new.left < visits.old.left }
+        ensures counts { self.old.stop ≡ None → self.old.reserve < visits.old.left
+            → visits.new.left < visits.old.left }
     {
-        if self.is_out_of_visits(visits) {
+        if self.is_over(visits) {
             return UNKNOWN;
         }
         visits.left -= 1;
@@ -674,7 +697,7 @@ impl Finder {
         numbers.proof >= most.proof
             || numbers.disproof >= most.disproof
             || numbers.is_settled()
-            || self.is_out_of_visits(visits)
+            || self.is_over(visits)
     }
 
     /// Keeps what a position's search came to.
@@ -715,7 +738,7 @@ impl Finder {
             return self.search(mover.other(), most, room - 1, visits);
         };
         if self.board.play(mover, p).is_err() {
-            self.stop_search();
+            self.stop_search(Stop::NoMemory);
             return UNKNOWN;
         }
         let numbers = self.search(mover.other(), most, room - 1, visits);

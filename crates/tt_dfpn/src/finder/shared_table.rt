@@ -127,8 +127,10 @@ pub(crate) struct SharedTable {
     has_ended: AtomicBool,
 }
 
-/// How many counts of workers there are: one for each number of 16 bits.
-const PLACES: usize = 65_536;
+/// How many bits of a key are the place where its workers are counted: those of a `u16`.
+const PLACE_BITS: u32 = u16::BITS;
+
+const PLACES: usize = 1 << PLACE_BITS;
 
 /// So many workers at a place count at most.
 const MOST_COUNTED: u64 = 8;
@@ -136,7 +138,7 @@ const MOST_COUNTED: u64 = 8;
 /// Where the workers at a key's position are counted: by bits that tell no buckets apart.
 #[inline(always)]
 pub(crate) fn place_of(key: u64) -> u16 {
-    (key >> 48) as u16
+    (key >> (u64::BITS - PLACE_BITS)) as u16
 }
 
 impl SharedTable {

@@ -16,7 +16,7 @@ ghost use Rattle.std.specs.Prelude.{◌≤◌};
 
 use crate::advice::VisitsLeft;
 use crate::finder::board::SearchTurn;
-use crate::finder::search::{Child, Finder, Hashes, Listed};
+use crate::finder::search::{Child, Finder, Hashes, Listed, Stop};
 use crate::finder::transpositions::{LOST, WON};
 use tt_board::Colour;
 
@@ -93,7 +93,7 @@ impl Finder {
             return self.is_as_twin(mover.other(), simulation, wins, visits);
         };
         if self.board.play(mover, p).is_err() {
-            self.stop_search();
+            self.stop_search(Stop::NoMemory);
             return false;
         }
         let is_as_twin = self.is_as_twin(mover.other(), simulation, wins, visits);

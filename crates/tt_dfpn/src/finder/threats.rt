@@ -11,7 +11,7 @@
 
 use crate::finder::board::{CELLS, PlayPreview, SearchTurn, index};
 use crate::finder::region::PointFlags;
-use crate::finder::search::{Child, Finder, Hashes, hashes_of};
+use crate::finder::search::{Child, Finder, Hashes, Stop, hashes_of};
 use crate::finder::transpositions::{LOST, ProofNumbers, WON};
 use tt_board::Colour;
 
@@ -111,7 +111,7 @@ impl Finder {
             }
         }
         if self.board.play(me, p).is_err() {
-            self.stop_search();
+            self.stop_search(Stop::NoMemory);
             return false;
         }
         let lives = self.are_targets_alive();
@@ -175,7 +175,7 @@ impl Finder {
     /// Whether the defender's play on a point makes life behind the attacker's play too.
     fn is_answered(&mut self, attacker: Colour, play: u16, p: u16) -> bool {
         if self.board.play(attacker, play).is_err() {
-            self.stop_search();
+            self.stop_search(Stop::NoMemory);
             return false;
         }
         let key = self.region.life_key(&self.board);

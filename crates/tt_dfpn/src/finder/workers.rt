@@ -1,15 +1,17 @@
 //! Several workers at one problem: each searches it from the start with a finder of its own, over one table of positions. What one
 //! settled is settled for all.
 
-ghost use Rattle.std.specs.Prelude.{◌≡◌, ◌≤◌, IfOk};
+ghost use Rattle.std.specs.Prelude.{◌≤◌};
 
 use crate::advice::VisitsLeft;
 use crate::finder::advisor::Advisor;
 use crate::finder::board::CELLS;
-use crate::finder::search::{COUNT_OF_WIN, Finder, Hashes, MOST_FINDER_DEPTH, NO_HASHES, Wins};
+use crate::finder::search::{
+    COUNT_OF_WIN, Finder, Hashes, MOST_FINDER_DEPTH, NO_HASHES, Stop, Wins,
+};
 use crate::finder::shared_table::SharedTable;
 use crate::finder::transpositions::{ProofNumbers, TranspositionTable};
-use crate::finder::zobrist::mixed;
+use crate::mixing::{GOLDEN, mixed};
 use std::alloc::Global;
 use std::sync::Arc;
 use tt_game::{Line, Side};
@@ -20,9 +22,19 @@ const VISITS_BETWEEN_LOOKS: u32 = 256;
 
 /// Work that workers share: each calls `run_worker`, in a thread of its own.
 pub trait SharedWork {
+    /// What a worker finds.
+    type Found: Send + Drop;
+
     /// What the worker of a number finds within so many visits. The first that is done ends the work of all.
-    fn run_worker(&self, worker: u32, most: u32) -> Finding
+    fn run_worker(&self, worker: u32, most: u32) -> Finding<Self::Found>
         ensures { result.visited ≤ most };
+}
+
+/// What a worker found, or that it had no memory; and how many positions it visited. `NoMemory` is never that another ended the work.
+#[derive(Drop)]
+pub struct Finding<T> {
+    pub found: Result<T, NoMemory>,
+    pub visited: u32,
 }
 
 /// A search of a line's problem, which workers share.
@@ -36,11 +48,10 @@ pub struct SharedSearch<'a> {
     visited: u32,
 }
 
-/// What a worker found: who wins, if it knows, or that it had no memory; how many positions it visited, and how often each turn won.
+/// What a search says: who wins, if it knows, and how often each turn won.
 #[derive(Clone, Copy)]
-pub struct Finding {
-    pub winner: Result<Option<Side>, NoMemory>,
-    pub visited: u32,
+pub struct Guess {
+    pub winner: Option<Side>,
     pub(crate) wins: Wins,
 }
 
@@ -60,7 +71,7 @@ fn wins_of_worker(wins: &Wins, worker: u32) -> Wins {
     let mut counts = *wins;
     for colour in 0..2 {
         for turn in 0..CELLS {
-            let seed = (turn as u64).wrapping_mul(0x9e37_79b9_7f4a_7c15) ^ u64::from(worker);
+            let seed = (turn as u64).wrapping_mul(GOLDEN) ^ u64::from(worker);
             let tie = (mixed(seed) % u64::from(COUNT_OF_WIN)) as u32;
             counts[colour][turn] = counts[colour][turn].wrapping_add(tie);
         }
@@ -99,17 +110,6 @@ impl<'a> SharedSearch<'a> {
         self.alloc
     }
 
-    /// A finding without a winner, behind so many visits.
-    pub(crate) fn finding_without(&self, visited: u32) -> Finding
-        ensures { result.visited ≡ visited }
-    {
-        Finding {
-            winner: Ok(None),
-            visited,
-            wins: self.wins,
-        }
-    }
-
     /// Ends the searches of all.
     pub(crate) fn set_ended(&self) {
         self.table.set_ended(true);
@@ -122,42 +122,39 @@ impl<'a> SharedSearch<'a> {
         Ok(Advisor::of_finder(finder, self.visited))
     }
 
-    /// What the worker of a number finds, or that there is no memory.
-    fn search_with_memory(&self, worker: u32, most: u32) -> Result<Finding, NoMemory>
-        ensures { IfOk result (λ f. f.visited ≤ most) }
+    /// What the finder of the worker of a number says. One that knows who wins ends the searches of all.
+    fn search(&self, worker: u32, visits: &mut VisitsLeft) -> Result<Guess, NoMemory>
+        ensures fewer { visits.new.left ≤ visits.old.left }
     {
         let mut finder = Finder::of_worker(self.alloc, self.line, &self.table, &self.wins, worker)?;
         finder.prunes = self.prunes;
         let mover = self.line.to_move();
         let colour = finder.colour_of_side(mover);
-        let mut visits = VisitsLeft { left: most };
-        let numbers = finder.search_from_board(colour, u32::MAX, &mut visits);
+        let numbers = finder.search_from_board(colour, u32::MAX, visits);
         let winner = winner_by_numbers(numbers, mover);
         if winner.is_some() {
-            self.table.set_ended(true);
+            self.set_ended();
+        } else if finder.lacks_memory() {
+            return Err(NoMemory);
         }
-        let lacks_memory = finder.has_stopped() && !self.table.has_ended();
-        Ok(Finding {
-            winner: if lacks_memory {
-                Err(NoMemory)
-            } else {
-                Ok(winner)
-            },
-            visited: most - visits.left,
+        Ok(Guess {
+            winner,
             wins: finder.wins,
         })
     }
 }
 
 impl SharedWork for SharedSearch<'_> {
-    fn run_worker(&self, worker: u32, most: u32) -> Finding {
-        match self.search_with_memory(worker, most) {
-            Ok(finding) => finding,
-            Err(NoMemory) => Finding {
-                winner: Err(NoMemory),
-                visited: 0,
-                wins: self.wins,
-            },
+    type Found = Guess;
+
+    // Not inlined, so that the levels at which threads fork have small frames.
+    #[inline(never)]
+    fn run_worker(&self, worker: u32, most: u32) -> Finding<Guess> {
+        let mut visits = VisitsLeft { left: most };
+        let found = self.search(worker, &mut visits);
+        Finding {
+            found,
+            visited: most - visits.left,
         }
     }
 }
@@ -191,8 +188,8 @@ impl Finder {
         if visits.left % VISITS_BETWEEN_LOOKS != 0 {
             return;
         }
-        if self.main_table.shared().has_ended() {
-            self.stop_search();
+        if self.has_ended() {
+            self.stop_search(Stop::Ended);
         }
         if self.cut > 0 {
             return;
