@@ -1,5 +1,5 @@
 //! The solution that df-pn finds.
-ghost use Rattle.std.specs.Prelude.{◌≡◌, ◌≢◌, ◌≤◌, None, IfOk, IfSome};
+ghost use Rattle.std.specs.Prelude.{◌≡◌, ◌≢◌, ◌≤◌, ℕ, None, IfOk, IfSome};
 ghost use Rattle.tt_game.specs.Game.{winner_of};
 ghost use Rattle.tt_game.specs.GameLaws.{IsWellFormedState};
 ghost use Rattle.tt_game.specs.Line.{LineWithUndo};
@@ -8,6 +8,7 @@ ghost use Rattle.tt_proof.specs.ProofClaim.{StandsAt};
 ghost use Rattle.tt_proof.specs.Strategy as strategy;
 ghost use Rattle.tt_search.specs.declared.limits.Limits.{Limits};
 ghost use Rattle.tt_solve.specs.declared.options.CertKind.{CertKind};
+ghost use Rattle.tt_solve.specs.inside.Lengths.{IsCertificateWithin};
 ghost use Rattle.tt_solve.specs.Solutions.{IsDecided};
 
 use crate::certificate_kinds::solution_of_proof;
@@ -70,7 +71,8 @@ fn plain_solution(
     requires state { IsWellFormedState line.now.frame line.now.state }
     requires stands { IfSome proof (λ p. StandsAt p line.now.frame line.now.state) }
     requires shallow { IfSome proof (λ p. strategy.depth p.tree ≤ options.limits.depth) }
-    ensures { IfOk result (λ o. IfSome o (IsDecided line.now options.limits options.cert)) }
+    ensures decided { IfOk result (λ o. IfSome o (IsDecided line.now options.limits options.cert)) }
+    ensures within { IfOk result (λ o. IfSome o (IsCertificateWithin most_bytes)) }
 {
     let Some(proof) = proof else {
         return Ok(None);
@@ -89,9 +91,10 @@ fn plain_solution(
 
 /// The solution that a proof at the line is whose tree may end at life, without a certificate.
 fn bare_solution(proof: &LifeProof) -> Solution
-    ensures { (line : LineWithUndo) (limits : Limits) → winner_of line.frame line.state ≡ None
+    ensures decided { (line : LineWithUndo) (limits : Limits) → winner_of line.frame line.state ≡ None
         → IsWellFormedState line.frame line.state
         → StandsAt proof.now line.frame line.state → IsDecided line limits CertKind.Unasked result }
+    ensures within { (most : ℕ) → IsCertificateWithin most result }
 {
     let side = proof.side();
     let first = proof.first();
@@ -113,7 +116,8 @@ fn shared_solution(
     requires open { winner_of line.now.frame line.now.state ≡ None }
     requires state { IsWellFormedState line.now.frame line.now.state }
     requires stands { StandsAt proof.now line.now.frame line.now.state }
-    ensures { IfOk result (λ o. IfSome o (IsDecided line.now limits.now CertKind.Shared)) }
+    ensures decided { IfOk result (λ o. IfSome o (IsDecided line.now limits.now CertKind.Shared)) }
+    ensures within { IfOk result (λ o. IfSome o (IsCertificateWithin most_bytes)) }
 {
     let side = proof.side();
     let tree = proof.tree();
@@ -142,7 +146,8 @@ fn life_solution(
     requires state { IsWellFormedState line.now.frame line.now.state }
     requires kind { options.cert ≢ CertKind.Plain }
     requires stands { IfSome proof (λ p. StandsAt p line.now.frame line.now.state) }
-    ensures { IfOk result (λ o. IfSome o (IsDecided line.now options.limits options.cert)) }
+    ensures decided { IfOk result (λ o. IfSome o (IsDecided line.now options.limits options.cert)) }
+    ensures within { IfOk result (λ o. IfSome o (IsCertificateWithin most_bytes)) }
 {
     let limits = options.limits;
     let Some(proof) = proof else {
@@ -167,7 +172,8 @@ pub(crate) fn dfpn_solution<S: WinnerSearch>(
     requires ready { S.ready search.now }
     requires open { winner_of line.now.frame line.now.state ≡ None }
     requires state { IsWellFormedState line.now.frame line.now.state }
-    ensures { IfOk result (λ o. IfSome o (IsDecided line.now options.limits options.cert)) }
+    ensures decided { IfOk result (λ o. IfSome o (IsDecided line.now options.limits options.cert)) }
+    ensures within { IfOk result (λ o. IfSome o (IsCertificateWithin most_bytes)) }
 {
     let Some(positions) = options.dfpn else {
         return Ok(None);

@@ -32,7 +32,7 @@ pub struct Options {
     pub total: Option<u32>,
     /// How many positions df-pn may visit before the search begins, where it is asked for: 1 to `MOST_POSITIONS`.
     pub dfpn: Option<u32>,
-    /// How many workers search: 1 to `MOST_WORKERS`.
+    /// How many workers df-pn and the search may have: 1 to `MOST_WORKERS`. `solve_alone` has none.
     pub workers: usize,
     /// Which certificate of each verdict is written.
     pub cert: CertKind,

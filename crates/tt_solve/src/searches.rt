@@ -12,7 +12,6 @@ use tt_game::Line;
 use tt_search::PrivateStore;
 use tt_sgf::NoMemory;
 use tt_share::{Answer, CertLog, Gate, solve_counting_grants, solve_one_within_total};
-use tt_team::Workers;
 
 /// The answer of a search in the caller's thread, over a store of its own.
 pub(crate) fn search_alone(alloc: Global, line: &Line, options: Options) -> Answer
@@ -26,7 +25,8 @@ pub(crate) fn search_alone(alloc: Global, line: &Line, options: Options) -> Answ
 /// The answer of a search by workers, over a log of their own; and how many expansions were granted of the total.
 #[tactic(auto, using(crate::proofs::Totals::counted))]
 pub(crate) fn search_by_workers<X: Threads + Wait + Sync, G: Gate>(
-    workers: &Workers<'_, X>,
+    rt: &X,
+    alloc: Global,
     line: &Line,
     options: Options,
     total: Option<u32>,
@@ -37,12 +37,10 @@ pub(crate) fn search_by_workers<X: Threads + Wait + Sync, G: Gate>(
         (λ r. HoldsByGrants line.now options.limits
         (λ t. IsAnswer line.now options.limits t r.0) total r.1) }
 {
-    let log = CertLog::new(workers.alloc)?;
-    let limits = options.limits;
-    let (rt, alloc) = (workers.rt, workers.alloc);
-    let count = options.workers;
+    let log = CertLog::new(alloc)?;
+    let (limits, workers) = (options.limits, options.workers);
     let (answer, granted) = solve_counting_grants(
-        rt, alloc, line, &limits, total, count, &log, gate,
+        rt, alloc, line, &limits, total, workers, &log, gate,
     );
     Ok((answer, granted))
 }

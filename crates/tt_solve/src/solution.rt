@@ -1,5 +1,6 @@
 //! What solving a problem gives.
-ghost use Rattle.std.specs.Prelude.{◌≡◌};
+ghost use Rattle.std.specs.Prelude.{◌≡◌, ◌↔◌, IsTrue};
+ghost use Rattle.tt_solve.specs.inside.Lengths.{IsCertificateWithin};
 ghost use Rattle.tt_solve.specs.Solutions.{value_of};
 
 use tt_game::{Side, Turn};
@@ -31,7 +32,9 @@ impl Solution {
     }
 
     /// Whether its certificate, where it has one, takes at most so many bytes.
-    pub(crate) fn has_certificate_within(&self, most_bytes: usize) -> bool {
+    pub(crate) fn has_certificate_within(&self, most_bytes: usize) -> bool
+        ensures { IsTrue result ↔ IsCertificateWithin most_bytes self.now }
+    {
         match self {
             Solution::Settled {
                 certificate: Some(bytes),

@@ -1,5 +1,5 @@
 //! Solves the problem at a line, and the positions behind its turns, within one total.
-ghost use Rattle.std.specs.Prelude.{◌≡◌, ◌≤◌, ℕ, Option, None, IfOk, IfSome, false};
+ghost use Rattle.std.specs.Prelude.{◌≡◌, ◌≤◌, ◌-◌, ℕ, Option, None, IfOk, IfSome, false};
 ghost use Rattle.tt_game.specs.Game.{IsLegal, winner_of};
 ghost use Rattle.tt_game.specs.GameLaws.{IsWellFormedState};
 ghost use Rattle.tt_game.specs.Line.{problem_after_turn};
@@ -55,114 +55,130 @@ fn total_left(total: Option<u32>, granted: u64) -> Option<u32>
     }
 }
 
-/// Solves the problem at a line: by df-pn, where it is asked for and its certificate takes at most so many bytes, or else by
-/// workers; and what is left of the total.
-fn solve_line<X: Threads + Wait + Sync, G: Gate>(
-    workers: &Workers<'_, X>,
-    line: &Line,
+/// What solves lines in the same way, with threads: a problem's, and those behind its turns.
+#[derive(Drop)]
+struct Solver<'a, X> {
+    rt: &'a X,
+    alloc: Global,
     options: Options,
-    total: Option<u32>,
+    /// How many bytes a certificate of df-pn's may take.
     most_bytes: usize,
-    gate: &G,
-) -> Result<(Solution, Option<u32>), NoMemory>
-    requires open { winner_of line.now.frame line.now.state ≡ None }
-    requires state { IsWellFormedState line.now.frame line.now.state }
-    ensures { IfOk result
-        (λ r. HoldsLeaving line.now options.limits
-        (λ t. IsSolution line.now options.limits t options.cert r.0) total r.1) }
-{
-    let lacked_memory = match dfpn_solution(workers.alloc, workers, line, options, most_bytes) {
-        Ok(Some(solution)) => return Ok((solution, total)),
-        Ok(None) => false,
-        Err(NoMemory) => true,
-    };
-    let (answer, granted) = search_by_workers(workers, line, options, total, gate)?;
-    let solution = solution_of_answer(workers.alloc, line, options, lacked_memory, &answer)?;
-    Ok((solution, total_left(total, granted)))
 }
 
-/// Which side wins at a line, or why that isn't known; and what is left of the total.
-fn value_at<X: Threads + Wait + Sync>(
-    workers: &Workers<'_, X>,
-    line: &Line,
-    options: Options,
-    total: Option<u32>,
-) -> (Result<Side, Reason>, Option<u32>)
-    requires { IsWellFormedState line.now.frame line.now.state }
-    ensures { HoldsLeaving line.now options.limits
-        (λ t. IsValueOrReason line.now options.limits t result.0) total result.1 }
-{
-    if let Some(side) = line.winner() {
-        return (Ok(side), total);
+impl<X: Threads + Wait + Sync> Solver<'_, X> {
+    /// Solves the problem at a line within what is left of the total: by df-pn, where it is asked for, or else by a search, both by workers;
+    /// and what is left then. The total of the options isn't read.
+    fn solve_line<G: Gate>(
+        &self,
+        line: &Line,
+        total: Option<u32>,
+        gate: &G,
+    ) -> Result<(Solution, Option<u32>), NoMemory>
+        requires open { winner_of line.now.frame line.now.state ≡ None }
+        requires state { IsWellFormedState line.now.frame line.now.state }
+        ensures { IfOk result
+            (λ r. HoldsLeaving line.now self.now.options.limits
+            (λ t. IsSolution line.now self.now.options.limits t self.now.options.cert r.0) total r.1) }
+    {
+        let (rt, alloc) = (self.rt, self.alloc);
+        let workers = Workers {
+            rt,
+            alloc,
+            count: self.options.workers,
+        };
+        let lacked_memory = match dfpn_solution(
+            alloc,
+            &workers,
+            line,
+            self.options,
+            self.most_bytes,
+        ) {
+            Ok(Some(solution)) => return Ok((solution, total)),
+            Ok(None) => false,
+            Err(NoMemory) => true,
+        };
+        let (answer, granted) = search_by_workers(rt, alloc, line, self.options, total, gate)?;
+        let solution = solution_of_answer(alloc, line, self.options, lacked_memory, &answer)?;
+        Ok((solution, total_left(total, granted)))
     }
-    match solve_line(workers, line, options, total, 0, &NoGate) {
-        Ok((solution, left)) => (solution.value(), left),
-        Err(NoMemory) => (Err(Reason::Memory), total),
-    }
-}
 
-/// Which side wins behind a legal turn, or why that isn't known; and what is left of the total.
-fn value_after_turn<X: Threads + Wait + Sync>(
-    workers: &Workers<'_, X>,
-    line: &Line,
-    options: Options,
-    total: Option<u32>,
-    turn: Turn,
-) -> (Result<Side, Reason>, Option<u32>)
-    requires state { IsWellFormedState line.now.frame line.now.state }
-    requires legal { IsLegal line.now.frame line.now.state turn }
-    ensures { HoldsLeaving (problem_after_turn line.now turn) options.limits
-        (λ t. IsValueOrReason (problem_after_turn line.now turn) options.limits t result.0) total result.1 }
-{
-    match line.after(turn) {
-        Ok(next) => value_at(workers, &next, options, total),
-        Err(NoMemory) => (Err(Reason::Memory), total),
+    /// Which side wins at a line, or why that isn't known; and what is left of the total.
+    fn value_at(&self, line: &Line, total: Option<u32>) -> (Result<Side, Reason>, Option<u32>)
+        requires { IsWellFormedState line.now.frame line.now.state }
+        ensures { HoldsLeaving line.now self.now.options.limits
+            (λ t. IsValueOrReason line.now self.now.options.limits t result.0) total result.1 }
+    {
+        if let Some(side) = line.winner() {
+            return (Ok(side), total);
+        }
+        match self.solve_line(line, total, &NoGate) {
+            Ok((solution, left)) => (solution.value(), left),
+            Err(NoMemory) => (Err(Reason::Memory), total),
+        }
     }
-}
 
-/// The values behind the legal turns of the problem at a line. Each turn has what those before it left of the total.
-fn values_of_turns<X: Threads + Wait + Sync>(
-    workers: &Workers<'_, X>,
-    line: &Line,
-    options: Options,
-    total: Option<u32>,
-) -> Result<Vec<(Turn, Result<Side, Reason>)>, NoMemory>
-    requires { IsWellFormedState line.now.frame line.now.state }
-    ensures { IfOk result
-        (λ values. (left : Option ℕ)
-        × AreTurnValues line.now options.limits total left (legal_turns line.now.frame line.now.state) values.items) }
-{
-    let turns = line.turns();
-    let mut values = Vec::new(workers.alloc);
-    let mut left = total;
-    for turn in turns.as_slice() {
-        let (value, rest) = value_after_turn(workers, line, options, left, *turn);
-        values.push((*turn, value))?;
-        left = rest;
+    /// Which side wins behind a legal turn, or why that isn't known; and what is left of the total.
+    fn value_after_turn(
+        &self,
+        line: &Line,
+        total: Option<u32>,
+        turn: Turn,
+    ) -> (Result<Side, Reason>, Option<u32>)
+        requires state { IsWellFormedState line.now.frame line.now.state }
+        requires legal { IsLegal line.now.frame line.now.state turn }
+        ensures { HoldsLeaving (problem_after_turn line.now turn) self.now.options.limits
+            (λ t. IsValueOrReason (problem_after_turn line.now turn) self.now.options.limits t result.0) total result.1 }
+    {
+        match line.after(turn) {
+            Ok(next) => self.value_at(&next, total),
+            Err(NoMemory) => (Err(Reason::Memory), total),
+        }
     }
-    Ok(values)
-}
 
-/// The same, nothing where it isn't asked for.
-fn values_asked<X: Threads + Wait + Sync>(
-    workers: &Workers<'_, X>,
-    line: &Line,
-    options: Options,
-    total: Option<u32>,
-) -> Result<Vec<(Turn, Result<Side, Reason>)>, NoMemory>
-    requires { IsWellFormedState line.now.frame line.now.state }
-    ensures { IfOk result
-        (λ values. AreTurnValuesAsked line.now options.limits total options.turns values.items) }
-{
-    if options.turns {
-        values_of_turns(workers, line, options, total)
-    } else {
-        Ok(Vec::new(workers.alloc))
+    /// The values behind the legal turns of the problem at a line. Each turn has what those before it left of the total.
+    fn values_of_turns(
+        &self,
+        line: &Line,
+        total: Option<u32>,
+    ) -> Result<Vec<(Turn, Result<Side, Reason>)>, NoMemory>
+        requires { IsWellFormedState line.now.frame line.now.state }
+        ensures { IfOk result
+            (λ values. (left : Option ℕ)
+            × AreTurnValues line.now self.now.options.limits total left (legal_turns line.now.frame line.now.state) values.items) }
+    {
+        let turns = line.turns();
+        let mut values = Vec::new(self.alloc);
+        let mut left = total;
+        for turn in turns.as_slice() {
+            let (value, rest) = self.value_after_turn(line, left, *turn);
+            values.push((*turn, value))?;
+            left = rest;
+        }
+        Ok(values)
+    }
+
+    /// The same, nothing where it isn't asked for.
+    fn values_asked(
+        &self,
+        line: &Line,
+        total: Option<u32>,
+    ) -> Result<Vec<(Turn, Result<Side, Reason>)>, NoMemory>
+        requires { IsWellFormedState line.now.frame line.now.state }
+        ensures { IfOk result
+            (λ values. AreTurnValuesAsked line.now self.now.options.limits total self.now.options.turns values.items) }
+    {
+        if self.options.turns {
+            self.values_of_turns(line, total)
+        } else {
+            Ok(Vec::new(self.alloc))
+        }
     }
 }
 
 /// How many bytes a certificate may take that `check` reads behind a problem's text of so many, with the ends of two lines.
-fn most_certificate_bytes(bytes: usize) -> usize {
+fn most_certificate_bytes(bytes: usize) -> usize
+    ensures { result ≡ MAX_BYTES - 2 - bytes }
+{
     (MAX_BYTES - 2).saturating_sub(bytes)
 }
 
@@ -182,14 +198,14 @@ pub fn solve<X: Threads + Wait + Sync, G: Gate>(
     requires state { IsWellFormedState line.now.frame line.now.state }
     ensures { IfOk result (IsSolved options line.now) }
 {
-    let most_bytes = most_certificate_bytes(bytes);
-    let workers = Workers {
+    let solver = Solver {
         rt,
         alloc,
-        count: options.workers,
+        options,
+        most_bytes: most_certificate_bytes(bytes),
     };
-    let (solution, left) = solve_line(&workers, line, options, options.total, most_bytes, gate)?;
-    let turn_values = values_asked(&workers, line, options, left)?;
+    let (solution, left) = solver.solve_line(line, options.total, gate)?;
+    let turn_values = solver.values_asked(line, left)?;
     Ok(Solved {
         solution,
         turn_values,

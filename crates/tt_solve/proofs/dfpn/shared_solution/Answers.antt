@@ -6,8 +6,8 @@ use Rattle.tt_solve.proofs.ProofCertificates.{shared_asked}
 use Rattle.tt_solve.proofs.ProofSolutions.{decided}
 use Rattle.tt_solve.proofs.dfpn.shared_solution.Goals as goal
 
-pub returns : goal.returns
-returns c =
+pub returns-clause-decided : goal.returns-clause-decided
+returns-clause-decided c =
     let line = c.args.line.now in
     let limits = c.args.limits.now in
     let p = c.args.proof.now in

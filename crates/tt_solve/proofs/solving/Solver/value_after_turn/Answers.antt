@@ -2,7 +2,7 @@ use Rattle.std.proofs.Common.{rules, subst, sym}
 use Rattle.tt_game.specs.GameLaws.{IsWellFormedState}
 use Rattle.tt_game.specs.Line.{LineWithUndo}
 use Rattle.tt_game.proofs.SomeSide.{state_after}
-use Rattle.tt_solve.proofs.solving.value_after_turn.Goals as goal
+use Rattle.tt_solve.proofs.solving.Solver.value_after_turn.Goals as goal
 
 pub value_at-requires : goal.value_at-requires
 value_at-requires g c =

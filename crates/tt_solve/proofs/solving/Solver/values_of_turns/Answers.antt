@@ -2,7 +2,7 @@ use Rattle.std.proofs.Common.{◌≡◌, ◌<◌, ℕ, List, rules, length, get_
 use Rattle.tt_game.specs.declared.turns.Turn.{Turn}
 use Rattle.tt_game.specs.Game.{IsLegal}
 use Rattle.tt_solve.proofs.TurnValues.{all_values, legal_there, next_value}
-use Rattle.tt_solve.proofs.solving.values_of_turns.Goals as goal
+use Rattle.tt_solve.proofs.solving.Solver.values_of_turns.Goals as goal
 
 pub value_after_turn-value-requires-clause-legal : goal.value_after_turn-value-requires-clause-legal
 value_after_turn-value-requires-clause-legal g c =
@@ -23,13 +23,13 @@ loop-turn-preserved g c =
     let is : turn ≡ get_or items n turn = search rules in
     record {
       all = c.loop-turn.invariant.all;
-      values = next_value c.args.line.now c.args.options.limits c.args.total c.loop-turn.left _ items n turn c.loop-turn.values.items _ c.value_after_turn-value.result.0 lt is
+      values = next_value c.args.line.now c.args.self.now.options.limits c.args.total c.loop-turn.left _ items n turn c.loop-turn.values.items _ c.value_after_turn-value.result.0 lt is
           c.loop-turn.invariant.values c.value_after_turn-value.ensures c.in_ok-push.ensures.items;
     }
 
 pub returns : goal.returns
 returns g c = (
   c.loop-turn.left,
-  all_values c.args.line.now c.args.options.limits c.args.total c.loop-turn.left c.as_slice-turn-items.result.now c.loop-turn.turn-index c.loop-turn.values.items
+  all_values c.args.line.now c.args.self.now.options.limits c.args.total c.loop-turn.left c.as_slice-turn-items.result.now c.loop-turn.turn-index c.loop-turn.values.items
       c.loop-turn-test.false c.loop-turn.invariant.all c.loop-turn.invariant.values,
 )

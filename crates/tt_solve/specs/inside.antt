@@ -1,0 +1,2 @@
+-- What private contracts and proofs cite. Nobody has to believe these.
+pub mod Lengths
