@@ -51,9 +51,13 @@ module _ (name : Option PointName) (g : GameState) (q : ℕ) (taken : IsTaken na
       let found = only squares (subst (λ (x : Colour). IsEnclosedGroup s c x q squares) same enclosed) in
       never (found.0, subst (λ (x : PointNumberSet). IsInnerUnlessNamed name s c x) found.1 inner))
 
+-- walled in on the board is walled in in the game
+pub walled_in_game : (g : GameState) (q : ℕ) (s : Size) (c : Colouring) → s ≡ g.size → c ≡ g.present → (k : Colour) → IsWalledIn s c k q → IsWalledIn g.size g.present k q
+walled_in_game g q s c size points k h = subst (λ (x : Colouring). IsWalledIn g.size x k q) points (subst (λ (x : Size). IsWalledIn x c k q) size h)
+
 -- with stones that close the wall
 pub marked_setup : (text : List ℕ) (g : GameState) (q : ℕ) (k foe : Colour) (s : Size) (c : Colouring) (stones region squares : PointNumberSet) (made : Position)
-    (l : LineWithUndo) → s ≡ g.size → c ≡ g.present → foe ≡ other k → squares ≡ region → (IsWalledIn s c k q → ⊥) → ClosesWall s c k q stones region
+    (l : LineWithUndo) → s ≡ g.size → c ≡ g.present → foe ≡ other k → squares ≡ region → (IsWalledIn g.size g.present k q → ⊥) → ClosesWall s c k q stones region
     → made ≡ record { size = s; points = with_stones s c foe stones } → l ≡ posed_problem g squares (target q) k
     → IsSetupText text l.frame made.points l.state.to_move → IsClosedText text g q
 marked_setup text g q k foe s c stones region squares made l size points others same unwalled closes stands posed is =
@@ -64,9 +68,7 @@ marked_setup text g q k foe s c stones region squares made l size points others 
     let added = subst (λ (x : Colour). IsSetupText text f (with_stones s c x stones) side) others placed in
     let sized = subst (λ (x : Size). ClosesWall x c k q stones region × IsSetupText text f (with_stones x c (other k) stones) side) size (closes, added) in
     let both = subst (λ (x : Colouring). ClosesWall g.size x k q stones region × IsSetupText text f (with_stones g.size x (other k) stones) side) points sized in
-    let free : IsWalledIn g.size g.present k q → ⊥ =
-    subst (λ (x : Colouring). IsWalledIn g.size x k q → ⊥) points (subst (λ (x : Size). IsWalledIn x c k q → ⊥) size unwalled) in
-    (k, squares, stones, free, subst (λ (x : PointNumberSet). ClosesWall g.size g.present k q stones x) (sym same) both.0, both.1)
+    (k, squares, stones, unwalled, subst (λ (x : PointNumberSet). ClosesWall g.size g.present k q stones x) (sym same) both.0, both.1)
 
 module _ (wanted : WantedMarks) (given : List ℕ) (nodes : List Node) (text : List ℕ) where
   -- a tree stays as it was where marks stand there, its game can't be played, or no stone that may be meant marks a group
@@ -90,7 +92,7 @@ module _ (wanted : WantedMarks) (given : List ℕ) (nodes : List Node) (text : L
 
     -- else it gets marks
     pub marked_there : list_any (has TR) (asking_nodes nodes) ≡ false → last_has_squares (asking_nodes nodes) ≡ false
-        → IsGivenWithMore given text × IsMarkedText wanted text game → IsMarkedOrKept wanted given nodes false text
+        → IsGivenWithMore given nodes text × IsMarkedText wanted text game → IsMarkedOrKept wanted given nodes false text
     marked_there triangles squares h = ((triangles, squares), h.0, (game, plays, h.1))
 
 -- the first node with triangles

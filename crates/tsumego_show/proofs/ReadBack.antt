@@ -5,7 +5,7 @@ use Rattle.std.specs.Prelude.{◌==◌}
 use Rattle.std.specs.List.{list_any}
 use Rattle.std.specs.declared.result.Result.{Result}
 use Rattle.tt_sgf.specs.Bytes.{open_tree}
-use Rattle.tt_sgf.specs.Grammar.{FirstTreeEndsAt, GameTree, GrammarIsUnambiguous, HasNoTree, main_line}
+use Rattle.tt_sgf.specs.Grammar.{FirstTreeEndsAt, GameTree, GrammarIsUnambiguous, main_line}
 use Rattle.tt_sgf.specs.declared.nodes.Node.{Node}
 use Rattle.tt_game.specs.declared.faults.GameFault.{GameFault}
 use Rattle.tt_game.specs.Line.{LineWithUndo}
@@ -27,14 +27,10 @@ starts_there text count t ends empty =
     let opened = opens ends.text t ends.spells in
     ap (λ l. slice_index_or l 0 0) (ends.parts ∙ ap (λ s. s ++ (ends.text ++ ends.rest)) empty ∙ ap (λ x. x ++ ends.rest) opened.1)
 
--- a text without a tree is no problem
-pub none_problem : (text : List ℕ) (q : LineWithUndo) → HasNoTree text → IsProblemText text q → ⊥
-none_problem text q none (count, t, one, is) = none t count one.0
-
 module _ (reading : GrammarIsUnambiguous) (text : List ℕ) (count : ℕ) (t : GameTree) (ends : FirstTreeEndsAt text count t) where
-  -- a text that is a problem has its tree alone
-  pub alone : (q : LineWithUndo) → IsProblemText text q → IsOneTree text count t
-  alone q (n, s, one, is) =
+  -- a text that is one tree has its first one alone
+  pub alone : (n : ℕ) (s : GameTree) → IsOneTree text n s → IsOneTree text count t
+  alone n s one =
       let same = reading text n count s t one.0 ends in
       subst (λ (k : ℕ). IsOneTree text k t) same.0 (subst (λ (g : GameTree). IsOneTree text n g) same.1 one)
 

@@ -1,11 +1,12 @@
 -- What the words behind the program's name ask for.
-use Rattle.std.specs.Prelude.{ℕ, ◌+◌, ◌-◌, ◌&&◌, ◌||◌, ◌==◌, nat_le, pos, Bool, true, false, List, [], ◌∷◌, codes, drop, unwrap_or, Option, Some, None, is_some, option_map, if◌then◌else◌}
+use Rattle.std.specs.Prelude.{ℕ, ◌&&◌, ◌==◌, nat_le, pos, Bool, true, false, List, [], ◌∷◌, codes, drop, unwrap_or, Option, Some, None, option_map, if◌then◌else◌}
+use Rattle.std.specs.List.{position}
+use Rattle.std.specs.Option.{option_or}
 use lib.Pointwise.{pointwise}
 use Rattle.std.specs.Char.{to_ascii_uppercase}
 use Rattle.clap.specs.Words.{App, Row, Rule, Text, all_of, first_of, new_app, new_rule, with_rule}
 use Rattle.clap.specs.declared.builder.action.ArgAction.TheVariants.{Append, SetTrue}
 use Rattle.clap.specs.declared.builder.value_parser.ValueParser.TheVariants.{Signed}
-use Rattle.tt_sgf.specs.Bytes.{lower_a, upper_A}
 use Rattle.tt_sgf.specs.Values.{number_of}
 use Rattle.tt_proof.specs.declared.tree.TheConstants.{MOST_DEPTH}
 use Rattle.tsumego_show.specs.declared.mode.Mode.{Mode}
@@ -15,36 +16,33 @@ use Rattle.tsumego_show.specs.declared.mode.PointName.TheVariants.{FromAbove, Fr
 
 -- ---- points
 
--- the column that a capital letter names in editors: A to H, and J to T, for they leave out I
-abbrev pub column_of_editor_letter : ℕ → Option ℕ
-column_of_editor_letter b =
-    if nat_le upper_A b && nat_le b (upper_A + 7) then Some (b - upper_A)
-    else (if nat_le (upper_A + 9) b && nat_le b (upper_A + 19) then Some (b - upper_A - 1) else None)
+-- the columns and rows in SGF, and the columns in editors, who leave out I
+abbrev pub sgf_letters : Text
+sgf_letters = codes "abcdefghijklmnopqrs"
 
--- the column or row that a letter names in SGF: a to s
-abbrev pub coordinate_of_sgf_letter : ℕ → Option ℕ
-coordinate_of_sgf_letter b = if nat_le lower_a b && nat_le b (lower_a + 18) then Some (b - lower_a) else None
+abbrev pub editor_letters : Text
+editor_letters = codes "ABCDEFGHJKLMNOPQRST"
 
--- the row of SGF, where one letter names it
-abbrev pub sgf_row : List ℕ → Option ℕ
-sgf_row [] = None
-sgf_row (b ∷ []) = coordinate_of_sgf_letter b
-sgf_row (b ∷ c ∷ bs) = None
+abbrev pub index_among : Text → ℕ → Option ℕ
+index_among letters b = position (λ other. other == b) letters
 
--- the number of a row is 1 to 19
-abbrev pub editor_point_name : Option ℕ → Option ℕ → Option PointName
-editor_point_name column None = None
-editor_point_name None (Some row) = None
-editor_point_name (Some column) (Some row) = if nat_le 1 row && nat_le row 19 then Some (FromBelow column row) else None
+-- `cb`, as SGF names a point
+abbrev pub from_above : Option ℕ → Option ℕ → Option PointName
+from_above (Some column) (Some row) = Some (FromAbove column row)
+from_above _ _ = None
 
-abbrev pub sgf_or_editor_point_name : ℕ → List ℕ → Option ℕ → Option PointName
-sgf_or_editor_point_name b bs None = editor_point_name (column_of_editor_letter (to_ascii_uppercase b)) (number_of bs)
-sgf_or_editor_point_name b bs (Some row) = option_map (λ column. FromAbove column row) (coordinate_of_sgf_letter b)
+abbrev pub sgf_name : Text → Option PointName
+sgf_name (a ∷ b ∷ []) = from_above (index_among sgf_letters a) (index_among sgf_letters b)
+sgf_name _ = None
 
--- the point that a word names: `cb` as SGF does, `C18` or `c18` as editors do
-abbrev pub point_name_of_word : List ℕ → Option PointName
-point_name_of_word [] = None
-point_name_of_word (b ∷ bs) = sgf_or_editor_point_name b bs (sgf_row bs)
+-- `C18` or `c18`, as editors name it: rows count from 1 to 19
+abbrev pub from_below : Option ℕ → Option ℕ → Option PointName
+from_below (Some column) (Some row) = if nat_le 1 row && nat_le row 19 then Some (FromBelow column row) else None
+from_below _ _ = None
+
+abbrev pub editor_name : Text → Option PointName
+editor_name [] = None
+editor_name (b ∷ bs) = from_below (index_among editor_letters (to_ascii_uppercase b)) (number_of bs)
 
 -- ---- words
 
@@ -84,31 +82,26 @@ words_in rows = unwrap_or (all_of (codes "words") rows) []
 
 -- POINT, where marks are wanted: the first of these words, if it names a point
 abbrev pub named_point : Bool → List Text → Option PointName
-named_point false words = None
-named_point true [] = None
-named_point true (w ∷ words) = point_name_of_word w
+named_point true (w ∷ words) = option_or (sgf_name w) (editor_name w)
+named_point _ _ = None
 
 -- the others are FILEs
 abbrev pub files_behind_point : Option PointName → List Text → List Text
 files_behind_point None words = words
 files_behind_point (Some name) words = drop 1 words
 
--- variations to 1 to 512 turns
-abbrev pub variations_to : Option ℕ → Option Mode
-variations_to None = None
-variations_to (Some n) = if nat_le 1 n && nat_le n MOST_DEPTH then Some (Variations (Some n)) else None
-
+-- the depth that `--sgf` goes with
 abbrev pub sgf_mode : Option Text → Option Mode
 sgf_mode None = Some (Variations None)
-sgf_mode (Some w) = variations_to (number_of w)
+sgf_mode (Some w) = option_map (λ n. Variations (Some n)) (number_of w)
 
--- one kind of text, with what goes with it: by `--svg`, `--sgf`, `--mark`, `--close`, the depth and the point
+-- what `--svg`, `--sgf`, `--mark`, `--close`, the depth and the point ask for: each other way to give them is refused
 abbrev pub mode_asked : Bool → Bool → Bool → Bool → Option Text → Option PointName → Option Mode
-mode_asked svg sgf mark close depth point =
-    if mark then (if svg || (sgf || is_some depth) then None else Some (Marks (record { name = point; closes = close })))
-    else (if close then None
-    else (if sgf then (if svg then None else sgf_mode depth)
-    else (if is_some depth then None else Some (if svg then Diagram else Picture))))
+mode_asked false false false false None point = Some Picture
+mode_asked true false false false None point = Some Diagram
+mode_asked false true false false depth point = sgf_mode depth
+mode_asked false false true close None point = Some (Marks (record { name = point; closes = close }))
+mode_asked _ _ _ _ _ _ = None
 
 -- a flag's text
 abbrev pub is_true : Option Text → Bool
@@ -118,11 +111,14 @@ is_true (Some w) = pointwise ◌==◌ w (codes "true")
 abbrev pub is_given : Text → List Row → Bool
 is_given name rows = is_true (first_of name rows)
 
+abbrev pub point_in : List Row → Option PointName
+point_in rows = named_point (is_given (codes "mark") rows) (words_in rows)
+
 -- what the matches of the words ask for
 abbrev pub mode_in : List Row → Option Mode
 mode_in rows = mode_asked (is_given (codes "svg") rows) (is_given (codes "sgf") rows) (is_given (codes "mark") rows) (is_given (codes "close") rows)
-    (first_of (codes "depth") rows) (named_point (is_given (codes "mark") rows) (words_in rows))
+    (first_of (codes "depth") rows) (point_in rows)
 
 -- the files that they name
 abbrev pub files_in : List Row → List Text
-files_in rows = files_behind_point (named_point (is_given (codes "mark") rows) (words_in rows)) (words_in rows)
+files_in rows = files_behind_point (point_in rows) (words_in rows)

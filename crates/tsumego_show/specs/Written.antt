@@ -5,6 +5,7 @@ use Rattle.std.specs.List.{list_any}
 use Rattle.std.specs.declared.result.Result.{Result}
 use Rattle.std.specs.FinSet as set
 use Rattle.tt_sgf.specs.declared.nodes.Node.{Node}
+use Rattle.tt_sgf.specs.declared.nodes.Property.{Property}
 use Rattle.tt_sgf.specs.declared.size.Size.{Size}
 use Rattle.tt_sgf.specs.declared.trees.TheConstants.{MAX_BYTES}
 use Rattle.tt_sgf.specs.Bytes.{close_tree, newline, open_tree}
@@ -111,9 +112,23 @@ from_open (b ∷ bs) = if b == open_tree then b ∷ bs else from_open bs
 abbrev pub as_given : List ℕ → List ℕ
 as_given given = given ++ (newline ∷ [])
 
--- the same with at most 1,024 bytes more in one place
-abbrev pub IsGivenWithMore : List ℕ → List ℕ → Type 0
-IsGivenWithMore given text = (front : List ℕ) × (more : List ℕ) × (behind : List ℕ) × (given ≡ front ++ behind) × (length more ≤ 1024) × (text ≡ front ++ (more ++ as_given behind))
+-- a node is another one with more properties in front
+abbrev pub IsNodeWithMore : Node → Node → Type 0
+IsNodeWithMore given read = (more : List Property) × (read.props ≡ more ++ given.props)
+
+-- a main line is another one with one node more, or with more properties in front at one node
+abbrev pub IsLineWithMore : List Node → List Node → Type 0
+IsLineWithMore given read = (front : List Node) × (added : Node) × (behind : List Node) × (read ≡ front ++ (added ∷ behind))
+    × ((given ≡ front ++ behind) ⊎ ((n : Node) × (given ≡ front ++ (n ∷ behind)) × IsNodeWithMore n added))
+
+-- a text, if it isn't too long to be read, is one tree, whose main line has these nodes and more in one place: so no move is lost in a comment
+abbrev pub IsTextWithNodes : List Node → List ℕ → Type 0
+IsTextWithNodes nodes text = length text ≤ MAX_BYTES → (count : ℕ) × (t : GameTree) × IsOneTree text count t × IsLineWithMore nodes (main_line t)
+
+-- the bytes of a tree with these nodes, and at most 1,024 bytes more in one place
+abbrev pub IsGivenWithMore : List ℕ → List Node → List ℕ → Type 0
+IsGivenWithMore given nodes text = ((front : List ℕ) × (more : List ℕ) × (behind : List ℕ) × (given ≡ front ++ behind) × (length more ≤ 1024)
+    × (text ≡ front ++ (more ++ as_given behind))) × IsTextWithNodes nodes text
 
 -- the nodes of a main line but those of a solution
 abbrev pub asking_nodes : List Node → List Node
@@ -139,7 +154,7 @@ AsksUnmarked nodes = (list_any (has TR) (asking_nodes nodes) ≡ false) × (last
 -- A tree without a problem, with these bytes and nodes, gets marks; or it is refused, and stays as it was. It is refused only where marks
 -- stand there already, its game can't be played, or no stone that may be meant marks a group.
 abbrev pub IsMarkedOrKept : WantedMarks → List ℕ → List Node → Bool → List ℕ → Type 0
-IsMarkedOrKept wanted given nodes false text = AsksUnmarked nodes × IsGivenWithMore given text × ((g : GameState) × (game_of nodes ≡ Ok g) × IsMarkedText wanted text g)
+IsMarkedOrKept wanted given nodes false text = AsksUnmarked nodes × IsGivenWithMore given nodes text × ((g : GameState) × (game_of nodes ≡ Ok g) × IsMarkedText wanted text g)
 IsMarkedOrKept wanted given nodes true text = (text ≡ as_given given)
     × (AsksUnmarked nodes → (g : GameState) → game_of nodes ≡ Ok g → HasNoGroup wanted.name g.size g.present)
 

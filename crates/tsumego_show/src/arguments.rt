@@ -1,11 +1,12 @@
 //! Reads the words behind the program's name.
-ghost use Rattle.std.specs.Prelude.{◌≡◌, ◌⊎◌, [], IfErr, IfOk, None, OnOk, Some, codes, false, true, map, option_map, string_bytes};
+ghost use Rattle.std.specs.Prelude.{◌≡◌, ◌≢◌, ◌⊎◌, ◌∷◌, ◌==◌, [], IfErr, IfOk, None, OnOk, Some, codes, false, true, map, option_map, string_bytes};
 ghost use Rattle.clap.specs.Words.{all_of, app_of, fault_of, first_of, found_of, kind_of, matches_of, new_app, rows_of, rule_of, takes, IsAmong};
 ghost use Rattle.clap.specs.declared.builder.command.Command.TheViews.{out-Command};
-ghost use Rattle.tt_sgf.specs.Values.{number_of};
-ghost use Rattle.tsumego_show.specs.CommandLine.{column_of_editor_letter, coordinate_of_sgf_letter, depth_arg, editor_point_name, files_behind_point, files_in, flag_word, is_given, mode_asked, mode_in, named_point, point_name_of_word, sgf_mode, sgf_row, show_app, variations_to, word_arg, words_in};
+ghost use Rattle.std.specs.List.{position};
+ghost use Rattle.tsumego_show.specs.CommandLine.{depth_arg, editor_name, files_behind_point, files_in, flag_word, is_given, mode_asked, mode_in, named_point, sgf_mode, sgf_name, show_app, word_arg, words_in};
 
 use crate::mode::{Asked, Mode, PointName, WantedMarks};
+use crate::picture::{EDITOR_LETTERS, SGF_LETTERS};
 use clap::error::ErrorKind;
 use clap::{Arg, ArgAction, ArgMatches, Command as Parser, Error, value_parser};
 use std::alloc::{AllocError, Global};
@@ -54,63 +55,36 @@ const CLOSE_ALONE: &str =
     "tsumego-show: --close goes with --mark: it adds the stones that close an open wall
 ";
 
-/// The column that a capital letter names in editors, who leave out I.
-fn column_of_editor_letter(letter: u8) -> Option<usize>
-    ensures { result ≡ column_of_editor_letter letter }
+/// The index of a letter among others.
+fn index_among(letters: &[u8], letter: u8) -> Option<usize>
+    ensures { result ≡ position (λ other. other == letter) letters.now }
 {
-    if b'A' <= letter && letter <= b'H' {
-        return Some(usize::from(letter - b'A'));
-    }
-    if b'J' <= letter && letter <= b'T' {
-        return Some(usize::from(letter - b'B'));
-    }
-    None
+    letters.iter().position(|other| *other == letter)
 }
 
-/// The column or row that a letter names in SGF.
-fn coordinate_of_sgf_letter(letter: u8) -> Option<usize>
-    ensures { result ≡ coordinate_of_sgf_letter letter }
+/// The place that a word names as SGF does.
+fn sgf_name(word: &[u8]) -> Option<PointName>
+    ensures { result ≡ sgf_name word.now }
 {
-    if b'a' <= letter && letter <= b's' {
-        return Some(usize::from(letter - b'a'));
-    }
-    None
+    let [column, row] = word else {
+        return None;
+    };
+    let column = index_among(SGF_LETTERS, *column)?;
+    let row = index_among(SGF_LETTERS, *row)?;
+    Some(PointName::FromAbove(column, row))
 }
 
-/// The row of SGF, where one letter names it.
-fn sgf_row(rest: &[u8]) -> Option<usize>
-    ensures { result ≡ sgf_row rest.now }
+/// The place that a word names as editors do.
+fn editor_name(word: &[u8]) -> Option<PointName>
+    ensures { result ≡ editor_name word.now }
 {
-    match rest {
-        [row] => coordinate_of_sgf_letter(*row),
-        _ => None,
-    }
-}
-
-/// The place in this column and in the row of this number.
-fn editor_point_name(column: Option<usize>, row: Option<u16>) -> Option<PointName>
-    ensures { result ≡ editor_point_name column row }
-{
-    let row = row?;
-    let column = column?;
+    let (letter, digits) = word.split_first()?;
+    let column = index_among(EDITOR_LETTERS, letter.to_ascii_uppercase())?;
+    let row = number(digits)?;
     if row == 0 || row > 19 {
         return None;
     }
     Some(PointName::FromBelow(column, usize::from(row)))
-}
-
-/// The place that a word names, as SGF or as editors do.
-fn point_name_of_word(word: &[u8]) -> Option<PointName>
-    ensures { result ≡ point_name_of_word word.now }
-{
-    let (first, rest) = word.split_first()?;
-    match sgf_row(rest) {
-        Some(row) => Some(PointName::FromAbove(coordinate_of_sgf_letter(*first)?, row)),
-        None => editor_point_name(
-            column_of_editor_letter(first.to_ascii_uppercase()),
-            number(rest),
-        ),
-    }
 }
 
 /// The point that the first word names, where marks are wanted.
@@ -120,19 +94,8 @@ fn named_point(mark: bool, words: &[&str]) -> Option<PointName>
     if !mark {
         return None;
     }
-    let (first, _) = words.split_first()?;
-    point_name_of_word(first.as_bytes())
-}
-
-/// Variations to the number of turns that a word says.
-fn variations_to(word: &[u8]) -> Option<Mode>
-    ensures { result ≡ variations_to (number_of word.now) }
-{
-    let depth = number(word)?;
-    if depth == 0 || depth > MOST_DEPTH {
-        return None;
-    }
-    Some(Mode::Variations(Some(usize::from(depth))))
+    let word = words.first()?.as_bytes();
+    sgf_name(word).or(editor_name(word))
 }
 
 /// Variations to the number of turns that a word says, or to as many as there is room for.
@@ -140,7 +103,10 @@ fn sgf_mode(word: Option<&str>) -> Option<Mode>
     ensures { result ≡ sgf_mode (option_map (λ s. s.now) word.entry) }
 {
     match word {
-        Some(word) => variations_to(word.as_bytes()),
+        Some(word) => {
+            let depth = number(word.as_bytes())?;
+            Some(Mode::Variations(Some(usize::from(depth))))
+        }
         None => Some(Mode::Variations(None)),
     }
 }
@@ -156,22 +122,13 @@ fn mode_asked(
 ) -> Option<Mode>
     ensures { result ≡ mode_asked svg sgf mark closes (option_map (λ s. s.now) depth.entry) name }
 {
-    if mark {
-        if svg || sgf || depth.is_some() {
-            return None;
-        }
-        return Some(Mode::Marks(WantedMarks { name, closes }));
+    match (svg, sgf, mark, closes, depth) {
+        (false, false, false, false, None) => Some(Mode::Picture),
+        (true, false, false, false, None) => Some(Mode::Diagram),
+        (false, true, false, false, depth) => sgf_mode(depth),
+        (false, false, true, closes, None) => Some(Mode::Marks(WantedMarks { name, closes })),
+        _ => None,
     }
-    if closes {
-        return None;
-    }
-    if sgf {
-        return if svg { None } else { sgf_mode(depth) };
-    }
-    if depth.is_some() {
-        return None;
-    }
-    Some(if svg { Mode::Diagram } else { Mode::Picture })
 }
 
 /// A flag.
@@ -289,9 +246,8 @@ fn mode_of(matches: &ArgMatches<'_>, words: &[&str]) -> Option<Mode>
 
 /// The files among these words.
 fn files_of<'a>(mark: bool, words: Vec<&'a str>) -> Vec<&'a str>
-    ensures { map (λ f. f.now) result.items
-        ≡ files_behind_point (named_point mark (map (λ w. w.now) words.entry.items)) (map
-        (λ w. w.now) words.entry.items) }
+    ensures { let given = map (λ w. w.now) words.entry.items in map (λ f. f.now) result.items
+        ≡ files_behind_point (named_point mark given) given }
 {
     let mut files = words;
     if named_point(mark, files.as_slice()).is_none() {
@@ -310,6 +266,7 @@ fn told_of_error(alloc: Global, error: &Error) -> Told
         ⊎ (kind_of error.now ≡ ErrorKind.DisplayVersion)
         → (result.status ≡ 0) ⊎ (string_bytes result.text ≡ []) }
     ensures memory { kind_of error.now ≡ ErrorKind.OutOfMemory → string_bytes result.text ≡ [] }
+    ensures text { result.status ≡ 0 → string_bytes result.text ≢ [] }
 {
     if error.kind() == ErrorKind::OutOfMemory {
         return unsaid(alloc);
@@ -317,10 +274,10 @@ fn told_of_error(alloc: Global, error: &Error) -> Told
     let is_asked = error.kind() == ErrorKind::DisplayHelp
         || error.kind() == ErrorKind::DisplayVersion;
     match error.to_string(alloc) {
-        Ok(text) => Told {
-            text,
-            status: if is_asked { 0 } else { 2 },
-        },
+        Ok(text) => {
+            let status = if is_asked && !text.is_empty() { 0 } else { 2 };
+            Told { text, status }
+        }
         Err(AllocError) => unsaid(alloc),
     }
 }
@@ -381,6 +338,11 @@ pub fn asked_by_words<'a>(alloc: Global, words: &'a [String]) -> Result<Asked<'a
     ensures told { IfErr result (λ told. told.status ≡ 0
         → IsAmong ErrorKind.DisplayHelp (fault_of show_app (map string_bytes words.now))
         ⊎ IsAmong ErrorKind.DisplayVersion (fault_of show_app (map string_bytes words.now))) }
+    ensures shown { IfErr result
+        (λ told. (fault_of show_app (map string_bytes words.now) ≡ ErrorKind.DisplayHelp ∷ [])
+        ⊎ (fault_of show_app (map string_bytes words.now) ≡ ErrorKind.DisplayVersion ∷ [])
+        → (told.status ≡ 0) ⊎ (string_bytes told.text ≡ [])) }
+    ensures text { IfErr result (λ told. told.status ≡ 0 → string_bytes told.text ≢ []) }
     ensures taken { takes show_app (map string_bytes words.now) ≡ true
         → IfErr result (λ told. (string_bytes told.text ≡ [])
         ⊎ (mode_in (matches_of show_app (map string_bytes words.now)) ≡ None)) }

@@ -2,9 +2,10 @@
 ghost use Rattle.std.specs.Prelude.{◌≡◌, ◌<◌, ◌↔◌, IfOk, IfSome, IsTrue, MatchOption, Ok, Some, false, is_some, true};
 ghost use Rattle.std.specs.List.{list_any};
 ghost use Rattle.tt_sgf.specs.Sizes.{point_count};
+ghost use Rattle.tt_board.specs.Reach.{entry_at};
 ghost use Rattle.tt_game.specs.Nodes.{TR, has};
 ghost use Rattle.tt_game.specs.Problems.{game_of, posed_problem};
-ghost use Rattle.tt_marks.specs.Walls.{IsClosed};
+ghost use Rattle.tt_marks.specs.Walls.{IsClosed, IsWalledIn};
 ghost use Rattle.tsumego_show.specs.Written.{HasNoGroup, IsClosedText, IsGivenWithMore, IsInnerUnlessNamed, IsMarkedOrKept, IsMarkedText, IsSetupText, IsTaken};
 ghost use Rattle.tsumego_show.specs.Written.{IsTextOf, as_given, asking_nodes, has_triangles_alone, last_has_squares, target};
 
@@ -25,7 +26,8 @@ use std::io::Write;
 use tt_board::{Board, Colour};
 use tt_game::{Game, GameFault, Line, game_before_solution, has_value, node_count_before_solution};
 use tt_marks::{
-    Closing, WalledRegion, board_with_stones, closings, group, is_inner, proposed_stone, region,
+    Closing, WalledRegion, board_with_stones, closings, group, is_inner, is_walled_in,
+    proposed_stone, region,
 };
 use tt_sgf::{Node, Point, PointSet, Size};
 
@@ -96,7 +98,7 @@ fn put_node_with_stones(out: &mut Vec<u8>, line: &Line, added: &PointSet) -> Res
 
 /// The tree with the marks of a problem at the head of the node where it asks.
 fn tree_with_marks(alloc: Global, tree: &GivenTree, line: &Line) -> Result<Vec<u8>, ShowFault>
-    ensures given { IfOk result (λ text. IsGivenWithMore tree.now.bytes.now text.items) }
+    ensures given { IfOk result (λ text. IsGivenWithMore tree.now.bytes.now tree.now.main.nodes text.items) }
     ensures reads { IfOk result (λ text. IsTextOf text.items line.now) }
 {
     let mut marks = Vec::new(alloc);
@@ -116,7 +118,7 @@ fn tree_with_stones(
     board: &Board,
     added: &PointSet,
 ) -> Result<Vec<u8>, ShowFault>
-    ensures given { IfOk result (λ text. IsGivenWithMore tree.now.bytes.now text.items) }
+    ensures given { IfOk result (λ text. IsGivenWithMore tree.now.bytes.now tree.now.main.nodes text.items) }
     ensures reads { IfOk result
         (λ text. IsSetupText text.items line.now.frame board.now.points line.now.state.to_move) }
 {
@@ -215,9 +217,11 @@ fn closed_tree(
     colour: Colour,
     stone: Point,
 ) -> Result<Option<Vec<u8>>, ShowFault>
-    requires { stone < point_count game.size }
+    requires on_board { stone < point_count game.size }
+    requires stands { entry_at game.present stone ≡ Some colour }
+    requires open { IsWalledIn game.size game.present colour stone → ⊥ }
     ensures { IfOk result
-        (λ made. IfSome made (λ text. IsGivenWithMore tree.now.bytes.now text.items
+        (λ made. IfSome made (λ text. IsGivenWithMore tree.now.bytes.now tree.now.main.nodes text.items
         × IsClosedText text.items game stone)) }
 {
     let board = game.present();
@@ -274,7 +278,7 @@ fn marked_tree(
     requires { IsTaken wanted.name game.size game.present (Some stone) }
     ensures { IfOk result
         (λ made. MatchOption made (HasNoGroup wanted.name game.size game.present)
-        (λ text. IsGivenWithMore tree.now.bytes.now text.items
+        (λ text. IsGivenWithMore tree.now.bytes.now tree.now.main.nodes text.items
         × IsMarkedText wanted text.items game)) }
 {
     let board = game.present();
@@ -294,6 +298,9 @@ fn marked_tree(
     if !wanted.closes {
         return Ok(None);
     }
+    if is_walled_in(board, colour, stone) {
+        return Ok(None);
+    }
     match closed_tree(alloc, hints, tree, game, colour, stone)? {
         Some(text) => Ok(Some(text)),
         None => Ok(None),
@@ -311,7 +318,7 @@ fn tree_with_any_marks(
 ) -> Result<Option<Vec<u8>>, ShowFault>
     requires { IsTaken wanted.name game.size game.present stone }
     ensures { IfOk result (λ made. MatchOption made (HasNoGroup wanted.name game.size game.present)
-        (λ text. IsGivenWithMore tree.now.bytes.now text.items
+        (λ text. IsGivenWithMore tree.now.bytes.now tree.now.main.nodes text.items
         × IsMarkedText wanted text.items game)) }
 {
     let Some(stone) = stone else {

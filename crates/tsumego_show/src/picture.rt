@@ -9,9 +9,9 @@ use tt_game::{Frame, Line};
 use tt_sgf::{Point, PointSet, Size};
 
 /// The letters of columns as SGF and as editors have them, who leave out I.
-const SGF_LETTERS: &[u8; 19] = b"abcdefghijklmnopqrs";
+pub const SGF_LETTERS: &[u8; 19] = b"abcdefghijklmnopqrs";
 
-const EDITOR_LETTERS: &[u8; 19] = b"ABCDEFGHJKLMNOPQRST";
+pub const EDITOR_LETTERS: &[u8; 19] = b"ABCDEFGHJKLMNOPQRST";
 
 /// What is shown of a point.
 fn point_symbol(frame: &Frame, board: &Board, point: Point) -> u8

@@ -1,16 +1,17 @@
 //! Reads back what is written, by the reader that any problem is read by, so that no other problem is written than the one that is meant.
 //! A text that is longer than any that can be read is not read back.
-ghost use Rattle.std.specs.Prelude.{◌≡◌, ◌<◌, ◌≤◌, ◌↔◌, ◌++◌, Err, IfOk, IsTrue, MatchOption, [], drop, length};
+ghost use Rattle.std.specs.Prelude.{◌≡◌, ◌<◌, ◌≤◌, ◌↔◌, ◌++◌, ℕ, Err, IfOk, IsTrue, MatchOption, [], drop, length};
 ghost use Rattle.tt_sgf.specs.declared.trees.TheConstants.{MAX_BYTES};
-ghost use Rattle.tt_sgf.specs.Grammar.{FirstTreeEndsAt, GameTree, HasOpeningParenthesis};
+ghost use Rattle.tt_sgf.specs.Grammar.{FirstTreeEndsAt, GameTree, HasOpeningParenthesis, main_line};
 ghost use Rattle.tt_game.specs.Line.{LineWithUndo};
-ghost use Rattle.tsumego_show.specs.Written.{IsProblemText, IsSetupText, IsTextOf, IsTextWithVariations};
+ghost use Rattle.tsumego_show.specs.Written.{IsOneTree, IsProblemText, IsSetupText, IsTextOf, IsTextWithNodes, IsTextWithVariations};
 
+use crate::same_nodes::is_line_with_more;
 use crate::shown::ShowFault;
 use std::alloc::Global;
 use tt_board::Board;
 use tt_game::{Frame, GameFault, Line, Side, problem};
-use tt_sgf::{SgfFault, has_tree, laws, read_tree};
+use tt_sgf::{MainLine, Node, SgfFault, has_tree, laws, read_tree};
 
 /// Bytes of the answer that stand in front of the variations at most: labels of 361 points, their names in words, a name and a comment.
 const MOST_ANSWER: usize = 4_096;
@@ -25,6 +26,42 @@ fn is_one_tree(text: &[u8], used: usize) -> bool
     text[0] == b'(' && !has_tree(&text[used..])
 }
 
+/// The main line of a text, which is one tree; none where the text is too long. It says `OtherProblem` only where the text is none.
+fn only_line(alloc: Global, text: &[u8]) -> Result<Option<MainLine>, ShowFault>
+    ensures read { IfOk result (λ found. MatchOption found (MAX_BYTES < length text.now)
+        (λ main. (length text.now ≤ MAX_BYTES) × ((count : ℕ) × (t : GameTree) × IsOneTree text.now count t
+        × (main.nodes ≡ main_line t)))) }
+    ensures other { result ≡ Err ShowFault.OtherProblem → (length text.now ≤ MAX_BYTES)
+        × ((count : ℕ) (t : GameTree) → IsOneTree text.now count t → ⊥) }
+{
+    laws::grammar_is_unambiguous();
+    match read_tree(alloc, text) {
+        Ok((main, used)) => {
+            if is_one_tree(text, used) {
+                Ok(Some(main))
+            } else {
+                Err(ShowFault::OtherProblem)
+            }
+        }
+        Err(SgfFault::Syntax) => Err(ShowFault::OtherProblem),
+        Err(SgfFault::TooLong) => Ok(None),
+        Err(SgfFault::NoMemory) => Err(ShowFault::NoMemory),
+    }
+}
+
+/// Sees that a text is one tree, whose main line has these nodes and more in one place.
+pub fn check_nodes(alloc: Global, text: &[u8], nodes: &[Node]) -> Result<(), ShowFault>
+    ensures { IfOk result (λ _. IsTextWithNodes nodes.now text.now) }
+{
+    match only_line(alloc, text) {
+        Ok(Some(main)) if !is_line_with_more(nodes, main.nodes.as_slice()) => {
+            Err(ShowFault::OtherProblem)
+        }
+        Ok(_) => Ok(()),
+        Err(fault) => Err(fault),
+    }
+}
+
 /// The problem that a text is, which is one tree; none where the text is too long. It says `OtherProblem` only where the text is none.
 fn first_problem(alloc: Global, text: &[u8]) -> Result<Option<Line>, ShowFault>
     ensures read { IfOk result (λ found. MatchOption found (MAX_BYTES < length text.now)
@@ -33,20 +70,15 @@ fn first_problem(alloc: Global, text: &[u8]) -> Result<Option<Line>, ShowFault>
         × ((q : LineWithUndo) → IsProblemText text.now q → ⊥) }
 {
     laws::grammar_is_unambiguous();
-    match read_tree(alloc, text) {
-        Ok((main, used)) => {
-            if !is_one_tree(text, used) {
-                return Err(ShowFault::OtherProblem);
-            }
-            match problem(alloc, &main) {
-                Ok(line) => Ok(Some(line)),
-                Err(GameFault::NoMemory) => Err(ShowFault::NoMemory),
-                Err(_) => Err(ShowFault::OtherProblem),
-            }
-        }
-        Err(SgfFault::Syntax) => Err(ShowFault::OtherProblem),
-        Err(SgfFault::TooLong) => Ok(None),
-        Err(SgfFault::NoMemory) => Err(ShowFault::NoMemory),
+    let main = match only_line(alloc, text) {
+        Ok(Some(main)) => main,
+        Ok(None) => return Ok(None),
+        Err(fault) => return Err(fault),
+    };
+    match problem(alloc, &main) {
+        Ok(line) => Ok(Some(line)),
+        Err(GameFault::NoMemory) => Err(ShowFault::NoMemory),
+        Err(_) => Err(ShowFault::OtherProblem),
     }
 }
 

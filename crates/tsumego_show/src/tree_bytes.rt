@@ -2,6 +2,7 @@
 ghost use Rattle.std.specs.Prelude.{◌≡◌, ◌≤◌, IfOk, length};
 ghost use Rattle.tsumego_show.specs.Written.{IsGivenWithMore, as_given, from_open};
 
+use crate::reading_back::check_nodes;
 use crate::shown::ShowFault;
 use std::alloc::Global;
 use tt_sgf::{MainLine, Node};
@@ -36,10 +37,11 @@ impl<'a> GivenTree<'a> {
         Ok(text)
     }
 
-    /// The tree with more bytes in front of that of this index. They are no more than marks and added stones take.
+    /// The tree with more bytes in front of that of this index: no more than marks and added stones take, and no node is lost by them.
     pub fn with_more(&self, alloc: Global, at: usize, more: &[u8]) -> Result<Vec<u8>, ShowFault>
         requires { at ≤ length self.now.bytes.now }
-        ensures { IfOk result (λ text. IsGivenWithMore self.now.bytes.now text.items) }
+        ensures { IfOk result
+            (λ text. IsGivenWithMore self.now.bytes.now self.now.main.nodes text.items) }
     {
         if MOST_MORE < more.len() {
             return Err(ShowFault::OtherProblem);
@@ -49,6 +51,7 @@ impl<'a> GivenTree<'a> {
         text.extend_from_slice(more)?;
         text.extend_from_slice(&self.bytes[at..])?;
         text.push(b'\n')?;
+        check_nodes(alloc, text.as_slice(), self.nodes())?;
         Ok(text)
     }
 }

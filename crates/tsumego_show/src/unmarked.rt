@@ -1,6 +1,8 @@
 //! Writes why no marks are proposed, and how the wall may be closed.
-ghost use Rattle.std.specs.Prelude.{◌<◌, IfSome};
+ghost use Rattle.std.specs.Prelude.{◌≡◌, ◌<◌, Some, IfSome};
 ghost use Rattle.tt_sgf.specs.Sizes.{point_count};
+ghost use Rattle.tt_board.specs.Reach.{entry_at};
+ghost use Rattle.tt_marks.specs.Walls.{IsWalledIn};
 
 use crate::picture::colour_name;
 use crate::points::{PointForm, put_point, put_points, put_points_line_if_any};
@@ -8,7 +10,10 @@ use crate::shown::ShowFault;
 use std::alloc::Global;
 use std::io::Write;
 use tt_board::{Board, Colour};
-use tt_marks::{Closing, closings, is_inner, region, stones_of_colour, wall_in_danger, ways_out};
+use tt_marks::{
+    Closing, MOST_ENCLOSED_POINTS, closings, is_walled_in, region, stones_of_colour,
+    wall_in_danger, ways_out,
+};
 use tt_sgf::{Point, Size};
 
 /// So many ways to close a wall are listed; of more their number is said.
@@ -76,13 +81,10 @@ fn put_how_to_go_on(
     colour: Colour,
     stone: Point,
 ) -> Result<(), ShowFault>
-    requires { stone < point_count board.now.size }
+    requires on_board { stone < point_count board.now.size }
+    requires stands { entry_at board.now.points stone ≡ Some colour }
+    requires open { IsWalledIn board.now.size board.now.points colour stone → ⊥ }
 {
-    let found = region(board, colour, stone);
-    if 0 < found.wall.count() && is_inner(board, &found.points) {
-        let count = found.points.count();
-        return Ok(writeln!(out, "it is enclosed with {count}: mark it by hand")?);
-    }
     let ways = closings(alloc, board, colour, stone)?;
     if let Some(best) = ways.first() {
         let count = best.stones.count();
@@ -96,7 +98,7 @@ fn put_how_to_go_on(
     put_points_line_if_any(out, board.size(), words, &leading)
 }
 
-/// Writes the stones around a group that plays within can take, so that they are no wall, behind the text.
+/// Writes the stones around a group that plays within can take, so that they are of no wall, behind the text. Others may wall it in.
 pub fn put_wall_in_danger_line(
     out: &mut Vec<u8>,
     board: &Board,
@@ -113,7 +115,7 @@ pub fn put_wall_in_danger_line(
     put_points_line_if_any(
         out,
         board.size(),
-        b"hint: plays inside the wall can take these of its stones, so it isn't closed:",
+        b"hint: plays inside can take these stones around the group, so they don't wall it in:",
         &wall_in_danger(board, colour, stone),
     )
 }
@@ -126,18 +128,21 @@ fn put_why_unmarked_chain(
     colour: Colour,
     stone: Point,
 ) -> Result<(), ShowFault>
-    requires { stone < point_count board.now.size }
+    requires on_board { stone < point_count board.now.size }
+    requires stands { entry_at board.now.points stone ≡ Some colour }
 {
-    let found = region(board, colour, stone);
     put_chain_name(out, board.size(), colour, stone)?;
-    if 0 < found.wall.count() && is_inner(board, &found.points) {
-        let count = found.points.count();
+    if is_walled_in(board, colour, stone) {
+        let count = region(board, colour, stone).points.count();
         return Ok(writeln!(
             out,
-            " is enclosed with {count}, not with 2 to 40 points: mark it by hand"
+            " is enclosed with {count}, not with 2 to {MOST_ENCLOSED_POINTS} points: mark it by hand"
         )?);
     }
-    out.extend_from_slice(b" is not enclosed with 2 to 40 points: ")?;
+    write!(
+        out,
+        " is not enclosed with 2 to {MOST_ENCLOSED_POINTS} points: "
+    )?;
     put_how_to_go_on(alloc, out, board, colour, stone)
 }
 
@@ -167,6 +172,27 @@ pub fn put_why_unmarked_at_point(
     Ok(out.push(b'\n')?)
 }
 
+/// Writes that the chain of a stone of this colour may be meant, and how its wall may be closed, behind the text.
+fn put_chain_that_may_be_meant(
+    alloc: Global,
+    out: &mut Vec<u8>,
+    board: &Board,
+    colour: Colour,
+    stone: Point,
+) -> Result<(), ShowFault>
+    requires on_board { stone < point_count board.now.size }
+    requires stands { entry_at board.now.points stone ≡ Some colour }
+{
+    out.extend_from_slice(b"; it may be ")?;
+    put_chain_name(out, board.size(), colour, stone)?;
+    if is_walled_in(board, colour, stone) {
+        let count = region(board, colour, stone).points.count();
+        return Ok(writeln!(out, ": it is enclosed with {count}: mark it by hand")?);
+    }
+    out.extend_from_slice(b": ")?;
+    put_how_to_go_on(alloc, out, board, colour, stone)
+}
+
 /// Writes that no group is enclosed, and how the wall may be closed around the one that seems to be meant; or that there is no wall,
 /// behind the text.
 pub fn put_why_no_group_enclosed(
@@ -179,20 +205,20 @@ pub fn put_why_no_group_enclosed(
 {
     let has_blacks = 0 < stones_of_colour(board, Colour::Black).count();
     let has_whites = 0 < stones_of_colour(board, Colour::White).count();
-    out.extend_from_slice(match (has_blacks, has_whites) {
-        (true, true) =>
-            b"no group was found that is enclosed with 2 to 40 points: close the wall, or name a stone of the group".as_slice(),
-        (true, false) => b"no White stone is on the board, so there is no wall",
-        (false, true) => b"no Black stone is on the board, so there is no wall",
-        (false, false) => b"no stone is on the board",
-    })?;
+    if !has_blacks || !has_whites {
+        return Ok(out.extend_from_slice(match (has_blacks, has_whites) {
+            (true, _) => b"no White stone is on the board, so there is no wall\n".as_slice(),
+            (_, true) => b"no Black stone is on the board, so there is no wall\n",
+            _ => b"no stone is on the board\n",
+        })?);
+    }
+    write!(
+        out,
+        "no group was found that is enclosed with 2 to {MOST_ENCLOSED_POINTS} points: close the wall, or name a stone of the group"
+    )?;
     if let Some(stone) = *point {
-        let colour = board.at(stone).filter(|_| has_blacks && has_whites);
-        if let Some(colour) = colour {
-            out.extend_from_slice(b"; it may be ")?;
-            put_chain_name(out, board.size(), colour, stone)?;
-            out.extend_from_slice(b": ")?;
-            return put_how_to_go_on(alloc, out, board, colour, stone);
+        if let Some(colour) = board.at(stone) {
+            return put_chain_that_may_be_meant(alloc, out, board, colour, stone);
         }
     }
     Ok(out.push(b'\n')?)

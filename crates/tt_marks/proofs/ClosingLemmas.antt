@@ -1,6 +1,10 @@
 -- Stones that close a wall.
-use Rattle.std.proofs.Common.{◌≡◌, ◌⊎◌, ◌<◌, ◌≤◌, ℕ, ◌+◌, ◌&&◌, ◌||◌, ◌-◌, cond, not, Bool, List, [], Option, Some, None, true, false, inl, inr, refl, sym, ap, subst, ◌∙◌, arith}
+use Rattle.std.proofs.Common.{◌≡◌, ◌⊎◌, ◌<◌, ◌≤◌, ℕ, ◌+◌, ◌&&◌, ◌||◌, ◌-◌, cond, not, Bool, List, [], ◌∷◌, ◌++◌, Option, Some, None, true, false, inl, inr, refl, sym, ap, subst, ◌∙◌, arith}
+use Rattle.std.proofs.lemmas.List.Elements.{All-head, All-nil, All-push}
+use Rattle.std.proofs.lemmas.List.Sorted.{All-permutation}
 use Rattle.std.proofs.lemmas.Bool.{and_from, and_parts, cases_Bool, not_from_false, true≢false, false≢true, cases_lt}
+use Rattle.std.specs.Prelude.{All, slice_get}
+use Rattle.std.specs.List.Sorted.{IsPermutation}
 use Rattle.std.specs.Cmp.{nat_cmp_total}
 use Rattle.std.specs.Ordering.{eq_by_cmp, nat_cmp}
 use Rattle.std.specs.FinSet as set
@@ -13,8 +17,8 @@ use Rattle.tt_board.specs.Setup.{AllHaveLiberties}
 use Rattle.tt_board.specs.Reach.{entry_at}
 use Rattle.tt_board.specs.Stones.{IsSetOnBoard, PointNumberSet}
 use Rattle.tt_marks.specs.declared.gaps.Closing.{Closing}
-use Rattle.tt_marks.specs.Walls.{IsClosed, IsEnclosedGroup, IsInner, IsRegion, IsWholeWall, empty_set}
-use Rattle.tt_marks.specs.Closings.{AreClosings, AreEmptyPoints, AreEnclosing, ClosesWall, with_stones}
+use Rattle.tt_marks.specs.Walls.{IsClosed, IsInner, IsRegion, IsWalledIn, IsWholeWall, empty_set}
+use Rattle.tt_marks.specs.Closings.{AreClosings, AreEmptyPoints, AreEnclosing, ClosesWall, HaveAsMany, with_stones}
 use Rattle.tt_marks.proofs.SetLemmas.{has_passing, passing_below}
 
 empty_entry : (x : Option Colour) → is_empty x ≡ true → x ≡ None
@@ -32,10 +36,9 @@ none_left_out points others left is none p h =
       | inr off ↦ absurd (true≢false (sym (and_from (set.contains points p) (not (set.contains others p)) h (not_from_false _ off)) ∙ out))
     ]
 
--- what leaves nothing when the empty points go has empty points alone
-pub empty_points_alone : (s : Size) (c : Colouring) (points left : PointNumberSet) → left ≡ set.difference points (empty_set s c) → left ≡ set.empty → AreEmptyPoints s c points
-empty_points_alone s c points left is none p h =
-    let there : set.contains (empty_set s c) p ≡ true = none_left_out points (empty_set s c) left is none p h in
+-- a point of the empty set is an empty point
+pub in_empty_set : (s : Size) (c : Colouring) (p : ℕ) → set.contains (empty_set s c) p ≡ true → (p < point_count s) × (entry_at c p ≡ None)
+in_empty_set s c p there =
     let lt = passing_below (λ q. is_empty (entry_at c q)) (point_count s) p there in
     (lt, empty_entry (entry_at c p) (sym (has_passing (λ q. is_empty (entry_at c q)) (point_count s) p lt) ∙ there))
 
@@ -62,16 +65,13 @@ fewer_without points others p is there some =
     let e : set.len others ≡ set.len points - 1 = ap set.len is ∙ less in
     omega (arith, some, e)
 
--- where the group is enclosed on the board with the stones, what is found there tells it
-pub enclosing_found : (s : Size) (c : Colouring) (k j : Colour) (q : ℕ) (stones wall region : PointNumberSet) (b : Position) → j ≡ other k
+-- where the stones enclose the group, it is walled in on the board with them
+pub walled_in_there : (s : Size) (c : Colouring) (k j : Colour) (q : ℕ) (stones : PointNumberSet) (b : Position) → j ≡ other k
     → (b ≡ record { size = s; points = with_stones s c j stones }) × AllHaveLiberties s (with_stones s c j stones)
-    → ((points : PointNumberSet) → IsEnclosedGroup b.size b.points k q points → IsClosed wall region × (points ≡ region))
-    → AreEnclosing s c k q stones → IsClosed wall region × IsInner b.size b.points region
-enclosing_found s c k j q stones wall region b same made only (alive, (points, enclosed, inner)) =
-    let on = subst (λ (x : Colour). IsEnclosedGroup s (with_stones s c x stones) k q points × IsInner s (with_stones s c x stones) points) (sym same) (enclosed, inner) in
-    let there = subst (λ (n : Position). IsEnclosedGroup n.size n.points k q points × IsInner n.size n.points points) (sym made.0) on in
-    let found = only points there.0 in
-    (found.0, subst (λ (x : PointNumberSet). IsInner b.size b.points x) found.1 there.1)
+    → AreEnclosing s c k q stones → IsWalledIn b.size b.points k q
+walled_in_there s c k j q stones b same made (alive, walled) =
+    let on = subst (λ (x : Colour). IsWalledIn s (with_stones s c x stones) k q) (sym same) walled in
+    subst (λ (n : Position). IsWalledIn n.size n.points k q) (sym made.0) on
 
 module _ (s : Size) (c : Colouring) (k : Colour) (q : ℕ) (stones : PointNumberSet) where
   -- each stone below number n is needed
@@ -90,12 +90,13 @@ module _ (s : Size) (c : Colouring) (k : Colour) (q : ℕ) (stones : PointNumber
   ]
 
 -- what is found on the board with the stones
-pub closing_is : (s : Size) (c : Colouring) (k j : Colour) (q : ℕ) (stones wall region : PointNumberSet) (b : Position) → j ≡ other k → 0 < set.len stones → set.len stones ≤ 3
+pub closing_is : (s : Size) (c : Colouring) (k j : Colour) (q : ℕ) (stones wall region : PointNumberSet) (b : Position) → entry_at c q ≡ Some k → j ≡ other k → 0 < set.len stones → set.len stones ≤ 3
     → AreEmptyPoints s c stones → (b ≡ record { size = s; points = with_stones s c j stones }) × AllHaveLiberties s (with_stones s c j stones)
     → IsWholeWall b.size b.points k q (set.contains wall) → IsRegion b.size b.points k q (set.contains wall) (set.contains region)
     → IsSetOnBoard b.size wall → IsSetOnBoard b.size region → IsClosed wall region → ((p : ℕ) → set.contains stones p ≡ true → set.contains wall p ≡ true)
     → IsInner b.size b.points region → AreNeeded s c k q stones → ClosesWall s c k q stones region
-closing_is s c k j q stones wall region b same some few on_empty made whole within wall_on_board on_board closed of_wall inner needed = record {
+closing_is s c k j q stones wall region b stands same some few on_empty made whole within wall_on_board on_board closed of_wall inner needed = record {
+  stands = stands;
   some = some;
   few = few;
   on_empty = on_empty;
@@ -116,11 +117,49 @@ closing_is s c k j q stones wall region b same some few on_empty made whole with
 pub among_empty : (s : Size) (c : Colouring) (points made : PointNumberSet) → made ≡ set.intersection points (empty_set s c) → AreEmptyPoints s c made
 among_empty s c points made is p h =
     let e = empty_set s c in
-    let both = and_parts (set.contains points p) (set.contains e p) (sym (set.contains-intersection nat_cmp_total points e p) ∙ ap (λ x. set.contains x p) (sym is) ∙ h) in
-    let lt = passing_below (λ q. is_empty (entry_at c q)) (point_count s) p both.1 in
-    (lt, empty_entry (entry_at c p) (sym (has_passing (λ q. is_empty (entry_at c q)) (point_count s) p lt) ∙ both.1))
+    in_empty_set s c p
+    (and_parts (set.contains points p) (set.contains e p) (sym (set.contains-intersection nat_cmp_total points e p) ∙ ap (λ x. set.contains x p) (sym is) ∙ h)).1
+
+-- none are closings
+pub no_closings : (s : Size) (c : Colouring) (k : Colour) (q : ℕ) → AreClosings s c k q []
+no_closings s c k q = (All-nil _, (0, All-nil _))
 
 -- what is left of a list when all of it may go
 pub some_left : (s : Size) (c : Colouring) (k : Colour) (q : ℕ) (before left : List Closing) → (left ≡ before) ⊎ (left ≡ []) → AreClosings s c k q before → AreClosings s c k q left
 some_left s c k q before left (inl same) all = subst (AreClosings s c k q) (sym same) all
-some_left s c k q before left (inr none) all = subst (AreClosings s c k q) (sym none) (λ j m lt. absurd (omega (arith, lt)))
+some_left s c k q before left (inr none) all = subst (AreClosings s c k q) (sym none) (no_closings s c k q)
+
+-- closings by so many stones
+abbrev pub AreByCount : ℕ → List Closing → Type 0
+AreByCount n = All (λ m. set.len m.stones ≡ n)
+
+pub none_by_count : (n : ℕ) → AreByCount n []
+none_by_count n = All-nil _
+
+-- there is none where there is no first
+pub none_first : (items : List Closing) (n : ℕ) → slice_get items 0 ≡ None → AreByCount n items
+none_first [] n none = none_by_count n
+none_first (m ∷ ms) n none = absurd (let e : Some m ≡ None = none in cc)
+
+-- each is by as many stones as the first
+pub as_many_as_first : (items : List Closing) (first : Closing) (n : ℕ) → slice_get items 0 ≡ Some first → n ≡ set.len first.stones → HaveAsMany items → AreByCount n items
+as_many_as_first [] first n at is many = none_by_count n
+as_many_as_first (m ∷ ms) first n at is many =
+    let same : m ≡ first = let e : Some m ≡ Some first = at in cc in
+    let count : many.0 ≡ n = sym (All-head (λ (x : Closing). set.len x.stones ≡ many.0) m ms many.1) ∙ ap (λ (x : Closing). set.len x.stones) same ∙ sym is in
+    subst (λ (x : ℕ). AreByCount x (m ∷ ms)) count many.1
+
+-- one more by as many stones
+pub one_more : (s : Size) (c : Colouring) (k : Colour) (q : ℕ) (before : List Closing) (m : Closing) → AreClosings s c k q before → ClosesWall s c k q m.stones m.region
+    → All (λ (x : Closing). set.len x.stones ≡ set.len m.stones) before → AreClosings s c k q (before ++ (m ∷ []))
+one_more s c k q before m all closes same = (
+  All-push (λ (x : Closing). ClosesWall s c k q x.stones x.region) before m all.0 closes,
+  (set.len m.stones, All-push (λ (x : Closing). set.len x.stones ≡ set.len m.stones) before m same refl),
+)
+
+-- in another order
+pub other_order : (s : Size) (c : Colouring) (k : Colour) (q : ℕ) (before sorted : List Closing) → IsPermutation before sorted → AreClosings s c k q before → AreClosings s c k q sorted
+other_order s c k q before sorted order all = (
+  All-permutation (λ (x : Closing). ClosesWall s c k q x.stones x.region) before sorted order all.0,
+  (all.1.0, All-permutation (λ (x : Closing). set.len x.stones ≡ all.1.0) before sorted order all.1.1),
+)

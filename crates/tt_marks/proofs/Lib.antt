@@ -1,6 +1,7 @@
 mod ClosingLemmas
 mod EnclosedLemmas
 mod ReachedLemmas
+mod RegionLemmas
 mod SetLemmas
 mod StandLemmas
 mod WallLemmas

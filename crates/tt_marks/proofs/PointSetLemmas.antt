@@ -1,6 +1,6 @@
 -- The points beside those of a set, and the chains that have a stone in it.
-use Rattle.std.proofs.Common.{◌≡◌, ℕ, ◌<◌, ◌↔◌, ◌&&◌, List, Bool, true, false, sym, ◌∙◌}
-use Rattle.std.proofs.lemmas.Bool.{and_parts, false≢true}
+use Rattle.std.proofs.Common.{◌≡◌, ℕ, ◌<◌, ◌↔◌, ◌&&◌, List, sym, ◌∙◌}
+use Rattle.std.proofs.lemmas.Bool.{and_from, and_parts}
 use Rattle.tt_sgf.specs.declared.size.Size.{Size}
 use Rattle.tt_sgf.specs.declared.bits.TheConstants.{BITS}
 use Rattle.tt_sgf.specs.Sizes.{point_count}
@@ -13,10 +13,6 @@ use Rattle.tt_board.specs.Reach.{entry_at}
 use Rattle.tt_marks.specs.Reached.{Has, IsBeside, IsReached}
 use Rattle.tt_marks.specs.Walls.{HasStone}
 use Rattle.tt_marks.proofs.ReachedLemmas.{reached_wider, small}
-
-both_on : (a b : Bool) → a ≡ true → b ≡ true → (a && b) ≡ true
-both_on true b h g = g
-both_on false b h g = absurd (false≢true h)
 
 pub beside_is : (s : Size) (first : List ℕ) (IsIn : ℕ → Type 0) → ((q : ℕ) → q < point_count s → Has (bit_in first) q ↔ IsIn q)
     → (p : ℕ) → IsBesideSome s first p ↔ IsBeside s IsIn p
@@ -35,5 +31,5 @@ chains_are s c k IsIn stones points both made b are both_is made_is p in_p =
           ((made_is p in_p).0 h),
       λ r.
           (made_is p in_p).1 (reached_wider s (HasStone s c k) (λ r. HasStone s c k r × IsIn r) (Has (bit_in stones)) (Has (bit_in both)) of_stone
-          (λ q in_q g. both_is q (small s q in_q) ∙ both_on (bit_in stones q) (bit_in points q) (of_stone q in_q g.0) ((are q in_q).1 g.1)) p r),
+          (λ q in_q g. both_is q (small s q in_q) ∙ and_from (bit_in stones q) (bit_in points q) (of_stone q in_q g.0) ((are q in_q).1 g.1)) p r),
     )

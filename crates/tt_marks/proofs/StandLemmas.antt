@@ -23,7 +23,7 @@ stone_is (Some Black) White h = absurd (false≢true h)
 stone_is (Some White) Black h = absurd (false≢true h)
 stone_is (Some White) White h = refl
 
-is_stone : (k : Colour) → is_stone_of (Some k) k ≡ true
+pub is_stone : (k : Colour) → is_stone_of (Some k) k ≡ true
 is_stone Black = refl
 is_stone White = refl
 

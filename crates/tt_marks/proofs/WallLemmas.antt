@@ -25,7 +25,7 @@ both_of true true h = absurd (false≢true h)
 both_of true false h = (refl, λ e. false≢true e)
 both_of false b h = absurd (false≢true h)
 
-off_of : (b : Bool) → (b ≡ true → ⊥) → b ≡ false
+pub off_of : (b : Bool) → (b ≡ true → ⊥) → b ≡ false
 off_of b never = elim (cases_Bool b) [
   | inl on ↦ absurd (never on)
   | inr off ↦ off
@@ -158,7 +158,7 @@ within_fewer s q stones more wider = reached_wider s (λ r. more r ≡ false) (�
     (λ r in_r f. off_of (stones r) (λ h. true≢false (sym (wider r in_r h) ∙ f))) (λ r in_r e. e)
 
 -- and where less is inside more is outside
-outside_more : (s : Size) (c : Colouring) (k : Colour) (IsInside IsLess : ℕ → Type 0) → ((e : ℕ) → e < point_count s → IsLess e → IsInside e)
+pub outside_more : (s : Size) (c : Colouring) (k : Colour) (IsInside IsLess : ℕ → Type 0) → ((e : ℕ) → e < point_count s → IsLess e → IsInside e)
     → (p : ℕ) → HasOuterLiberty s c k IsInside p → HasOuterLiberty s c k IsLess p
 outside_more s c k IsInside IsLess fewer = reached_wider s (HasStone s c k) (IsBesideOutside s c k IsInside) (HasStone s c k) (IsBesideOutside s c k IsLess)
     (λ r in_r f. f) (λ r in_r h. (h.0, (h.1.0, h.1.1, h.1.2, λ l. h.1.3 (fewer h.1.0 h.1.1.0 l))))

@@ -1,5 +1,5 @@
 -- Stones that close the wall around a group.
-use Rattle.std.specs.Prelude.{◌≡◌, ℕ, ◌<◌, ◌≤◌, List, None, All, true}
+use Rattle.std.specs.Prelude.{◌≡◌, ℕ, ◌<◌, ◌≤◌, List, None, Some, All, true}
 use Rattle.std.specs.FinSet as set
 use Rattle.tt_sgf.specs.declared.size.Size.{Size}
 use Rattle.tt_sgf.specs.Sizes.{point_count}
@@ -11,7 +11,7 @@ use Rattle.tt_board.specs.Reach.{entry_at}
 use Rattle.tt_board.specs.Setup.{AllHaveLiberties, placed}
 use Rattle.tt_board.specs.Stones.{IsSetOnBoard, PointNumberSet}
 use Rattle.tt_marks.specs.declared.gaps.Closing.{Closing}
-use Rattle.tt_marks.specs.Walls.{IsClosed, IsEnclosedGroup, IsInner, IsRegion, IsWholeWall}
+use Rattle.tt_marks.specs.Walls.{IsClosed, IsInner, IsRegion, IsWalledIn, IsWholeWall}
 
 -- the colouring with stones of colour k added on these points
 abbrev pub with_stones : Size → Colouring → Colour → PointNumberSet → Colouring
@@ -22,16 +22,16 @@ with_stones s c White stones = placed s c set.empty stones set.empty
 abbrev pub AreEmptyPoints : Size → Colouring → PointNumberSet → Type 0
 AreEmptyPoints s c points = (p : ℕ) → set.contains points p ≡ true → (p < point_count s) × (entry_at c p ≡ None)
 
--- stones of the other colour on these points enclose the group of the stone of colour k on q: each stone has a liberty then, and the region
--- of the group is closed and inner
+-- stones of the other colour on these points enclose the group of the stone of colour k on q: each stone has a liberty then, and the group
+-- is walled in, however many points are inside
 abbrev pub AreEnclosing : Size → Colouring → Colour → ℕ → PointNumberSet → Type 0
-AreEnclosing s c k q stones = AllHaveLiberties s (with_stones s c (other k) stones)
-    × ((region : PointNumberSet) × IsEnclosedGroup s (with_stones s c (other k) stones) k q region × IsInner s (with_stones s c (other k) stones) region)
+AreEnclosing s c k q stones = AllHaveLiberties s (with_stones s c (other k) stones) × IsWalledIn s (with_stones s c (other k) stones) k q
 
--- One to three stones of the other colour on these empty points close the wall around the group of the stone of colour k on q: then each stone
--- has a liberty, all of these are of the whole wall, the region of the group is this one, closed and inner, and without any one of these the
--- others don't enclose the group
+-- One to three stones of the other colour on these empty points close the wall around the group of the stone of colour k that stands on q: then
+-- each stone has a liberty, all of these are of the whole wall, the region of the group is this one, closed and inner, and without any one of
+-- these the others don't enclose the group
 pub record ClosesWall (s : Size) (c : Colouring) (k : Colour) (q : ℕ) (stones region : PointNumberSet) : Type 0 where
+  pub stands : entry_at c q ≡ Some k
   pub some : 0 < set.len stones
   pub few : set.len stones ≤ 3
   pub on_empty : AreEmptyPoints s c stones
@@ -46,6 +46,10 @@ pub record ClosesWall (s : Size) (c : Colouring) (k : Colour) (q : ℕ) (stones 
   pub inner : IsInner s (with_stones s c (other k) stones) region
   pub needed : (p : ℕ) → set.contains stones p ≡ true → AreEnclosing s c k q (set.remove stones p) → ⊥
 
--- all of these close it
+-- each of these has as many stones as the others
+abbrev pub HaveAsMany : List Closing → Type 0
+HaveAsMany closings = (n : ℕ) × All (λ m. set.len m.stones ≡ n) closings
+
+-- all of these close it, by as many stones each
 abbrev pub AreClosings : Size → Colouring → Colour → ℕ → List Closing → Type 0
-AreClosings s c k q = All (λ m. ClosesWall s c k q m.stones m.region)
+AreClosings s c k q closings = All (λ m. ClosesWall s c k q m.stones m.region) closings × HaveAsMany closings

@@ -1,13 +1,14 @@
 //! Stones of the other colour that close the wall around a group.
 
-ghost use Rattle.std.specs.Prelude.{◌≡◌, ◌⊎◌, ℕ, ◌<◌, [], IfSome, IfOk, IsTrue, MatchOption, true};
+ghost use Rattle.std.specs.Prelude.{◌≡◌, ◌⊎◌, ℕ, ◌<◌, [], All, Some, IfSome, IfOk, IsTrue, MatchOption, true};
 ghost use Rattle.std.specs.FinSet as set;
 ghost use Rattle.tt_sgf.specs.Sizes.{point_count};
+ghost use Rattle.tt_board.specs.Reach.{entry_at};
 ghost use Rattle.tt_board.specs.Setup.{AllHaveLiberties};
-ghost use Rattle.tt_marks.specs.Closings.{AreClosings, AreEmptyPoints, AreEnclosing, ClosesWall, with_stones};
+ghost use Rattle.tt_marks.specs.Closings.{AreClosings, AreEnclosing, ClosesWall, HaveAsMany, with_stones};
 ghost use Rattle.tt_marks.specs.Walls.{IsWalledIn};
 
-use crate::regions::{empties, is_inner, region, set_of};
+use crate::regions::{empties, is_inner, is_walled_in, region, set_of};
 use crate::ways::{Ways, neighbours};
 use std::alloc::Global;
 use tt_board::{Board, Colour};
@@ -25,13 +26,6 @@ pub struct Closing {
     pub region: PointSet,
     /// The place among others: the fewer stones are beside one of the group's colour, and the more points the region has, the lower.
     rank: u16,
-}
-
-/// Whether all points of a set are empty points of the board.
-fn are_empty(board: &Board, points: &PointSet) -> bool
-    ensures { IsTrue result → AreEmptyPoints board.now.size board.now.points points.now }
-{
-    points.minus(&empties(board)).same(&PointSet::empty())
 }
 
 /// The board with stones of a colour added, where each stone has a liberty then.
@@ -69,7 +63,7 @@ fn are_among(points: &PointSet, others: &PointSet) -> bool
     points.minus(others).same(&PointSet::empty())
 }
 
-/// Whether stones of the other colour on these points enclose the group of a stone of this colour, with an inner region.
+/// Whether stones of the other colour on these points enclose the group of a stone of this colour: it is walled in then.
 fn are_enclosing(board: &Board, colour: Colour, stone: Point, points: &PointSet) -> bool
     requires { stone < point_count board.now.size }
     ensures { AreEnclosing board.now.size board.now.points colour stone points.now → IsTrue result }
@@ -77,8 +71,7 @@ fn are_enclosing(board: &Board, colour: Colour, stone: Point, points: &PointSet)
     let Some(next) = board_with_stones(board, colour.other(), points) else {
         return false;
     };
-    let found = region(&next, colour, stone);
-    found.is_closed() && is_inner(&next, &found.points)
+    is_walled_in(&next, colour, stone)
 }
 
 /// The first of these stones that isn't needed: the others enclose the group of a stone of this colour.
@@ -105,7 +98,8 @@ fn unneeded(board: &Board, colour: Colour, stone: Point, stones: &PointSet) -> O
 /// The closing by these stones, where they close the wall around the group of a stone of this colour. Those that aren't needed are left
 /// out.
 fn closing_by(board: &Board, colour: Colour, stone: Point, stones: &PointSet) -> Option<Closing>
-    requires { stone < point_count board.now.size }
+    requires on_board { stone < point_count board.now.size }
+    requires stands { entry_at board.now.points stone ≡ Some colour }
     ensures { IfSome result
         (λ m. ClosesWall board.now.size board.now.points colour stone m.stones m.region) }
 {
@@ -113,7 +107,7 @@ fn closing_by(board: &Board, colour: Colour, stone: Point, stones: &PointSet) ->
     if count == 0 || count > MOST_STONES {
         return None;
     }
-    if !are_empty(board, stones) {
+    if !are_among(stones, &empties(board)) {
         return None;
     }
     let next = board_with_stones(board, colour.other(), stones)?;
@@ -148,23 +142,25 @@ fn are_listed(found: &[Closing], stones: &PointSet) -> bool {
     false
 }
 
-/// Whether a closing by these stones isn't listed, and none by fewer stones is.
-fn is_wanted(found: &[Closing], stones: &PointSet) -> bool {
-    match found.first() {
-        Some(first) => stones.count() <= first.stones.count() && !are_listed(found, stones),
-        None => true,
-    }
-}
-
-/// Takes the closings by more stones than so many off the list, all of which are by as many.
-fn unlist_more(found: &mut Vec<Closing>, count: u16)
-    ensures { (found.new.items ≡ found.old.items) ⊎ (found.new.items ≡ []) }
+/// Makes room for a closing by these stones on the list: those by more stones are taken off. Says whether it has its place there: it isn't
+/// listed, and none by fewer stones is.
+fn make_room(found: &mut Vec<Closing>, stones: &PointSet) -> bool
+    ensures left { (found.new.items ≡ found.old.items) ⊎ (found.new.items ≡ []) }
+    ensures as_many { IsTrue result → HaveAsMany found.old.items
+        → All (λ m. set.len m.stones ≡ set.len stones.now) found.new.items }
 {
-    if let Some(first) = found.first() {
-        if count < first.stones.count() {
-            found.clear();
-        }
+    let Some(first) = found.first() else {
+        return true;
+    };
+    let fewest = first.stones.count();
+    let count = stones.count();
+    if fewest < count || are_listed(found.as_slice(), stones) {
+        return false;
     }
+    if count < fewest {
+        found.clear();
+    }
+    true
 }
 
 /// Lists the closing by these stones, where they close the wall: those by the fewest stones are listed.
@@ -175,7 +171,8 @@ fn list_if_closing(
     stones: &PointSet,
     found: &mut Vec<Closing>,
 ) -> Result<(), NoMemory>
-    requires { stone < point_count board.now.size }
+    requires on_board { stone < point_count board.now.size }
+    requires stands { entry_at board.now.points stone ≡ Some colour }
     ensures { AreClosings board.now.size board.now.points colour stone found.old.items
         → AreClosings board.now.size board.now.points colour stone found.new.items }
 {
@@ -185,10 +182,9 @@ fn list_if_closing(
     let Some(closing) = closing_by(board, colour, stone, stones) else {
         return Ok(());
     };
-    if !is_wanted(found.as_slice(), &closing.stones) {
+    if !make_room(found, &closing.stones) {
         return Ok(());
     }
-    unlist_more(found, closing.stones.count());
     found.push(closing)?;
     Ok(())
 }
@@ -202,7 +198,8 @@ pub(crate) fn closings_by(
     ways: &Ways,
     stones: usize,
 ) -> Result<Vec<Closing>, NoMemory>
-    requires { stone < point_count board.now.size }
+    requires on_board { stone < point_count board.now.size }
+    requires stands { entry_at board.now.points stone ≡ Some colour }
     ensures { IfOk result (λ v. AreClosings board.now.size board.now.points colour stone v.items) }
 {
     let mut shutting = Vec::new(alloc);
@@ -216,31 +213,20 @@ pub(crate) fn closings_by(
     Ok(found)
 }
 
-/// Whether the group of a stone of this colour is walled in already, however many points it has.
-fn is_walled_in(board: &Board, colour: Colour, stone: Point) -> bool
-    requires { stone < point_count board.now.size }
-    ensures { IsWalledIn board.now.size board.now.points colour stone → IsTrue result }
-{
-    let found = region(board, colour, stone);
-    0 < found.wall.count() && is_inner(board, &found.points)
-}
-
-/// The stones that close the wall around the group of a stone of this colour, at most `MOST_STONES` together, and as many in each closing:
-/// more are looked for only where fewer weren't found, and each is needed. None where the group is walled in already. The best come first:
-/// those of which fewest are beside a stone of the group's colour, then those that leave the group most room.
+/// The stones that close the wall around the group of a stone of this colour, which isn't walled in: at most `MOST_STONES` together, and
+/// as many in each closing. More are looked for only where fewer weren't found, and each is needed. The best come first: those of which
+/// fewest are beside a stone of the group's colour, then those that leave the group most room.
 pub fn closings(
     alloc: Global,
     board: &Board,
     colour: Colour,
     stone: Point,
 ) -> Result<Vec<Closing>, NoMemory>
-    requires { stone < point_count board.now.size }
-    ensures those { IfOk result (λ v. AreClosings board.now.size board.now.points colour stone v.items) }
-    ensures walled { IsWalledIn board.now.size board.now.points colour stone → IfOk result (λ v. v.items ≡ []) }
+    requires on_board { stone < point_count board.now.size }
+    requires stands { entry_at board.now.points stone ≡ Some colour }
+    requires open { IsWalledIn board.now.size board.now.points colour stone → ⊥ }
+    ensures { IfOk result (λ v. AreClosings board.now.size board.now.points colour stone v.items) }
 {
-    if is_walled_in(board, colour, stone) {
-        return Ok(Vec::new(alloc));
-    }
     let ways = Ways::of(board, colour, stone);
     let fewest = ways.separate(MOST_STONES + 1);
     for stones in fewest..=MOST_STONES {

@@ -10,7 +10,7 @@
 //! | `gaps` | the stones that close a wall, the best first |
 //! | `danger` | the stones of a wall that plays in a region may take |
 //! | `proposals` | the group that is meant where nobody names one |
-//! | `laws` | no path that avoids the wall leads out, and plays within take none of its stones |
+//! | `laws` | no path that avoids the wall leads out, plays within take none of its stones, and a region lacks none of its liberties |
 #![tactic(auto)]
 
 mod danger;
@@ -27,5 +27,7 @@ pub use danger::{stones_in_danger, wall_in_danger};
 pub use gaps::{Closing, MOST_STONES, board_with_stones, closings};
 pub use point_sets::{chains, points_beside, stones_of_colour};
 pub use proposals::proposed_stone;
-pub use regions::{MOST_ENCLOSED_POINTS, WalledRegion, empties, group, is_inner, region};
+pub use regions::{
+    MOST_ENCLOSED_POINTS, WalledRegion, empties, group, is_inner, is_walled_in, region,
+};
 pub use ways::ways_out;

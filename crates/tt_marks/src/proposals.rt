@@ -72,7 +72,7 @@ fn is_lone(board: &Board, colour: Colour, stone: Point, region: &PointSet) -> bo
 /// The colour of the stone on a point, where it is the first of its group.
 fn colour_if_first(board: &Board, stone: Point) -> Option<Colour>
     requires { stone < point_count board.now.size }
-    ensures { IfSome result (λ k. entry_at board.now.points stone ≢ None) }
+    ensures { IfSome result (λ k. entry_at board.now.points stone ≡ Some k) }
 {
     let colour = board.at(stone)?;
     if group_bits(board, colour, stone).first_from(0) < usize::from(stone.number()) {
@@ -110,6 +110,7 @@ fn open_candidate(
     stones: usize,
 ) -> Result<Option<Candidate>, NoMemory>
     requires stone { stone < point_count board.now.size }
+    requires stands { entry_at board.now.points stone ≡ Some colour }
     requires stones { stones ≤ MOST_STONES }
     ensures { IfOk result (λ found. IfSome found (λ m. m.stone ≡ stone)) }
 {

@@ -8,7 +8,7 @@ ghost use Rattle.tt_sgf.specs.MachineWords.{bit_in};
 ghost use Rattle.tt_board.specs.Around.{AreOn};
 ghost use Rattle.tt_board.specs.Stones.{IsSetOnBoard, PointNumberSet};
 ghost use Rattle.tt_marks.specs.Reached.{Has};
-ghost use Rattle.tt_marks.specs.Walls.{IsClosed, IsEnclosedGroup, IsInner, IsOfGroup, IsRegion, IsWholeWall, empty_set};
+ghost use Rattle.tt_marks.specs.Walls.{IsClosed, IsEnclosedGroup, IsInner, IsOfGroup, IsRegion, IsWalledIn, IsWholeWall, empty_set};
 
 use crate::walls::{group_bits, wall_bits, within};
 use tt_board::{Board, Colour};
@@ -95,4 +95,13 @@ pub fn is_inner(board: &Board, points: &PointSet) -> bool
 {
     let all = empties(board);
     points.and(&all).count() <= all.minus(points).count()
+}
+
+/// Whether the group of a stone of this colour is walled in: its whole wall has a stone, and its region is inner, however many points it has.
+pub fn is_walled_in(board: &Board, colour: Colour, stone: Point) -> bool
+    requires { stone < point_count board.now.size }
+    ensures { IsTrue result ↔ IsWalledIn board.now.size board.now.points colour stone }
+{
+    let found = region(board, colour, stone);
+    0 < found.wall.count() && is_inner(board, &found.points)
 }

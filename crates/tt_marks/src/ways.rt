@@ -57,25 +57,14 @@ pub fn ways_out(board: &Board, colour: Colour, stone: Point) -> PointSet
     set_of(board.size(), &out).and(&empties(board))
 }
 
-/// How many points of the board a set has.
-fn count(size: Size, points: &Bits) -> usize {
-    let mut found: usize = 0;
-    for p in 0..size.point_count() {
-        if points.has(p) {
-            found += 1;
-        }
-    }
-    found
-}
-
 /// What is near a group: so many steps away at most, and no more empty points than are left.
 fn near_points(size: Size, empty: &Bits, own: &Bits, group: &Bits) -> Bits {
-    let half = count(size, empty) / 2;
+    let half = set_of(size, empty).count() / 2;
     let mut near = *group;
     for _step in 0..NEAR_STEPS {
         let more = near.or(&neighbours(size, &near).and(empty));
         let more = flood(size, own, &more);
-        if half < count(size, &more.and(empty)) {
+        if half < set_of(size, &more.and(empty)).count() {
             return near;
         }
         near = more;

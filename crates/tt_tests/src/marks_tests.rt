@@ -7,7 +7,8 @@ use crate::rows::{Table, cut, holding, short_number};
 use std::alloc::Global;
 use tt_board::{Board, Colour};
 use tt_marks::{
-    Closing, closings, is_inner, proposed_stone, region, stones_in_danger, wall_in_danger,
+    Closing, closings, is_inner, is_walled_in, proposed_stone, region, stones_in_danger,
+    wall_in_danger,
 };
 use tt_sgf::{Point, PointSet, Size};
 
@@ -100,11 +101,14 @@ impl Table for Proposals {
     }
 }
 
-/// The closings of the group of a stone.
+/// The closings of the group of a stone, where it isn't walled in.
 fn closings_of(alloc: Global, size: Size, number: u16, drawing: &[u8]) -> Option<Vec<Closing>> {
     let board = drawn(size, drawing)?;
     let stone = size.point(number)?;
     let colour = board.at(stone)?;
+    if is_walled_in(&board, colour, stone) {
+        return None;
+    }
     closings(alloc, &board, colour, stone).ok()
 }
 

@@ -1,9 +1,11 @@
-use Rattle.std.proofs.Common.{rules, ◌<◌, ◌∙◌, inl, inr, subst, sym}
+use Rattle.std.proofs.Common.{rules, ◌<◌, ◌∙◌, ap, inl, inr, subst, sym}
 use Rattle.std.proofs.lemmas.Bool.{false≢true}
 use Rattle.tt_sgf.specs.declared.size.Size.{Size}
 use Rattle.tt_sgf.specs.Sizes.{point_count}
+use Rattle.tt_board.specs.Position.{Colouring}
+use Rattle.tt_board.specs.Reach.{entry_at}
 use Rattle.tt_game.specs.Line.{LineWithUndo}
-use Rattle.tt_marks.specs.Walls.{IsEnclosedGroup}
+use Rattle.tt_marks.specs.Walls.{IsEnclosedGroup, IsWalledIn}
 use Rattle.tsumego_show.proofs.Marked.{empty_has_none, marked_board, open_has_none}
 use Rattle.tsumego_show.specs.Written.{IsTextOf}
 use Rattle.tsumego_show.proofs.marking.marked_tree.Goals as goal
@@ -39,6 +41,24 @@ returns-then-not-wanted c =
     open_has_none c.args.wanted.name c.args.game c.args.stone c.requires board.size board.points c.present-board.ensures.size c.present-board.ensures.points c.in-Some.colour
     c.region-found.result.wall c.region-found.result.points (sym c.in-Some.ensures) c.region-found.ensures.only
     (λ h. false≢true (sym c.if-is_enclosed.false ∙ c.is_enclosed.ensures.1 h))
+
+pub returns-then-is_walled_in : goal.returns-then-is_walled_in
+returns-then-is_walled_in c =
+    let board = c.present-board.result.now in
+    open_has_none c.args.wanted.name c.args.game c.args.stone c.requires board.size board.points c.present-board.ensures.size c.present-board.ensures.points c.in-Some.colour
+    c.region-found.result.wall c.region-found.result.points (sym c.in-Some.ensures) c.region-found.ensures.only
+    (λ h. false≢true (sym c.if-is_enclosed.false ∙ c.is_enclosed.ensures.1 h))
+
+pub closed_tree-requires-clause-stands : goal.closed_tree-requires-clause-stands
+closed_tree-requires-clause-stands c = ap (λ points. entry_at points c.args.stone) (sym c.present-board.ensures.points) ∙ sym c.in-Some.ensures
+
+pub closed_tree-requires-clause-open : goal.closed_tree-requires-clause-open
+closed_tree-requires-clause-open c = λ h.
+    let board = c.present-board.result.now in
+    let game = c.args.game in
+    let sized = subst (λ (x : Size). IsWalledIn x game.present c.in-Some.colour c.args.stone) (sym c.present-board.ensures.size) h in
+    let there = subst (λ (x : Colouring). IsWalledIn board.size x c.in-Some.colour c.args.stone) (sym c.present-board.ensures.points) sized in
+    false≢true (sym c.if-is_walled_in.false ∙ c.is_walled_in.ensures.1 there)
 
 pub returns-in-None : goal.returns-in-None
 returns-in-None c =

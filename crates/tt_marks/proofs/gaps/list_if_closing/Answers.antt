@@ -1,7 +1,6 @@
 use Rattle.std.proofs.Common.{sym, subst}
-use Rattle.std.proofs.lemmas.List.Elements.{All-push}
-use Rattle.tt_marks.specs.Closings.{AreClosings, ClosesWall}
-use Rattle.tt_marks.proofs.ClosingLemmas.{some_left}
+use Rattle.tt_marks.specs.Closings.{AreClosings}
+use Rattle.tt_marks.proofs.ClosingLemmas.{one_more, some_left}
 use Rattle.tt_marks.proofs.gaps.list_if_closing.Goals as goal
 
 pub returns-in_err-push : goal.returns-in_err-push
@@ -9,12 +8,17 @@ returns-in_err-push c = λ all.
     let s = c.args.board.now.size in
     let points = c.args.board.now.points in
     subst (AreClosings s points c.args.colour c.args.stone) (sym c.in_err-push.ensures.items)
-    (some_left s points c.args.colour c.args.stone c.args.found.now.items c.unlist_more.new.found.items c.unlist_more.ensures all)
+    (some_left s points c.args.colour c.args.stone c.args.found.now.items c.make_room.new.found.items c.make_room.ensures.left all)
 
 pub returns : goal.returns
 returns c = λ all.
     let s = c.args.board.now.size in
     let points = c.args.board.now.points in
     subst (AreClosings s points c.args.colour c.args.stone) (sym c.in_ok-push.ensures.items)
-    (All-push (λ m. ClosesWall s points c.args.colour c.args.stone m.stones m.region) c.unlist_more.new.found.items c.in-Some.closing
-    (some_left s points c.args.colour c.args.stone c.args.found.now.items c.unlist_more.new.found.items c.unlist_more.ensures all) c.in-Some.ensures)
+    (one_more s points c.args.colour c.args.stone c.make_room.new.found.items c.in-Some.closing
+    (some_left s points c.args.colour c.args.stone c.args.found.now.items c.make_room.new.found.items c.make_room.ensures.left all) c.in-Some.ensures
+    (c.make_room.ensures.as_many c.if-not-make_room.false all.1))
+
+pub returns-then-not-make_room : goal.returns-then-not-make_room
+returns-then-not-make_room c =
+    some_left c.args.board.now.size c.args.board.now.points c.args.colour c.args.stone c.args.found.now.items c.make_room.new.found.items c.make_room.ensures.left

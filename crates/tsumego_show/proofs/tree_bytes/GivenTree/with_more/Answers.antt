@@ -1,6 +1,8 @@
-use Rattle.std.proofs.Common.{rules, ◌≡◌, ◌∙◌, ◌++◌, ◌-◌, ap, arith, drop, length, length-drop, sym, take}
+use Rattle.std.proofs.Common.{rules, ◌≡◌, ◌∙◌, ◌++◌, ◌-◌, ℕ, List, ap, arith, drop, length, length-drop, subst, sym, take}
 use Rattle.std.proofs.lemmas.List.{take-append-drop, take_all}
+use Rattle.tt_sgf.specs.declared.nodes.Node.{Node}
 use Rattle.tsumego_show.proofs.GivenBytes.{laid}
+use Rattle.tsumego_show.specs.Written.{IsTextWithNodes}
 use Rattle.tsumego_show.proofs.tree_bytes.GivenTree.with_more.Goals as goal
 
 pub returns : goal.returns
@@ -10,4 +12,7 @@ returns c =
     let front = take at given in
     let behind = take (length given - at) (drop at given) in
     let all : behind ≡ drop at given = take_all (length given - at) (drop at given) (omega (arith, length-drop at given)) in
-    (front, c.args.more.now, behind, sym (take-append-drop at given) ∙ ap (λ l. front ++ l) (sym all), search rules, laid front c.args.more.now behind _ (search rules))
+    let read = subst (λ (ns : List Node). IsTextWithNodes ns c.as_slice.result.now) c.nodes.ensures c.in_ok-check_nodes.ensures in (
+      (front, c.args.more.now, behind, sym (take-append-drop at given) ∙ ap (λ l. front ++ l) (sym all), search rules, laid front c.args.more.now behind _ (search rules)),
+      subst (λ (text : List ℕ). IsTextWithNodes c.args.self.now.main.nodes text) c.as_slice.ensures.value read,
+    )
