@@ -1,5 +1,5 @@
 //! How a program of your own reads, solves, prints and checks a problem through the crates. It reads SGF from standard
-//! input and writes the certificate of the first problem there, once it has read it again and found that it wins.
+//! input, and writes the certificate of the first problem on standard output once it has read it again and found that it wins.
 #![tactic(auto)]
 
 mod solving;

@@ -13,16 +13,15 @@ pub enum Command {
     CheckParts,
     /// Solve each problem of the input.
     Solve {
-        /// How many expansions each first turn may take, and how many turns deep the search may go from the
-        /// problem: at least 1.
+        /// As in `tt_solve::Options`, with the depth from 1 on.
         limits: Limits,
-        /// How many workers search: 1 to `MOST_WORKERS`.
+        /// As in `tt_solve::Options`.
         workers: usize,
         /// Whether the certificate of each verdict is written.
         cert: bool,
-        /// How many expansions all first turns may take together, where there is such a total: 1 to `MOST_TOTAL`.
+        /// As in `tt_solve::Options`.
         total: Option<u32>,
-        /// How many positions df-pn may visit before the search begins, where it is asked for: 1 to `MOST_POSITIONS`.
+        /// As in `tt_solve::Options`.
         dfpn: Option<u32>,
         /// Whether the certificate may share parts. Only then is one written.
         parts: bool,

@@ -63,7 +63,7 @@ fn repeats(boards: &[Board], next: &Board) -> bool
     false
 }
 
-/// Whether a stone of this colour stands on `p` on one of the boards.
+/// False only where no stone of this colour stands on `p` on any of the boards.
 fn stone_stood(boards: &[Board], colour: Colour, p: Point) -> bool
     requires { All (λ b. p < point_count b.size) boards.now }
     ensures { (c : Colouring) → IsInHistory (colourings boards.now) c → entry_at c p ≡ Some colour
@@ -162,7 +162,7 @@ impl History {
         self.alloc
     }
 
-    /// Whether a stone of this colour stood on `p` on some board behind the first `from`.
+    /// False only where no stone of this colour stood on `p` on any board behind the first `from`.
     pub(crate) fn stone_has_stood(&self, from: usize, colour: Colour, p: Point) -> bool
         requires on_board { p < point_count self.now.size }
         requires within { from ≤ length (so_far self.now) }
@@ -181,7 +181,7 @@ impl History {
         repeats(&self.boards()[from..], next)
     }
 
-    /// Whether the board at an index has the colouring of a board of this size.
+    /// True only where the board at an index has the colouring of a board of this size.
     pub(crate) fn has_colouring_at(&self, index: usize, next: &Board) -> bool
         requires { next.now.size ≡ self.now.size }
         ensures { IsTrue result → IsInHistory (so_far self.now) next.now.points }

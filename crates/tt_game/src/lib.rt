@@ -1,6 +1,6 @@
 //! The game of Go problems under Tromp-Taylor rules: histories of colourings with positional superko, legal turns, who
 //! has won, and how the main line of an SGF game tree becomes a record or a problem. Its tests stand in `tt_tests`:
-//! `record_tests`, `problem_tests` and `turn_tests`.
+//! `record_tests`, `problem_tests`, `fault_tests` and `turn_tests`.
 //!
 //! | Module | What it has |
 //! |---|---|

@@ -178,7 +178,7 @@ impl Line {
         }
     }
 
-    /// Whether a stone of this colour stood on `p` on some board so far.
+    /// False only where no stone of this colour stood on `p` on any board so far.
     fn stone_has_stood(&self, colour: Colour, p: Point) -> bool
         requires { p < point_count self.now.frame.size }
         ensures { (c : Colouring) → IsInHistory (history self.now.state) c

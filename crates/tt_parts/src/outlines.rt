@@ -13,7 +13,7 @@ use tt_sgf::NoMemory;
 /// which the named trees end.
 #[derive(Drop)]
 pub enum Outline {
-    /// Nothing more: somebody has won.
+    /// Nothing more: somebody has won, or the targets are unconditionally alive.
     Done,
     /// The side plays this turn, and goes on with the outline.
     Pick(bool, Turn, Arc<Outline>),

@@ -1,4 +1,5 @@
-//! Strategy trees, their exact replay, proofs that win with their footprints, and certificates. Their tests stand in `tt_tests`: `proof_tests`.
+//! Strategy trees, their exact replay, proofs that win with their footprints, and certificates. Their tests
+//! stand in `tt_tests`: `proof_tests`, `footprint_tests` and `certificate_stop_tests`.
 //!
 //! | Module | What it has |
 //! |---|---|

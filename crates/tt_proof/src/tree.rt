@@ -14,7 +14,7 @@ pub const MOST_DEPTH: u16 = 512;
 /// What a side plays to win. Its parts may be those of other trees, too: a value of this type is a handle.
 #[derive(Drop)]
 pub enum Tree {
-    /// Nothing more: somebody has won.
+    /// Nothing more: somebody has won, or, of a `LifeProof`, the targets are unconditionally alive.
     Done,
     /// The side plays this turn, and goes on with the tree.
     Pick(Turn, Arc<Tree>),

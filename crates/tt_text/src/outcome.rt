@@ -62,7 +62,7 @@ fn refusal_line(alloc: Global, number: usize, code: u8) -> Result<Vec<u8>, Alloc
     Ok(text.into_bytes())
 }
 
-/// The line on the outcome of the tree with this number, with the line of a certificate where there is one.
+/// The line on the outcome of the tree with this number, with the lines below it, of a certificate or of turns, where there are any.
 pub fn outcome_line(
     alloc: Global,
     number: usize,

@@ -69,14 +69,14 @@ impl BoardDeltas {
         seen == boards.len()
     }
 
-    /// Whether the others are kept alike, which are then the same boards. No board is made for it, and it takes no memory.
+    /// True only where the others are kept alike, which are then the same boards. No board is made for it, and it takes no memory.
     pub fn is_kept_alike(&self, other: &BoardDeltas) -> bool
         ensures { IsTrue result → self.now ≡ other.now }
     {
         self.base.same(&*other.base) && self.steps.same_edits(&other.steps)
     }
 
-    /// Whether the board is one of them. It takes no memory.
+    /// True only where the board is one of them. It takes no memory.
     pub fn has(&self, board: &Board) -> bool
         ensures { IsTrue result → Contains self.now board.now }
     {

@@ -13,7 +13,7 @@ use std::alloc::{AllocError, Global};
 use std::marker::Model;
 use tt_sgf::NoMemory;
 
-/// A step from a colouring to the next one: what the point of this number holds from then on.
+/// An edit on the way from a colouring to the next one: what the point of this number holds from then on.
 #[derive(Clone, Copy)]
 enum Edit {
     Black(u16),
@@ -42,7 +42,7 @@ impl Model for EditWord {
 }
 
 impl EditWord {
-    /// The step of this kind at a point.
+    /// The edit of this kind at a point.
     fn new(kind: u16, p: u16) -> EditWord
         requires kind { kind < 4 }
         requires point { p < EDIT_KIND_STRIDE }
@@ -221,7 +221,7 @@ impl Differences {
         None
     }
 
-    /// Whether these are the same edits. No colouring is made for it.
+    /// True only where these are the same edits. No colouring is made for it.
     pub(crate) fn same_edits(&self, other: &Differences) -> bool
         ensures { IsTrue result → self.now ≡ other.now }
     {

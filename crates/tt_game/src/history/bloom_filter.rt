@@ -146,7 +146,7 @@ impl BloomFilter {
         }
     }
 
-    /// Whether anything with this hash was noted. Where nothing was, nothing that has it was.
+    /// Whether something with this hash may have been noted: where not, nothing was.
     pub fn has(&self, hash: usize) -> bool
         ensures { IsTrue result ↔ MayHold self.now hash }
     {

@@ -134,7 +134,7 @@ impl Snapshot {
         self.root.board_count()
     }
 
-    /// Whether the board was made there behind the beginning. It takes no memory.
+    /// True only where the board was made there behind the beginning. It takes no memory.
     pub fn has_later_board(&self, board: &Board) -> bool
         ensures { IsTrue result → Contains (history self.now.state) board.now.points }
     {

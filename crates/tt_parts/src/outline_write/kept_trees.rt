@@ -5,8 +5,10 @@ use std::alloc::Global;
 use tt_game::{Line, board_hash};
 use tt_sgf::NoMemory;
 
-/// How many chains the kept trees are in, by the hashes of their boards.
-const BUCKETS: usize = 65_536;
+/// The kept trees are in chains, one for each number that the upper bits of their boards' hashes may be.
+const BUCKET_BITS: u32 = 16;
+
+const BUCKETS: usize = 1 << BUCKET_BITS;
 
 /// No index at all.
 const NO_TREE: usize = usize::MAX;
@@ -44,9 +46,9 @@ pub(crate) struct KeptTrees {
     last: Vec<usize>,
 }
 
-/// The chain of a hash: its highest bits say most.
+/// The chain of a hash.
 fn hash_bucket(hash: u64) -> usize {
-    (hash >> 48) as usize
+    (hash >> (u64::BITS - BUCKET_BITS)) as usize
 }
 
 impl KeptTrees {

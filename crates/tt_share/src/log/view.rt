@@ -20,7 +20,8 @@ use tt_search::{Kept, ProofPerSide};
 use tt_sgf::NoMemory;
 
 /// What one store has taken in of a log: tokens, the oldest first, and how many proofs were kept through it. It takes 24
-/// bytes a token and 12 to 16 for the index of each, and 8 for each proof that was kept through it. Each of these lists
+/// bytes a token and 12 to 16 for the index of each, and 8 for each proof that was kept through it; the filter of the index
+/// takes 24 KB. Each of these lists
 /// holds up to twice as much once it has grown, and three times while it grows. The proofs stand in the log alone.
 #[derive(Drop)]
 pub struct View<'a> {
