@@ -4,6 +4,7 @@ import http.client
 import json
 import subprocess
 import sys
+import time
 from pathlib import Path
 from typing import Any, Dict, Iterator, List, Optional, Tuple
 
@@ -44,6 +45,20 @@ class Served:
 
     def lines(self, path: str, body: str) -> List[Any]:
         return [json.loads(line) for line in self.post(path, body, accept="application/json")[2].splitlines()]
+
+    def await_program(self) -> None:
+        """Waits until a program runs."""
+        end = time.monotonic() + 240
+        while not self.has_program():
+            assert time.monotonic() < end, "no program was begun"
+            time.sleep(0.01)
+
+    def has_program(self) -> bool:
+        try:
+            return any(path.read_text() for path in Path(f"/proc/{self.process.pid}/task").glob("*/children"))
+        except FileNotFoundError:
+            # (a thread has just ended)
+            return False
 
     def logged(self) -> List[str]:
         """Ends the service; what it has logged of requests. The last of these may stand behind the line that says that it ends."""

@@ -158,8 +158,11 @@ def test_a_run_that_is_ended_leaves_no_program(book: Path, tmp_path: Path) -> No
             time.sleep(0.05)
         process.send_signal(signal.SIGTERM)
         assert process.wait(60) == 143
-    time.sleep(0.2)
-    assert not any(os.path.exists(f"/proc/{pid}") for pid in (tmp_path / "pids").read_text().split()) and (out / "report.html").exists()
+    pids, end = (tmp_path / "pids").read_text().split(), time.monotonic() + 60
+    while any(os.path.exists(f"/proc/{pid}") for pid in pids):
+        assert time.monotonic() < end, pids
+        time.sleep(0.05)
+    assert (out / "report.html").exists()
 
 
 def test_a_comment_that_swallows_a_problem(tmp_path: Path) -> None:

@@ -1,4 +1,5 @@
 """Kos that books know, and shapes that are none."""
+import time
 from pathlib import Path
 from typing import Tuple
 
@@ -7,6 +8,7 @@ import kos
 import pytest
 
 import tsumego
+from tsumego import solving
 from tsumego import words
 from tsumego.ko import leaning_on_repetition, with_attackers_threat, with_defenders_threat
 from tsumego.problems import problem_of
@@ -14,8 +16,13 @@ from tsumego.sgf import trees_of
 from tsumego.strategy import read_certificate
 
 EXAMPLES = Path(__file__).resolve().parents[2] / "examples"
-# (how much is asked doesn't go by the machine: a busy one gets the same answers later)
 SECONDS = 10
+
+
+@pytest.fixture(autouse=True)
+def slow_clock(monkeypatch: pytest.MonkeyPatch) -> None:
+    """How much is asked goes by an answer's seconds, and not by the machine: so a busy one gets the same answers, if it may take longer."""
+    monkeypatch.setattr(solving.Clock, "spent", lambda clock: (time.monotonic() - clock.begun) / 10)
 
 
 def shape(name: str) -> kos.Shape:

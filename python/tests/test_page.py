@@ -51,7 +51,7 @@ def book(page: Page) -> None:
 
 
 def saved(files: Path, name: str) -> str:
-    end = time.monotonic() + 20
+    end = time.monotonic() + 240
     while not (files / name).exists() and time.monotonic() < end:
         time.sleep(0.05)
     return (files / name).read_bytes().decode("utf-8", "replace")
@@ -115,7 +115,7 @@ def test_words_of_life_ko_and_the_unsettled(page: Page) -> None:
     page.press("ask")
     assert "But a ko decides" in page.text("words")
     page.paste(OPEN)
-    page.browser.execute_script("const old = window.fetch; window.fetch = (path, rest) => old(path + '?dfpn=1000&seconds=3', rest)")
+    page.browser.execute_script("const old = window.fetch; window.fetch = (path, rest) => old(path + '?dfpn=1000&seconds=60', rest)")
     page.press("ask")
     assert page.text("say") == "Not settled." and "weren't enough" in page.text("words") and "fewer squares" in page.text("words")
     page.browser.refresh()
@@ -166,7 +166,7 @@ def test_by_the_keyboard(page: Page) -> None:
 
 
 def test_faults_are_words_and_nothing_is_lost(browser: Any) -> None:
-    with served("--at-once", "1") as service:
+    with served("--at-once", "1", "--seconds", "120") as service:
         page = Page(browser, f"http://127.0.0.1:{service.port}/")
         page.press("ask")
         assert page.text("error") == "The board is empty: set up the stones first, or open an SGF."

@@ -2,11 +2,11 @@
 import pytest
 
 from tsumego.board import Board
-from tsumego.dividing import after_pass, joined
+from tsumego.dividing import joined
 from tsumego.points import editor_name, read_point
 from tsumego.problems import chapter, problem_of
 from tsumego.sgf import to_text, trees_of
-from tsumego.strategy import read_certificate, size
+from tsumego.strategy import cut_at_pass, read_certificate, size
 
 
 @pytest.mark.parametrize("point, rows, name", [("aa", 19, "A19"), ("ib", 19, "J18"), ("ss", 19, "T1"), ("ca", 7, "C7"), ("pass", 9, "pass")])
@@ -85,8 +85,8 @@ def test_legal_turns() -> None:
 
 
 def test_certificates_that_are_joined() -> None:
-    assert after_pass("?aa=!ab.ba*0--!aa.;") == "?aa=!ab.ba*0--.;"
-    assert after_pass("?aa?ab.--.;ba!--?--.;--?;;") == "?aa?ab.--.;ba!--?--.;--.;"
+    assert cut_at_pass("?aa=!ab.ba*0--!aa.;") == "?aa=!ab.ba*0--.;"
+    assert cut_at_pass("?aa?ab.--.;ba!--?--.;--?;;") == "?aa?ab.--.;ba!--?--.;--.;"
     assert joined([("aa", "=!ab=?--.;"), ("ba", "!aa=?ca*0;"), ("--", "*1")]) == "aa=!ab=?--.;ba!aa=?ca*2;--*4"
 
 
@@ -94,7 +94,7 @@ def test_certificates() -> None:
     found = read_certificate("killed !ca?aa.--!aa.;\n")
     assert found.pick == "ca" and found.then and list(found.then.replies) == ["aa", "pass"]
     assert found.then.replies["pass"].pick == "aa" and found.then.replies["aa"].branches() == []
-    assert (size(found, 1), size(found, 2), size(found, 9)) == (1, 3, 4)
+    assert (size(found, 1), size(found, 2), size(found, 9)) == (1, 3, 4) and (found.depth, found.then.depth) == (3, 2)
     shared = read_certificate("lives ?aa=!ab?--.;ba*0;")
     assert shared.replies["aa"] is shared.replies["ba"]
     for text in ("killed !ca?aa.", "killed !ca..", "killed x"):

@@ -31,7 +31,7 @@ def stand_in(tmp_path: Path, monkeypatch: pytest.MonkeyPatch) -> Callable[[str, 
 def test_what_a_program_says(stand_in: Callable[[str, str], Path]) -> None:
     stand_in("tsumego", 'echo "1 $*"; echo 2; printf cut; [ "$1" != late ] || exec sleep 60')
     assert programs.run("tsumego", ["solve"], b"", 60).text == "1 solve\n2\ncut"
-    late = programs.run("tsumego", ["late"], b"", 0.5)
+    late = programs.run("tsumego", ["late"], b"", 3)
     assert (late.text, late.status) == ("1 late\n2\n", None)
     stand_in("tsumego", "echo no such word >&2; exit 2")
     with pytest.raises(programs.ProgramError, match="^tsumego: no such word$"):

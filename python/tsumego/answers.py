@@ -2,13 +2,18 @@
 from dataclasses import dataclass
 from typing import Optional, Tuple
 
-from .board import OTHER
 from .problems import Problem
 from .strategy import Strategy
 
-__all__ = ["Answer", "Closing", "KILLED", "Ko", "LIVES", "REFUSED", "Turn", "UNSETTLED", "Verdict", "verdict_of"]
+__all__ = [
+    "Answer", "Closing", "KILLED", "Ko", "LIVES", "NO_MARKS", "NO_TREE", "REFUSED", "REPEATS", "TARGET_TAKEN", "Turn", "UNSETTLED", "Verdict",
+    "refused", "verdict_of", "winner_of",
+]
 
 KILLED, LIVES, UNSETTLED, REFUSED = "killed", "lives", "unsettled", "refused"
+# The numbers of some refusals, as a verdict has them. A turn that takes a target wins for the attacker at once: then the triangle stands on
+# no stone.
+NO_TREE, REPEATS, NO_MARKS, TARGET_TAKEN = "1", "17", "20", "22"
 
 
 @dataclass(frozen=True)
@@ -26,9 +31,16 @@ class Verdict:
 
 
 def verdict_of(line: str) -> Verdict:
-    """The verdict of a line without its number: `killed ca`, `lives`, `unsettled budget`, `refused 20`."""
-    word, _, rest = line.partition(" ")
+    """The verdict of a line, behind its number or its turn: `1 killed ca`, `1 lives`, `1 unsettled budget`, `1 refused 20`."""
+    word, _, rest = line.partition(" ")[2].partition(" ")
     return Verdict(word, rest or None) if word in (KILLED, LIVES) else Verdict(word, None, rest)
+
+
+def winner_of(problem: Problem, verdict: Verdict) -> Optional[str]:
+    """The colour that wins, `B` or `W`, where it is known. `verdict` is of the problem, or of one after some of its turns."""
+    if verdict.word == LIVES:
+        return problem.defender
+    return problem.attacker if verdict.word == KILLED or (verdict.word, verdict.detail) == (REFUSED, TARGET_TAKEN) else None
 
 
 @dataclass(frozen=True)
@@ -103,10 +115,13 @@ class Answer:
     @property
     def winner(self) -> Optional[str]:
         """The colour that wins, `B` or `W`, where it is known."""
-        if self.problem is None or not self.verdict.is_settled:
-            return None
-        return self.problem.defender if self.verdict.word == LIVES else OTHER[self.problem.defender]
+        return winner_of(self.problem, self.verdict) if self.problem else None
 
     @property
     def is_mover_winner(self) -> bool:
         return self.problem is not None and self.winner == self.problem.to_move
+
+
+def refused(why: str, number: str = NO_TREE, name: str = "") -> Answer:
+    """The answer to what is no problem."""
+    return Answer(name, Verdict(REFUSED, None, number), why=why)

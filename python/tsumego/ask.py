@@ -16,7 +16,7 @@ import shutil
 import sys
 from typing import IO, Callable, List, Optional, Union
 
-from .answers import REFUSED, Answer, Turn, Verdict
+from .answers import Answer, Turn, Verdict, refused
 from .asking import SECONDS, answer, with_strategies
 from .command import Parser, seconds, status_of
 from .inputs import Input, UsageError, files_and_stone, read_file
@@ -55,7 +55,7 @@ class Asking:
         name = heading(given.file, given.number if given.count > 1 else 0, "")
         self.progress(f"{name} of {given.count} ..." if given.count > 1 else f"{name} ...")
         try:
-            found = answer(given.tree, self.stone, self.limit, self.tell_of(name)) if given.tree else Answer("", Verdict(REFUSED, None, "1"), why=given.fault)
+            found = answer(given.tree, self.stone, self.limit, self.tell_of(name)) if given.tree else refused(given.fault)
         finally:
             self.progress("")
         self.is_settled = self.is_settled and found.verdict.is_settled

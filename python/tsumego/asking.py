@@ -3,7 +3,7 @@ from concurrent.futures import Future, wait
 from dataclasses import replace
 from typing import Callable, Dict, List, Optional, Tuple, Union
 
-from .answers import LIVES, REFUSED, Answer, Closing, Turn, Verdict
+from .answers import LIVES, REFUSED, REPEATS, Answer, Closing, Turn, Verdict, refused, winner_of
 from .ko import KoTest, is_looked_through
 from .marking import Marked, Refused, marked
 from .points import PASS, place
@@ -20,8 +20,6 @@ SECONDS = 10.0
 SOON = 0.1
 # Takes parts of an answer as they are known: the problem in each way to mark it, the verdict, and first turns.
 Tell = Callable[[Union[Marked, Verdict, Turn]], None]
-# A turn that takes a target wins for the attacker at once: then the triangle stands on no stone.
-TARGET_TAKEN, REPEATS = "22", "17"
 
 
 def solve(sgf: Union[str, bytes, GameTree], stone: Optional[str] = None, seconds: float = SECONDS) -> Answer:
@@ -37,7 +35,7 @@ def solve(sgf: Union[str, bytes, GameTree], stone: Optional[str] = None, seconds
     try:
         return answer(trees_of(read_bytes(sgf) if isinstance(sgf, bytes) else sgf)[0], stone, seconds)
     except SgfError as fault:
-        return Answer("", Verdict(REFUSED, None, "1"), why=str(fault))
+        return refused(str(fault))
 
 
 def answer(tree: GameTree, stone: Optional[str] = None, seconds: float = SECONDS, tell: Tell = lambda part: None, is_alone: bool = True) -> Answer:
@@ -47,7 +45,7 @@ def answer(tree: GameTree, stone: Optional[str] = None, seconds: float = SECONDS
     try:
         found = marked(tree, stone)
     except Refused as fault:
-        return Answer(name, Verdict(REFUSED, None, str(fault.number or 20)), why=str(fault))
+        return refused(str(fault), fault.number, name)
     tell(found)
     clock = Clock(seconds)
     with Questions() as questions:
@@ -134,7 +132,7 @@ def _is_repetition(after: Verdict) -> bool:
 
 def _is_other_open(problem: Problem, found: Verdict) -> bool:
     """Whether it isn't known who wins if the other side begins. If the side to move loses, it loses then too: so says its pass."""
-    return not found.is_settled or (found.word == LIVES) == (problem.to_move == problem.defender)
+    return winner_of(problem, found) in (None, problem.to_move)
 
 
 def _turns_to_ask(result: Answer) -> List[str]:
@@ -171,13 +169,10 @@ def _answered(problem: Problem, ours: Strategy) -> Tuple[Turn, ...]:
 
 def _turn(problem: Problem, turn: str, after: Verdict) -> Turn:
     """A turn, of the verdict after it."""
-    is_defender = problem.to_move == problem.defender
-    if after.word == REFUSED and after.detail == TARGET_TAKEN:
-        return Turn(turn, not is_defender)
-    if not after.is_settled:
+    winner = winner_of(problem, after)
+    if winner is None:
         return Turn(turn, None)
-    wins = (after.word == LIVES) == is_defender
-    return Turn(turn, wins, None if wins else after.turn)
+    return Turn(turn, True) if winner == problem.to_move else Turn(turn, False, after.turn)
 
 
 def with_strategies(result: Answer, seconds: float = SECONDS) -> Answer:

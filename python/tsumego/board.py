@@ -2,7 +2,7 @@
 import functools
 from typing import Dict, FrozenSet, Iterable, List, Set, Tuple
 
-from .points import PASS, place, sgf_name
+from .points import PASS, in_rows, sgf_name
 
 BLACK, WHITE = "B", "W"
 OTHER = {BLACK: WHITE, WHITE: BLACK}
@@ -64,7 +64,7 @@ class Board:
     def chains(self) -> List[Set[str]]:
         """All chains, in the order of their first stones, row by row."""
         found: List[Set[str]] = []
-        for stone in sorted(self.stones, key=lambda each: place(each)[::-1]):
+        for stone in in_rows(self.stones):
             if not any(stone in chain for chain in found):
                 found.append(self.chain(stone))
         return found
@@ -96,4 +96,4 @@ class Board:
 
     def of(self, colour: str) -> List[str]:
         """The stones of a colour, row by row."""
-        return sorted((each for each in self.stones if self.stones[each] == colour), key=lambda each: place(each)[::-1])
+        return in_rows(each for each in self.stones if self.stones[each] == colour)

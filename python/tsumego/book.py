@@ -21,7 +21,7 @@ import threading
 from typing import Any, Dict, Iterator, List, Optional, Tuple
 
 from . import __version__
-from .answers import REFUSED, UNSETTLED, Answer, Verdict
+from .answers import UNSETTLED, Answer, refused
 from .asking import SECONDS, answer
 from .checking import faults
 from .command import Parser, seconds, status_of
@@ -54,7 +54,7 @@ def parser() -> Parser:
 
 def asked(given: Input, limit: float, has_certificates: bool) -> Dict[str, Any]:
     """What the report has of a problem: data for machines, the card for people, the tree with marks."""
-    found = answer(given.tree, None, limit, is_alone=False) if given.tree else Answer("", Verdict(REFUSED, None, "1"), why=given.fault)
+    found = answer(given.tree, None, limit, is_alone=False) if given.tree else refused(given.fault)
     wrong = faults(given.tree, found, limit) if given.tree else [f"refused: {given.fault}"]
     checked = certified(found.problem, found.verdict, limit) if has_certificates and found.problem and found.verdict.is_settled else "-"
     if checked not in ("valid", "too long", "-"):

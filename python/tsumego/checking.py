@@ -4,14 +4,15 @@ A line leads from the problem to a leaf. It is wrong if a node of it has BM or a
 `Correct` or goproblems' RIGHT. If some line is called right, the others are wrong; if some are called wrong alone, the others are
 right. If none has such a word, the main line is right, with all answers of the other side; nothing is said of other lines.
 """
+import itertools
 import re
-from dataclasses import dataclass, replace
+from dataclasses import dataclass
 from typing import Dict, Iterator, List, Optional, Tuple
 
-from .answers import LIVES, REFUSED, Answer, Verdict
+from .answers import LIVES, REFUSED, TARGET_TAKEN, Answer, Verdict, winner_of
 from .board import NAMES
 from .points import PASS, read_point
-from .problems import MOVES, SETUP, Problem, asked_at, turn_of
+from .problems import MOVES, SETUP, Problem, asked_at, moves_of
 from .sgf import GameTree, Node, main_line, plain
 from .solving import Clock, verdict
 from .words import listed
@@ -22,7 +23,6 @@ __all__ = ["Line", "faults", "lines_of"]
 WRONG = re.compile(r"\b(wrong|incorrect|fail(s|ed|ure)?)\b(?![^.!\n]*\?)|失败|失敗|错|不正解", re.I)
 RIGHT = re.compile(r"\b(right|correct|success)\b(?![^.!\n]*\?)|(?<!不)正解|(?<!不)正确|正確|成功", re.I)
 STATUS = re.compile(r"\b(alive|dead)\b[^.]*\?|\bstatus\b|\bdead or alive\b|\balive or dead\b|死活\?", re.I)
-TARGET_TAKEN = "22"
 
 
 @dataclass(frozen=True)
@@ -36,7 +36,7 @@ class Line:
 def lines_of(tree: GameTree, solver: str) -> List[Line]:
     """The lines behind the problem's node, up to a node that sets up stones."""
     at = asked_at(main_line(tree))
-    found = [(tuple(_moves(nodes)), _said(nodes, solver), is_main) for nodes, is_main in _paths(tree, at + 1)]
+    found = [(_moves(nodes), _said(nodes, solver), is_main) for nodes, is_main in _paths(tree, at + 1)]
     said = {word for _, word, _ in found}
     lines = []
     for moves, word, is_main in found:
@@ -59,13 +59,9 @@ def _paths(tree: GameTree, skip: int) -> Iterator[Tuple[List[Node], bool]]:
             waiting.append((variation, nodes, is_main and number == 0))
 
 
-def _moves(nodes: List[Node]) -> Iterator[Tuple[str, str]]:
-    for node in nodes:
-        if node.has(*SETUP):
-            return
-        for colour in MOVES:
-            if node.has(colour):
-                yield colour, turn_of(node.first(colour))
+def _moves(nodes: List[Node]) -> Tuple[Tuple[str, str], ...]:
+    """The moves of nodes, up to one that sets up stones."""
+    return tuple(moves_of(itertools.takewhile(lambda node: not node.has(*SETUP), nodes)))
 
 
 def _said(nodes: List[Node], solver: str) -> Optional[bool]:
@@ -94,16 +90,13 @@ class _Solution:
 
     def after(self, moves: Tuple[Tuple[str, str], ...]) -> Verdict:
         if moves not in self.known:
-            nodes = tuple(Node([(colour, ["" if turn == PASS else turn])]) for colour, turn in moves)
-            self.known[moves] = verdict(replace(self.problem, nodes=self.problem.nodes + nodes), self.clock)
+            self.known[moves] = verdict(self.problem.with_moves(moves), self.clock)
         return self.known[moves]
 
     def wins(self, moves: Tuple[Tuple[str, str], ...]) -> Optional[bool]:
         """Whether the solver wins after the moves; None where that isn't known."""
-        found = self.after(moves)
-        if found.word == REFUSED:
-            return self.solver == self.problem.attacker if found.detail == TARGET_TAKEN else None
-        return (found.word == LIVES) == (self.solver == self.problem.defender) if found.is_settled else None
+        winner = winner_of(self.problem, self.after(moves))
+        return None if winner is None else winner == self.solver
 
     def fault(self, line: Line) -> Optional[str]:
         """What is wrong with what the file says of a line."""

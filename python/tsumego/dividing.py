@@ -30,6 +30,8 @@ from .points import PASS
 from .problems import Problem, problem_of
 from .programs import JOBS, ProgramError, in_parallel, program, run, stop, use_machines
 from .sgf import write_bytes
+from .solving import checked
+from .strategy import cut_at_pass, word_of
 from .words import shown
 
 __all__ = ["main"]
@@ -40,7 +42,7 @@ Found = Tuple[str, str]
 
 
 def named(path: Path) -> str:
-    return ".".join("--" if turn == PASS else turn for turn in path)
+    return ".".join(map(word_of, path))
 
 
 class Division:
@@ -90,7 +92,8 @@ class Division:
             self.lies[path] = said
             return None
         word, _, tree = lines[1].partition(" ")
-        return word, after_pass(tree) if path[-1:] == (PASS,) and tree.startswith("?") else tree
+        # (where a pass stands in front, another one is the last turn, and ends the game)
+        return word, cut_at_pass(tree) if path[-1:] == (PASS,) and tree.startswith("?") else tree
 
     def _composed(self, path: Path) -> Optional[Found]:
         """What follows from the positions after each turn."""
@@ -99,8 +102,8 @@ class Division:
         after = [(turn, self.found(path + (turn,))) for turn in problem.legal_turns()]
         for turn, found in after:
             if found and found[0] == mover:
-                return mover, f"!{'--' if turn == PASS else turn}{found[1]}"
-        replies = [("--" if turn == PASS else turn, found[1]) for turn, found in after if found]
+                return mover, f"!{word_of(turn)}{found[1]}"
+        replies = [(word_of(turn), found[1]) for turn, found in after if found]
         return ({LIVES: KILLED, KILLED: LIVES}[mover], "?" + joined(replies) + ";") if len(replies) == len(after) else None
 
     def left(self, path: Path, length: int) -> List[Path]:
@@ -135,37 +138,6 @@ class Division:
         os.makedirs(os.path.join(self.folder, "answers"), exist_ok=True)
         in_parallel(ask, [path for path in self.left((), length) if not os.path.exists(self.file(path))], jobs)
         self.known.clear()
-
-
-def checked(problem: Problem, certificate: str) -> str:
-    """What `check` says of a certificate on this machine."""
-    return run("tsumego", ["check", "--parts"], write_bytes(f"{problem.text()}\n{certificate}\n"), is_here=True).text.strip()
-
-
-def behind(tree: str, at: int) -> int:
-    """The place behind the tree that begins there."""
-    opened = 0
-    while True:
-        token = re.compile(r"(=?!..)|(=?\?)|\.|\*[0-9]+").match(tree, at)
-        if not token:
-            raise ValueError(f"the tree breaks off at {tree[at:at + 9]!r}")
-        at = token.end()
-        if token[1]:
-            continue
-        opened += bool(token[2])
-        while opened and tree.startswith(";", at):
-            at, opened = at + 1, opened - 1
-        if not opened:
-            return at
-        at += 2
-
-
-def after_pass(tree: str) -> str:
-    """The answers to the turns of a problem, where a pass stands in front of it: then another pass, the last turn, ends the game."""
-    at = 1
-    while not tree.startswith("--", at):
-        at = behind(tree, at + 2)
-    return tree[: at + 2] + ".;"
 
 
 def joined(replies: List[Tuple[str, str]]) -> str:

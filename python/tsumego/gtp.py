@@ -14,16 +14,16 @@ from dataclasses import replace
 from typing import Callable, Dict, Iterable, Iterator, List, Optional, TextIO, Tuple
 
 from . import __version__
-from .answers import KILLED, LIVES, REFUSED, Answer, Verdict
+from .answers import KILLED, LIVES, REFUSED, Answer, Verdict, winner_of
 from .asking import SECONDS, answer
 from .board import BLACK, NAMES, WHITE, Board
 from .command import Parser, seconds, status_of
 from .inputs import UsageError, read_file
 from .marking import Refused, marked
-from .points import COLUMNS, PASS, place, read_point, sgf_name
-from .problems import MOVES, Problem, problem_of, set_up, turn_of
+from .points import COLUMNS, PASS, editor_name, place, read_point, sgf_name
+from .problems import MOVES, Problem, moves_of, problem_of, set_up
 from .programs import ProgramError
-from .sgf import GameTree, Node, main_line
+from .sgf import GameTree, main_line
 from .solving import Clock, strategy, verdict
 from .strategy import Strategy
 from .words import ko_said, listed
@@ -48,10 +48,7 @@ class GtpError(ValueError):
 
 def vertex(turn: str, rows: int) -> str:
     """A turn as GTP writes it: `C7`, `PASS`."""
-    if turn == PASS:
-        return "PASS"
-    column, row = place(turn)
-    return f"{COLUMNS[column]}{rows - row}"
+    return editor_name(turn, rows).upper()
 
 
 def colour_of(word: str) -> str:
@@ -63,8 +60,7 @@ def colour_of(word: str) -> str:
 
 def is_ended(problem: Problem) -> bool:
     """Whether the last two turns were passes."""
-    turns = [turn_of(node.first(colour)) for node in problem.nodes[-2:] for colour in MOVES if node.has(colour)]
-    return turns == [PASS, PASS]
+    return [turn for _, turn in moves_of(problem.nodes[-2:])] == [PASS, PASS]
 
 
 def fixed_handicap(size: int, number: int) -> List[str]:
@@ -238,9 +234,7 @@ class Engine:
 
     def do_list_stones(self, colour: str = "", *_: str) -> str:
         board, _to_move = self.problem.position()
-        wanted = colour_of(colour)
-        points = [sgf_name(column, row) for row in range(board.rows) for column in range(board.columns)]
-        return " ".join(vertex(point, board.rows) for point in points if board.stones.get(point) == wanted)
+        return " ".join(vertex(point, board.rows) for point in board.of(colour_of(colour)))
 
     def do_captures(self, colour: str = "", *_: str) -> str:
         """How many stones of the other side a colour has taken since the setup."""
@@ -404,7 +398,7 @@ class Engine:
 
     def turns(self) -> List[Tuple[str, str]]:
         """The turns of the history, each with its colour."""
-        return [(colour, turn_of(node.first(colour))) for node in self.problem.nodes for colour in MOVES if node.has(colour)]
+        return moves_of(self.problem.nodes)
 
     def set_up(self, stones: Dict[str, str], to_move: str) -> None:
         """A position without history. The marks go."""
@@ -418,13 +412,13 @@ class Engine:
         problem = self.problem
         if is_ended(problem):
             # (the game goes on from the position)
-            problem = replace(problem, nodes=(set_up(*problem.position()),))
+            problem = problem.anew()
         if problem.to_move != colour and turn != PASS:
             problem = problem.after(PASS)
         if turn != PASS and turn not in replace(problem, region=(turn,)).legal_turns():
             raise GtpError("illegal move")
         if problem.to_move == colour:
-            problem = replace(problem, nodes=problem.nodes + (Node([(colour, ["" if turn == PASS else turn])]),))
+            problem = problem.with_moves([(colour, turn)])
         self.before.append(self.problem)
         self.problem = problem
 
@@ -437,7 +431,7 @@ class Engine:
             return problem
         named = stone or self.named
         # (the position as it is now)
-        shown = replace(problem, nodes=(set_up(*problem.position()),), region=())
+        shown = replace(problem.anew(), region=())
         try:
             found = marked(GameTree(shown.marked_nodes()), named)
         except Refused as fault:
@@ -493,7 +487,7 @@ class Engine:
             return PASS
         problem = self.to_begin(self.marks(), colour)
         found = self.verdict(problem, colour)
-        if (found.word == LIVES) == (colour == problem.defender):
+        if winner_of(problem, found) == colour:
             is_safe = colour == problem.defender and self.verdict(problem, problem.attacker).word == LIVES
             return PASS if is_safe else found.turn or PASS
         ours = strategy(problem, Clock(self.limit))
@@ -504,16 +498,9 @@ class Engine:
 
 def longest(found: Strategy) -> List[str]:
     """The turns of a strategy with the longest resistance; a pass resists least."""
-    depths: Dict[int, int] = {}
-
-    def depth(each: Strategy) -> int:
-        if id(each) not in depths:
-            depths[id(each)] = 1 + max((depth(then) for _, then in each.branches()), default=-1)
-        return depths[id(each)]
-
     turns: List[str] = []
     while found.branches() and len(turns) < LONGEST:
-        turn, found = max(found.branches(), key=lambda branch: (branch[0] != PASS, depth(branch[1])))
+        turn, found = max(found.branches(), key=lambda branch: (branch[0] != PASS, branch[1].depth))
         turns.append(turn)
     return turns
 

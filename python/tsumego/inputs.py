@@ -5,13 +5,12 @@ import sys
 from dataclasses import dataclass
 from typing import List, Optional, Tuple
 
+from .points import is_point
 from .problems import chapter
 from .sgf import GameTree, SgfError, read_bytes, trees_of
 from .words import shown
 
 __all__ = ["Input", "UsageError", "files_and_stone", "read_file"]
-
-_POINT = re.compile("[A-HJ-Ta-hj-t][1-9][0-9]?|[a-s]{2}")
 
 
 class UsageError(ValueError):
@@ -33,7 +32,7 @@ def files_and_stone(words: List[str]) -> Tuple[List[str], Optional[str]]:
     """Files, and the stone that a word names which is no file. Raises UsageError where a word is neither."""
     files = [word for word in words if word == "-" or os.path.exists(word)]
     others = [word for word in words if word not in files]
-    wrong = [word for word in others if not _POINT.fullmatch(word)]
+    wrong = [word for word in others if not is_point(word)]
     if wrong and re.fullmatch("[A-Za-z][0-9]+", wrong[0]):
         raise UsageError(f"{wrong[0]} is no file and no point: a point is written as C18 (there is no column I), or as cb")
     if wrong:

@@ -219,7 +219,7 @@ def _living(problem: Problem, depth: int, asking: _Asking) -> List[Problem]:
         return []
     if to_move == problem.defender:
         # (the attacker may have taken a ko: set up anew, the defender may take back)
-        made = _anew(problem)
+        made = problem.anew()
         if problem.nodes[-1].has(problem.attacker) and asking.verdict(made).word == LIVES:
             return [made]
         return next(filter(None, _after_turns(problem, depth - 1, asking)), []) if depth else []
@@ -239,10 +239,5 @@ def _after_turns(problem: Problem, depth: int, asking: _Asking) -> Iterator[List
     turns = list(map(problem.after, problem.open_points()))
     kills = [(each, found.turn) for each, found in zip(turns, asking.verdicts(turns)) if found.word == KILLED and found.turn]
     # (asked side by side)
-    asking.verdicts([_anew(each.after(turn)) for each, turn in kills])
+    asking.verdicts([each.after(turn).anew() for each, turn in kills])
     return (_living(each, depth, asking) for each, _ in kills)
-
-
-def _anew(problem: Problem) -> Problem:
-    """The position set up anew: what was there before may be repeated."""
-    return replace(problem, nodes=(set_up(*problem.position()),))

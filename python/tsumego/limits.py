@@ -1,8 +1,11 @@
-"""What a request may take, and what it was asked to stay below."""
-from dataclasses import dataclass, replace
+"""What the programs take at most; what a request may take, and was asked to stay below."""
+from dataclasses import dataclass, fields, replace
 from typing import List, Mapping
 
-__all__ = ["Limits"]
+__all__ = ["LIMITS", "Limits", "MOST_BYTES", "MOST_DEPTH", "MOST_DFPN"]
+
+# Bytes of an input, turns that a strategy goes deep, positions that df-pn visits. docs/check compares them with the programs' own.
+MOST_BYTES, MOST_DEPTH, MOST_DFPN = 1_048_576, 512, 100_000_000
 
 
 @dataclass(frozen=True)
@@ -13,12 +16,12 @@ class Limits:
     memory: int = 300_000_000
     total: int = 100_000
     dfpn: int = 1_000_000
-    bytes: int = 1_048_576
+    bytes: int = MOST_BYTES
 
     def below(self, asked: Mapping[str, str]) -> "Limits":
         """These limits, or those that were asked for where they are lower. Raises ValueError where one is no number above 0."""
         lower = self
-        for name in ("seconds", "memory", "total", "dfpn", "bytes"):
+        for name in LIMITS:
             if name in asked:
                 word = asked[name]
                 if not word.isascii() or not word.replace(".", "", name == "seconds").isdigit() or float(word) <= 0:
@@ -30,3 +33,7 @@ class Limits:
     def solve(self) -> List[str]:
         """The words of `solve` with these limits."""
         return ["solve", "--total", str(self.total)] + (["--dfpn", str(self.dfpn)] if self.dfpn else [])
+
+
+# The limits' names.
+LIMITS = tuple(each.name for each in fields(Limits))

@@ -2,10 +2,12 @@
 import re
 from typing import Iterable, Iterator, List, Optional, Tuple, Union
 
-from .answers import REFUSED, Verdict, verdict_of
-from .programs import JOBS, MAX_BYTES, ProgramError, in_parallel, run
+from .answers import NO_TREE, REFUSED, Verdict, verdict_of
+from .asking import SECONDS
+from .limits import MOST_BYTES
+from .programs import JOBS, ProgramError, in_parallel, run
 from .sgf import GameTree, SgfError, read_bytes, to_text, trees_of, write_bytes
-from .solving import OUT_OF_TIME, POSITIONS
+from .solving import OUT_OF_TIME, POSITIONS, solve_words
 
 __all__ = ["verdicts"]
 
@@ -16,7 +18,7 @@ _PLAIN = re.compile(rb"[\t-\r ]*\([\t-\r ]*(?:;[\t-\r ]*(?:[A-Z]+[\t-\r ]*(?:\[[
 Indexed = Tuple[int, bytes]
 
 
-def verdicts(problems: Iterable[Union[str, bytes, GameTree]], seconds: float = 10.0, positions: int = POSITIONS, jobs: int = JOBS) -> List[Verdict]:
+def verdicts(problems: Iterable[Union[str, bytes, GameTree]], seconds: float = SECONDS, positions: int = POSITIONS, jobs: int = JOBS) -> List[Verdict]:
     """Who wins each of many problems that have marks, in their order. Each text is one problem in SGF: a second tree of it isn't read.
 
     A text that is no problem gets `refused` and hurts no neighbour. `seconds` bounds each problem, `positions` those that df-pn visits,
@@ -27,7 +29,7 @@ def verdicts(problems: Iterable[Union[str, bytes, GameTree]], seconds: float = 1
     def texts() -> Iterator[Indexed]:
         # (read while the program is at those in front)
         for number, problem in enumerate(problems):
-            found.append(Verdict(REFUSED, None, "1"))
+            found.append(Verdict(REFUSED, None, NO_TREE))
             text = _first_tree(problem)
             if text:
                 yield number, text + b"\n"
@@ -56,7 +58,7 @@ def _batches(problems: Iterable[Indexed]) -> Iterator[List[Indexed]]:
     batch: List[Indexed] = []
     size = 0
     for each in problems:
-        if batch and (len(batch) == BATCH or size + len(each[1]) > MAX_BYTES):
+        if batch and (len(batch) == BATCH or size + len(each[1]) > MOST_BYTES):
             yield batch
             batch, size = [], 0
         batch.append(each)
@@ -67,14 +69,14 @@ def _batches(problems: Iterable[Indexed]) -> Iterator[List[Indexed]]:
 
 def _asked(batch: List[Indexed], seconds: float, positions: int) -> List[Tuple[int, Verdict]]:
     """The verdicts of problems by one process. If it ends early, the one that it was at gets a process of its own, and the rest another."""
-    words = ["solve", "--budget", "1", "--dfpn", str(positions)]
+    limit = seconds if len(batch) == 1 else seconds * 2
     try:
-        lines = run("tsumego", words, b"".join(text for _, text in batch), seconds if len(batch) == 1 else seconds * 2).text.splitlines()
+        lines = run("tsumego", solve_words(positions), b"".join(text for _, text in batch), limit).text.splitlines()
     except ProgramError:
         if len(batch) == 1:
             raise
         lines = []
-    found = [(number, verdict_of(line.partition(" ")[2])) for (number, _), line in zip(batch, lines)]
+    found = [(number, verdict_of(line)) for (number, _), line in zip(batch, lines)]
     rest = batch[len(found) :]
     if not rest:
         return found

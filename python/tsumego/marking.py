@@ -4,24 +4,24 @@ import re
 from dataclasses import dataclass, replace
 from typing import List, Optional, Tuple, Union
 
+from .answers import NO_MARKS
 from .points import read_point
 from .problems import Problem, asked_at, problem_of
 from .programs import in_parallel, run
 from .sgf import GameTree, main_line, to_text, trees_of, write_bytes
 
-__all__ = ["Marked", "NO_TRIANGLE", "Refused", "marked", "refusal_of"]
+__all__ = ["Marked", "Refused", "marked", "refusal_of"]
 
 # The stones of the wall that close it: points where one does, or ways with two or three each. More than are listed are counted.
 _CLOSES = re.compile(r"(a|two|three) (Black|White) stones? (?:on one of these encloses it|enclose it in one of these ways): (.*?)(?:, and \d+ more)?$")
 # The group that may be meant, where nobody named one.
 _MAY_BE = re.compile(r"it may be the (?:Black|White) chain of (\w+): ")
-NO_TRIANGLE = 20
 
 
 class Refused(ValueError):
     """A tree that is no problem, or that can't be marked. The text says why, and where to look; `number` is the refusal's."""
 
-    def __init__(self, words: str, number: int = 0) -> None:
+    def __init__(self, words: str, number: str = NO_MARKS) -> None:
         super().__init__(words)
         self.number = number
 
@@ -41,7 +41,7 @@ def marked(tree: GameTree, stone: Optional[str] = None) -> Marked:
     """
     lines = _lines_of(tree)
     fault = _refusal(lines)
-    if fault and fault.number != NO_TRIANGLE:
+    if fault and fault.number != NO_MARKS:
         raise fault
     try:
         problem = problem_of(tree)
@@ -55,7 +55,7 @@ def marked(tree: GameTree, stone: Optional[str] = None) -> Marked:
         found = _closed(bare, problem.targets[0])
         ways = tuple((stones, replace(each, targets=problem.targets)) for stones, each in found.ways)
         return Marked(ways, found.hints)
-    return _closed(bare, named) if named else _proposed(bare)
+    return _closed(bare, named)
 
 
 def refusal_of(tree: GameTree) -> Optional[Refused]:
@@ -82,7 +82,7 @@ def _refusal(lines: List[str]) -> Optional[Refused]:
         return None
     said = {word: re.sub("=[a-s]{2}", "", rest) for word, _, rest in (line.partition(": ") for line in lines[1:])}
     looks = f"; look at {said['look at']}" if "look at" in said else ""
-    return Refused(said.get("why", "it is no problem") + looks, int(found[1]))
+    return Refused(said.get("why", "it is no problem") + looks, found[1])
 
 
 def _hints(lines: List[str]) -> Tuple[str, ...]:
@@ -99,13 +99,16 @@ def _mark(problem: Problem, stone: Optional[str]) -> Tuple[Problem, Tuple[str, .
     return replace(problem, targets=found.targets, region=found.region), _hints(lines)
 
 
-def _closed(problem: Problem, stone: str) -> Marked:
-    """The problem around a stone. If its wall is open, it is closed in each way that the program names."""
+def _closed(problem: Problem, stone: Optional[str]) -> Marked:
+    """The problem around a stone, or around the group that the program takes; if no group is enclosed, around the one that may be meant. If
+    its wall is open, it is closed in each way that the program names."""
     try:
         found, hints = _mark(problem, stone)
         return Marked((((), found),), hints)
     except Refused as fault:
-        ways = _ways(problem, stone, str(fault))
+        meant = _MAY_BE.search(str(fault))
+        around = stone or (read_point(meant[1], problem.columns, problem.rows) if meant else None)
+        ways = _ways(problem, around, str(fault)) if around else ()
         if not ways:
             raise
         return Marked(ways)
@@ -129,16 +132,3 @@ def _marked_or_why(problem: Problem, stone: str) -> Union[Problem, str]:
         return _mark(problem, stone)[0]
     except Refused as fault:
         return str(fault)
-
-
-def _proposed(problem: Problem) -> Marked:
-    """The problem around the group that the program takes. If no group is enclosed, it is the one that may be meant, its wall closed."""
-    try:
-        found, hints = _mark(problem, None)
-        return Marked((((), found),), hints)
-    except Refused as fault:
-        meant = _MAY_BE.search(str(fault))
-        ways = _ways(problem, read_point(meant[1], problem.columns, problem.rows), str(fault)) if meant else ()
-        if not ways:
-            raise
-        return Marked(ways)

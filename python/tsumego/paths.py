@@ -1,12 +1,13 @@
 """What a service answers to each path: by which program, and how as JSON."""
 import json
 import os
-import re
 import sys
 from dataclasses import dataclass
 from typing import Any, Callable, Dict, List, Mapping, Tuple
 
-from .limits import Limits
+from .answers import REFUSED, verdict_of
+from .limits import LIMITS, MOST_DEPTH, Limits
+from .points import is_point
 
 __all__ = ["PATHS", "Path", "Programs", "worker_environment"]
 
@@ -49,8 +50,8 @@ def _show(*words: str) -> Callable[[Programs, Limits, Query], List[str]]:
 
 def _sgf(programs: Programs, limits: Limits, query: Query) -> List[str]:
     depth = query.get("depth", "20")
-    if not depth.isascii() or not depth.isdigit() or not 1 <= int(depth) <= 512:
-        raise ValueError("depth is no number from 1 to 512")
+    if not depth.isascii() or not depth.isdigit() or not 1 <= int(depth) <= MOST_DEPTH:
+        raise ValueError(f"depth is no number from 1 to {MOST_DEPTH}")
     return [programs.show, "--sgf", "--depth", depth]
 
 
@@ -58,7 +59,7 @@ def _mark(programs: Programs, limits: Limits, query: Query) -> List[str]:
     if query.get("close"):
         return _worker("mark")(programs, limits, query)
     point = query.get("point")
-    if point and not re.fullmatch("[A-HJ-Ta-hj-t][1-9][0-9]?|[a-s]{2}", point):
+    if point and not is_point(point):
         raise ValueError("point is no point: write it as C18 (there is no column I) or as cb")
     return [programs.show, "--mark"] + ([point] if point else [])
 
@@ -82,32 +83,32 @@ def _problems(text: str) -> Dict[str, Any]:
     """The lines of `solve`: a problem each, with its turns or its certificate."""
     found: List[Dict[str, Any]] = []
     for line in text.splitlines():
-        first, _, rest = line.strip().partition(" ")
-        word, _, detail = rest.partition(" ")
+        first = line.split()[0]
         if line.startswith("  "):
-            found[-1].setdefault("turns", []).append({"turn": first, "verdict": word, **_detail(word, detail)})
+            found[-1].setdefault("turns", []).append({"turn": first, **_verdict(line.strip())})
         elif first.isdigit():
-            found.append({"problem": int(first), "verdict": word, **_detail(word, detail)})
+            found.append({"problem": int(first), **_verdict(line)})
         else:
             found[-1]["certificate"] = line
     return {"problems": found}
 
 
-def _detail(word: str, detail: str) -> Dict[str, Any]:
-    if word == "refused":
-        return {"number": int(detail)}
-    return {"cause" if word == "unsettled" else "turn": detail} if detail else {}
+def _verdict(line: str) -> Dict[str, Any]:
+    """What a line says behind its number or its turn."""
+    found = verdict_of(line)
+    detail: Dict[str, Any] = {"number": int(found.detail)} if found.word == REFUSED else {"turn": found.turn, "cause": found.detail}
+    return {"verdict": found.word, **{name: each for name, each in detail.items() if each}}
 
 
 def _scores(text: str) -> Dict[str, Any]:
-    rows = [line.split() for line in text.splitlines()]
-    return {
-        "records": [
-            {"record": int(row[0]), "black": int(row[2]), "white": int(row[4]), "finished": row[5] == "finished"}
-            if row[1] == "black" else {"record": int(row[0]), "verdict": row[1], "number": int(row[2])}
-            for row in rows
-        ]
-    }
+    return {"records": list(map(_score, text.splitlines()))}
+
+
+def _score(line: str) -> Dict[str, Any]:
+    row = line.split()
+    if row[1] == REFUSED:
+        return {"record": int(row[0]), **_verdict(line)}
+    return {"record": int(row[0]), "black": int(row[2]), "white": int(row[4]), "finished": row[5] == "finished"}
 
 
 def _checked(text: str) -> Dict[str, Any]:
@@ -143,7 +144,6 @@ PATHS: Dict[str, Path] = {
 
 
 # The words that may stand behind ?: limits, and what single paths take.
-LIMITS = ("seconds", "memory", "total", "dfpn", "bytes")
 WORDS = {"/mark": ("point", "close"), "/ask": ("point",), "/solution": ("point",), "/sgf": ("depth",)}
 
 

@@ -1,10 +1,11 @@
 """Points by their two names: SGF's letters (`ca`, column and row from the upper left) and editors' (`C7`, columns without I,
 rows from below). A turn is a point in SGF's letters, or `pass`."""
 import re
-from typing import Tuple
+from typing import Iterable, List, Tuple
 
 COLUMNS = "ABCDEFGHJKLMNOPQRST"
 PASS = "pass"
+_SGF, _EDITOR = re.compile("[a-s]{2}"), re.compile("([A-HJ-Ta-hj-t])([1-9][0-9]?)")
 
 
 def sgf_name(column: int, row: int) -> str:
@@ -17,12 +18,22 @@ def place(point: str) -> Tuple[int, int]:
     return ord(point[0]) - 97, ord(point[1]) - 97
 
 
+def in_rows(points: Iterable[str]) -> List[str]:
+    """The points row by row, from the upper left."""
+    return sorted(points, key=lambda point: point[::-1])
+
+
 def editor_name(turn: str, rows: int) -> str:
     """`ca` on a board of 7 rows is `C7`; what is no point, as `pass`, stays as it is."""
-    if not re.fullmatch("[a-s]{2}", turn):
+    if not _SGF.fullmatch(turn):
         return turn
     column, row = place(turn)
     return f"{COLUMNS[column]}{rows - row}"
+
+
+def is_point(word: str) -> bool:
+    """Whether a word names a point of some board, in either way."""
+    return bool(_SGF.fullmatch(word) or _EDITOR.fullmatch(word))
 
 
 def read_point(word: str, columns: int, rows: int) -> str:
@@ -31,10 +42,10 @@ def read_point(word: str, columns: int, rows: int) -> str:
     Raises ValueError where the word is no point of the board.
     """
     word = word.strip()
-    if re.fullmatch("[a-s]{2}", word):
+    if _SGF.fullmatch(word):
         column, row = place(word)
     else:
-        found = re.fullmatch("([A-HJ-Ta-hj-t])([1-9][0-9]?)", word)
+        found = _EDITOR.fullmatch(word)
         if not found:
             raise ValueError(f"{word} is no point: write it as C18 (there is no column I) or as SGF does, as cb")
         column, row = COLUMNS.index(found[1].upper()), rows - int(found[2])

@@ -6,10 +6,10 @@ from dataclasses import dataclass, replace
 from typing import FrozenSet, Iterable, List, Optional, Set, Tuple
 
 from .board import BLACK, NAMES, OTHER, Board
-from .points import PASS, editor_name, read_point, sgf_name
+from .points import PASS, editor_name, in_rows, read_point, sgf_name
 from .sgf import GameTree, Node, main_line, plain, short, to_text
 
-__all__ = ["MOVES", "Problem", "SETUP", "asked_at", "chapter", "name_of", "problem_of", "set_up", "size_of", "turn_of"]
+__all__ = ["MOVES", "Problem", "SETUP", "asked_at", "chapter", "move", "moves_of", "name_of", "problem_of", "set_up", "size_of"]
 
 SETUP, MOVES = ("AB", "AW", "AE"), ("B", "W")
 
@@ -81,7 +81,7 @@ class Problem:
         board, to_move = Board(self.columns, self.rows, {}), BLACK
         seen = {board.key()}
         for node in self.nodes:
-            moves = [colour for colour in MOVES if node.has(colour)]
+            moves = moves_of([node])
             if not moves:
                 to_move = node.first("PL", BLACK).strip()[:1].upper()
             for name in SETUP:
@@ -91,8 +91,8 @@ class Problem:
                     board.stones.update((point, name[1]) for point in points)
             if not moves:
                 seen.clear()
-            for colour in moves:
-                board.play(colour, turn_of(node.first(colour)))
+            for colour, turn in moves:
+                board.play(colour, turn)
                 to_move = OTHER[colour]
             seen.add(board.key())
         return board, to_move, seen
@@ -124,17 +124,24 @@ class Problem:
     def open_points(self, board: Optional[Board] = None) -> List[str]:
         """The empty points of the region, row by row from the upper left, in the problem's position or in another one."""
         board = board or self.position()[0]
-        return sorted((point for point in self.region or board.points() if point not in board.stones), key=lambda point: point[::-1])
+        return in_rows(point for point in self.region or board.points() if point not in board.stones)
 
     def after(self, turn: str) -> "Problem":
         """The problem after a turn of the side that is to move. Two passes in a row would end a record, so the second takes the first out."""
-        colour, last = self.to_move, self.nodes[-1] if self.nodes else Node()
-        made = replace(self, nodes=self.nodes + (Node([(colour, ["" if turn == PASS else turn])]),))
-        if turn != PASS or not last.has(OTHER[colour]) or turn_of(last.first(OTHER[colour])) != PASS:
-            return made
+        colour = self.to_move
+        if turn != PASS or (OTHER[colour], PASS) not in moves_of(self.nodes[-1:]):
+            return self.with_moves([(colour, turn)])
         before = replace(self, nodes=self.nodes[:-1])
         # (the same side was to move in front of that pass, if it is taken to have passed there)
-        return before if before.to_move != colour else replace(made, nodes=self.nodes[:-1] + made.nodes[-1:])
+        return before if before.to_move != colour else before.with_moves([(colour, turn)])
+
+    def with_moves(self, moves: Iterable[Tuple[str, str]]) -> "Problem":
+        """The problem after moves as a record has them, each with its colour."""
+        return replace(self, nodes=self.nodes + tuple(move(*each) for each in moves))
+
+    def anew(self) -> "Problem":
+        """The position set up anew: what was there before may be repeated."""
+        return replace(self, nodes=(set_up(*self.position()),))
 
     def with_other_side(self) -> "Problem":
         """The problem in which the other side begins."""
@@ -164,10 +171,15 @@ def set_up(board: Board, to_move: str) -> Node:
     return Node().add("AB", *board.of("B")).add("AW", *board.of("W")).add("PL", to_move)
 
 
-def turn_of(value: str) -> str:
-    """The turn that a value of B or W is."""
-    value = value.strip()
-    return PASS if value in ("", "tt") else value
+def move(colour: str, turn: str) -> Node:
+    """The node of a move."""
+    return Node([(colour, ["" if turn == PASS else turn])])
+
+
+def moves_of(nodes: Iterable[Node]) -> List[Tuple[str, str]]:
+    """The moves of nodes, each with its colour."""
+    found = [(colour, node.first(colour).strip()) for node in nodes for colour in MOVES if node.has(colour)]
+    return [(colour, PASS if value in ("", "tt") else value) for colour, value in found]
 
 
 def name_of(nodes: List[Node]) -> Tuple[str, str]:

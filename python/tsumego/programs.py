@@ -16,11 +16,9 @@ from dataclasses import dataclass
 from types import TracebackType
 from typing import Any, Callable, Dict, Iterable, List, Optional, Sequence, Set, Type, TypeVar
 
-__all__ = ["Ended", "HOME", "JOBS", "MAX_BYTES", "ProgramError", "Questions", "in_parallel", "program", "run", "stop", "use_machines"]
+__all__ = ["Ended", "HOME", "JOBS", "ProgramError", "Questions", "in_parallel", "program", "run", "stop", "use_machines"]
 
 HOME = os.path.dirname(os.path.dirname(os.path.dirname(os.path.realpath(__file__))))
-# An input may have so many bytes.
-MAX_BYTES = 1_048_576
 # The status of coreutils' timeout, which other machines run the program under.
 TIMED_OUT = 124
 # So many programs run at a time: the environment's TSUMEGO_JOBS, or one for each processor.

@@ -49,7 +49,7 @@ import sys
 from typing import List, Optional
 
 from .command import Parser
-from .limits import Limits
+from .limits import MOST_BYTES, Limits
 from .paths import Programs
 from .pipe import serve_pipe
 from .programs import ProgramError, program
@@ -65,11 +65,11 @@ OPTIONS = (
     ("address", "127.0.0.1", "where to listen"),
     ("port", 8361, "0 takes a free one"),
     ("at-once", 4, "programs that run side by side"),
-    ("seconds", 20.0, "for a body to come, for a place, for the program, and for the answer to be taken"),
-    ("memory", 300_000_000, "bytes of address space for each program"),
-    ("bytes", 1_048_576, "of an input, up to 1048576"),
-    ("total", 100_000, "nodes for each problem, as solve has it"),
-    ("dfpn", 1_000_000, "positions for each problem, as solve has it; 0: without"),
+    ("seconds", Limits.seconds, "for a body to come, for a place, for the program, and for the answer to be taken"),
+    ("memory", Limits.memory, "bytes of address space for each program"),
+    ("bytes", Limits.bytes, f"of an input, up to {MOST_BYTES}"),
+    ("total", Limits.total, "nodes for each problem, as solve has it"),
+    ("dfpn", Limits.dfpn, "positions for each problem, as solve has it; 0: without"),
 )
 
 
@@ -87,8 +87,8 @@ def service_of(args: argparse.Namespace) -> Service:
     limits = Limits(args.seconds, args.memory, args.total, args.dfpn, args.bytes)
     if args.at_once < 1:
         raise ValueError("--at-once is less than 1")
-    if min(limits.seconds, limits.memory, limits.bytes) <= 0 or limits.bytes > Limits.bytes:
-        raise ValueError("--seconds, --memory and --bytes are more than 0, and --bytes at most 1048576")
+    if min(limits.seconds, limits.memory, limits.bytes) <= 0 or limits.bytes > MOST_BYTES:
+        raise ValueError(f"--seconds, --memory and --bytes are more than 0, and --bytes at most {MOST_BYTES}")
     named = Programs(*(shutil.which(word) or word for word in (args.program or program("tsumego"), args.show or program("tsumego-show"))))
     run([named.tsumego, *limits.solve()], subprocess.DEVNULL, io.BytesIO().write, limits)
     return Service(named, limits, args.at_once)

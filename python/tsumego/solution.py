@@ -1,11 +1,11 @@
 """An answer as one game tree: the answer in the root's comment, each first move as a variation, the strategy behind it."""
-from typing import Dict, List, Tuple
+from typing import List, Tuple
 
 from .answers import Answer, Turn
 from .board import NAMES, OTHER, Board
 from .life import life
 from .points import PASS
-from .problems import Problem
+from .problems import Problem, move
 from .sgf import GameTree, Node, escaped
 from .strategy import Strategy, size
 from .words import refutation, said
@@ -40,16 +40,11 @@ def _first(problem: Problem, turn: Turn, share: int) -> GameTree:
     words = "Wins." if turn.wins else f"Fails: {refutation(problem, turn, NAMES[OTHER[colour]])}."
     if turn.strategy and not strategy.branches():
         words += " " + tree.nodes[0].first("C")
-    properties = [(colour, [value(turn.turn)]), ("TE" if turn.wins else "BM", ["1"]), ("C", [escaped(words)])]
-    tree.nodes[0] = Node(properties + tree.nodes[0].without(colour, "C").properties)
+    first = move(colour, turn.turn).add("TE" if turn.wins else "BM", "1").add("C", escaped(words))
+    tree.nodes[0] = Node(first.properties + tree.nodes[0].without(colour, "C").properties)
     if turn.refutation and not turn.strategy:
-        tree.nodes.append(Node([(OTHER[colour], [value(turn.refutation)])]))
+        tree.nodes.append(move(OTHER[colour], turn.refutation))
     return tree
-
-
-def value(turn: str) -> str:
-    """A turn as a value of B or W."""
-    return "" if turn == PASS else turn
 
 
 class _Writer:
@@ -57,11 +52,10 @@ class _Writer:
 
     def __init__(self, problem: Problem, winner: str) -> None:
         self.problem, self.winner, self.defender = problem, winner, problem.defender
-        self.depths: Dict[int, int] = {}
 
     def tree(self, board: Board, colour: str, turn: str, strategy: Strategy, depth: int) -> GameTree:
         """The node of a turn, and what follows it to the depth."""
-        board, node = board.copy(), Node([(colour, [value(turn)])])
+        board, node = board.copy(), move(colour, turn)
         board.play(colour, turn)
         branches = self.in_order(board, OTHER[colour], strategy)
         if not branches:
@@ -88,13 +82,7 @@ class _Writer:
 
         def last(branch: Tuple[str, Strategy]) -> Tuple[bool, bool, int]:
             turn, then = branch
-            return turn == PASS, turn != PASS and turn in board.copy().play(colour, turn), -self.depth(then)
+            return turn == PASS, turn != PASS and turn in board.copy().play(colour, turn), -then.depth
 
         branches = strategy.branches()
         return sorted(branches, key=last) if len(branches) > 1 else branches
-
-    def depth(self, strategy: Strategy) -> int:
-        """How many turns the strategy can be resisted."""
-        if id(strategy) not in self.depths:
-            self.depths[id(strategy)] = 1 + max((self.depth(then) for _, then in strategy.branches()), default=-1)
-        return self.depths[id(strategy)]

@@ -9,18 +9,19 @@ from .points import PASS
 # The words of a certificate: a pick with its turn, a reply, an end, a shared part, the end of a reply, or a turn in it.
 _TOKEN = re.compile(r"=?!(?:[a-s]{2}|--)|=?\?|\.|\*[0-9]+|;|[a-s]{2}|--")
 
-__all__ = ["Strategy", "positions", "read_certificate", "size"]
+__all__ = ["Strategy", "cut_at_pass", "positions", "read_certificate", "size", "word_of"]
 
 
 @dataclass(eq=False)
 class Strategy:
     """`pick` is the turn of the strategy's side, and `then` what follows it; or `replies` has what follows each turn of the other
     side. Where neither stands, the strategy's side has won: a target is taken, or two passes were made, or it is the attacker's turn
-    and the targets are unconditionally alive."""
+    and the targets are unconditionally alive. `depth` says how many turns it can be resisted."""
 
     pick: Optional[str] = None
     then: Optional["Strategy"] = None
     replies: Dict[str, "Strategy"] = field(default_factory=dict)
+    depth: int = 0
 
     def branches(self) -> List[Tuple[str, "Strategy"]]:
         """Each turn that stands here, with what follows it."""
@@ -67,10 +68,13 @@ class _Reader:
         if kind == "!":
             found.pick = _turn(word[-2:])
             found.then = self.tree(self.next())
+            found.depth = found.then.depth + 1
         elif kind == "?":
             turn = self.next()
             while turn != ";":
-                found.replies[_turn(turn)] = self.tree(self.next())
+                then = self.tree(self.next())
+                found.replies[_turn(turn)] = then
+                found.depth = max(found.depth, then.depth + 1)
                 turn = self.next()
         else:
             raise ValueError(f"the certificate breaks off at {word!r}")
@@ -81,6 +85,23 @@ class _Reader:
 
 def _turn(word: str) -> str:
     return PASS if word == "--" else word
+
+
+def word_of(turn: str) -> str:
+    """A turn as certificates write it."""
+    return "--" if turn == PASS else turn
+
+
+def cut_at_pass(tree: str) -> str:
+    """A certificate's tree that begins with a reply, with an end behind its pass, which stands last."""
+    kept: List[str] = []
+    opened = 0
+    for word in _TOKEN.findall(tree):
+        kept.append(word)
+        opened += word.endswith("?") - (word == ";")
+        if opened == 1 and word == "--":
+            return "".join(kept) + ".;"
+    raise ValueError("no pass is answered")
 
 
 def size(strategy: Strategy, depth: int) -> int:

@@ -12,7 +12,7 @@ import sys
 from typing import Any, Dict, List, Optional, Tuple, Union
 
 from . import solving
-from .answers import UNSETTLED, Turn, Verdict
+from .answers import NO_TREE, UNSETTLED, Turn, Verdict
 from .asking import SECONDS, answer, with_strategies
 from .command import status_of
 from .marking import Marked, Refused, marked
@@ -89,7 +89,7 @@ def run(args: argparse.Namespace) -> int:
         tree = chapter(trees_of(read_bytes(sys.stdin.buffer.read()))[0])[0]
         KINDS[args.kind](tree, args.stone, args.seconds)
     except (SgfError, Refused) as fault:
-        tell("refused", number=fault.number if isinstance(fault, Refused) else 1, why=str(fault), lines=[f"Refused: {fault}."])
+        tell("refused", number=int(fault.number if isinstance(fault, Refused) else NO_TREE), why=str(fault), lines=[f"Refused: {fault}."])
     return 0
 
 
