@@ -8,7 +8,7 @@ pub const READS_TERMINAL: &str =
     "tsumego: reading from the terminal until Ctrl-D; to read a file: tsumego solve < FILE";
 
 /// How many positions of df-pn are advised.
-const MANY_POSITIONS: u32 = 2_000_000;
+const MANY_POSITIONS: u32 = 5_000_000;
 
 /// The word that the parser didn't expect, by the text of its refusal.
 fn unexpected_word(fault: &str) -> Option<&str> {
@@ -50,6 +50,6 @@ pub fn file_tips(alloc: Global, words: &[String], fault: &str) -> Result<String,
 pub fn unsettled_tip(command: &Command) -> &'static str {
     match command {
         Command::Solve { dfpn: Some(n), .. } if *n >= MANY_POSITIONS => "try fewer squares (SQ)",
-        _ => "try --dfpn 2000000, or fewer squares (SQ)",
+        _ => "try --dfpn 5000000, or fewer squares (SQ)",
     }
 }
