@@ -23,7 +23,7 @@ use crate::board::Board;
 use crate::counted::chains::Chains;
 use crate::counted::play_kind::PlayKind;
 use std::marker::Model;
-use tt_sgf::{BITS, Bits, Point, Size};
+use tt_sgf::{BITS, Bits, Point};
 
 /// A board with its chains counted. Contracts see the board that it is.
 #[derive(Drop)]
@@ -56,13 +56,6 @@ impl CountedBoard {
         CountedBoard {
             chains: self.chains.copy(),
         }
-    }
-
-    /// The size.
-    pub fn size(&self) -> Size
-        ensures { result ≡ self.now.size }
-    {
-        self.chains.size()
     }
 
     /// The plain board that it is.
