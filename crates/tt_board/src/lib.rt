@@ -5,7 +5,7 @@
 //!
 //! | Module | What it has |
 //! |---|---|
-//! | `colouring` | a colouring in twelve words; in its folder, the points around a point and what is reached from it |
+//! | `colouring` | a colouring in twelve words; in its folder, the points beside those of a set, which of them reach something, what stands on them |
 //! | `board` | `Board`: a colouring in which each stone reaches empty |
 //! | `counted` | `CountedBoard`, on which one plays: its chains are counted |
 //! | `boards` | `BoardDeltas`: boards one after another, kept by their differences |
