@@ -238,12 +238,21 @@ fn is_in_range(given: Option<u32>, most: u32) -> bool
     }
 }
 
-/// Whether the flags are taken together: a certificate has no lines on turns beside it, and only a certificate shares parts.
-fn are_flags_compatible(cert: bool, parts: bool, turns: bool) -> bool
-    ensures parts { result ≡ true → parts ≡ true → cert ≡ true }
-    ensures apart { result ≡ true → cert ≡ true → turns ≡ false }
+/// What is said of flags that don't go together: a certificate has no lines on turns beside it, and only a certificate shares parts.
+/// Nothing where they do.
+fn contradiction_text(cert: bool, parts: bool, turns: bool) -> &'static str
+    ensures none { result.now ≡ [] → (parts ≡ true → cert ≡ true) × (cert ≡ true → turns ≡ false) }
+    ensures found { (result.now ≡ [])
+        ⊎ ((cert ≡ true) × (turns ≡ true))
+        ⊎ ((parts ≡ true) × (cert ≡ false)) }
 {
-    if cert { !turns } else { !parts }
+    if cert && turns {
+        TURNS_WITH_CERT
+    } else if parts && !cert {
+        PARTS_WITHOUT_CERT
+    } else {
+        ""
+    }
 }
 
 /// The command `solve` with its options.
@@ -266,7 +275,7 @@ fn solve_of(matches: &ArgMatches<'_>) -> Option<Command>
         || workers > MOST_WORKERS as u32
         || !is_in_range(total, MOST_TOTAL)
         || !is_in_range(dfpn, MOST_POSITIONS)
-        || !are_flags_compatible(cert, parts, turns)
+        || !contradiction_text(cert, parts, turns).is_empty()
     {
         return None;
     }
@@ -304,21 +313,18 @@ fn command_of(matches: &ArgMatches<'_>) -> Option<Command>
     }
 }
 
-/// What is said of flags that were given and don't go together; nothing where they do.
-fn contradiction_text(matches: &ArgMatches<'_>) -> &'static str
+/// The same of the flags that were given.
+fn given_contradiction_text(matches: &ArgMatches<'_>) -> &'static str
     ensures { (result.now ≡ []) ⊎ HasContradictingFlags (subcommand_rows_of matches.now) }
 {
-    match matches.subcommand() {
-        Some(("solve", matches)) => {
-            let cert = flag_of(matches, "cert");
-            if cert == Some(true) && flag_of(matches, "turns") == Some(true) {
-                return TURNS_WITH_CERT;
-            }
-            if cert == Some(false) && flag_of(matches, "parts") == Some(true) {
-                return PARTS_WITHOUT_CERT;
-            }
-            ""
-        }
+    let Some(("solve", matches)) = matches.subcommand() else {
+        return "";
+    };
+    let cert = flag_of(matches, "cert");
+    let parts = flag_of(matches, "parts");
+    let turns = flag_of(matches, "turns");
+    match (cert, parts, turns) {
+        (Some(cert), Some(parts), Some(turns)) => contradiction_text(cert, parts, turns),
         _ => "",
     }
 }
@@ -328,7 +334,7 @@ fn contradiction_fault(alloc: Global, matches: &ArgMatches<'_>) -> ArgFault
     ensures { (string_bytes result.0 ≡ [])
         ⊎ HasContradictingFlags (subcommand_rows_of matches.now) }
 {
-    match String::from_str(alloc, contradiction_text(matches)) {
+    match String::from_str(alloc, given_contradiction_text(matches)) {
         Ok(text) => ArgFault(text),
         Err(AllocError) => ArgFault(String::new(alloc)),
     }

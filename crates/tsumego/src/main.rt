@@ -33,7 +33,7 @@ use std::alloc::AllocError;
 use std::io::IsTerminal;
 use std::process::ExitCode;
 use std::{env, io};
-use tips::{READS_TERMINAL, file_tips, unsettled_tip};
+use tips::{READS_TERMINAL, file_tips};
 
 /// The words of the command line, where they are text and memory for them wasn't refused.
 fn command_line_words(rt: &HostRuntime) -> Option<Vec<String>> {
@@ -94,12 +94,7 @@ fn main(rt: HostRuntime) -> ExitCode {
     let alloc = rt.alloc();
     let terminal = rt.stderr().is_terminal();
     let ran = if shows_progress(&command, terminal) {
-        let tip = if terminal {
-            unsettled_tip(&command)
-        } else {
-            ""
-        };
-        let line = ProgressLine::new(&rt, alloc, tip);
+        let line = ProgressLine::new(&rt, alloc, &command, terminal);
         run_telling(&rt, alloc, &command, &mut reader, &mut writer, &line)
     } else {
         run(&rt, alloc, &command, &mut reader, &mut writer)

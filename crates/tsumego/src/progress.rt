@@ -1,7 +1,10 @@
 //! How far a problem is while it is solved: who is told, and what stands on standard error.
 
+use crate::request::Command;
+use crate::tips::unsettled_tip;
 use std::alloc::Global;
 use std::io::Eprint;
+use tt_search::Reason;
 use tt_share::Gate;
 
 /// Is told how far the problems of an input are, by several threads at once.
@@ -13,8 +16,8 @@ pub trait Progress: Sync {
     /// those before it are through or under way.
     fn begin_turn(&self, number: usize, job: usize);
 
-    /// The problem that began last has ended, perhaps unsettled.
-    fn end_problem(&self, unsettled: bool);
+    /// The problem that began last has ended; why, where it is unsettled.
+    fn end_problem(&self, unsettled: Option<Reason>);
 }
 
 /// Is told, and does nothing.
@@ -26,22 +29,33 @@ impl Progress for NoProgress {
 
     fn begin_turn(&self, _number: usize, _job: usize) {}
 
-    fn end_problem(&self, _unsettled: bool) {}
+    fn end_problem(&self, _unsettled: Option<Reason>) {}
 }
 
 /// Shows the problem, and the first turn that was begun last, on one line of standard error, which is wiped in the end. Then it says what
-/// may settle an unsettled problem, if it has a tip.
+/// may settle an unsettled problem, if it gives tips.
 #[derive(Clone, Copy)]
 pub struct ProgressLine<'a, X> {
     rt: &'a X,
     alloc: Global,
-    tip: &'static str,
+    command: &'a Command,
+    gives_tips: bool,
 }
 
 impl<'a, X> ProgressLine<'a, X> {
     /// A line on which nothing stands yet.
-    pub fn new(rt: &'a X, alloc: Global, tip: &'static str) -> ProgressLine<'a, X> {
-        ProgressLine { rt, alloc, tip }
+    pub fn new(
+        rt: &'a X,
+        alloc: Global,
+        command: &'a Command,
+        gives_tips: bool,
+    ) -> ProgressLine<'a, X> {
+        ProgressLine {
+            rt,
+            alloc,
+            command,
+            gives_tips,
+        }
     }
 }
 
@@ -59,10 +73,12 @@ impl<X: Eprint + Sync> Progress for ProgressLine<'_, X> {
         }
     }
 
-    fn end_problem(&self, unsettled: bool) {
+    fn end_problem(&self, unsettled: Option<Reason>) {
         let _ = self.rt.eprint("\r\u{1b}[K");
-        if unsettled && !self.tip.is_empty() {
-            let _ = self.rt.eprintln(self.tip);
+        if let Some(reason) = unsettled {
+            if self.gives_tips {
+                let _ = self.rt.eprintln(unsettled_tip(self.command, reason));
+            }
         }
     }
 }

@@ -92,7 +92,10 @@ impl TreeTask {
                 progress.begin_problem(tree.number);
                 let gate = ProblemGate::new(progress, tree.number);
                 let outcome = solve(rt, alloc, &tree.main, *options, tree.bytes, &gate);
-                let unsettled = matches!(&outcome, Ok(TreeOutcome::Answered(Err(_), _)));
+                let unsettled = match &outcome {
+                    Ok(TreeOutcome::Answered(Err(reason), _)) => Some(*reason),
+                    _ => None,
+                };
                 progress.end_problem(unsettled);
                 outcome
             }

@@ -2,12 +2,14 @@
 
 use crate::request::Command;
 use std::alloc::{AllocError, Global};
+use tt_dfpn::MOST_POSITIONS;
+use tt_search::Reason;
 
 /// What is said where the input comes from a terminal.
 pub const READS_TERMINAL: &str =
-    "tsumego: reading from the terminal until Ctrl-D; to read a file: tsumego solve < FILE";
+    "tsumego: reading from the terminal until Ctrl-D; to read a file, put < FILE behind the command";
 
-/// How many positions of df-pn are advised.
+/// How many positions of df-pn are advised first.
 const MANY_POSITIONS: u32 = 5_000_000;
 
 /// The word that the parser didn't expect, by the text of its refusal.
@@ -46,10 +48,22 @@ pub fn file_tips(alloc: Global, words: &[String], fault: &str) -> Result<String,
     }
 }
 
-/// What may settle a problem that a command left unsettled.
-pub fn unsettled_tip(command: &Command) -> &'static str {
-    match command {
-        Command::Solve { dfpn: Some(n), .. } if *n >= MANY_POSITIONS => "try fewer squares (SQ)",
-        _ => "try --dfpn 5000000, or fewer squares (SQ)",
+/// What may settle a problem that a command left unsettled for this reason.
+pub fn unsettled_tip(command: &Command, reason: Reason) -> &'static str {
+    let positions = match command {
+        Command::Solve { dfpn: Some(n), .. } => *n,
+        _ => 0,
+    };
+    match reason {
+        Reason::Memory if positions == 0 => "try more memory, or fewer squares (SQ)",
+        Reason::Memory => "try more memory, a smaller --dfpn, or fewer squares (SQ)",
+        Reason::Depth => "try a larger --depth, or fewer squares (SQ)",
+        Reason::Budget | Reason::Total if positions < MANY_POSITIONS => {
+            "try --dfpn 5000000, or fewer squares (SQ)"
+        }
+        Reason::Budget | Reason::Total if positions < MOST_POSITIONS => {
+            "try --dfpn 100000000, or fewer squares (SQ)"
+        }
+        Reason::Budget | Reason::Total => "try fewer squares (SQ)",
     }
 }
