@@ -36,6 +36,6 @@ pub use grants::{Free, Grants};
 pub use limits::{Limits, MOST_EXPANDED, Reason, Step};
 pub use search::{End, Search};
 pub use store::key_index::{KeyIndex, ProofList};
-pub use store::private::PrivateStore;
+pub use store::private::{MOST_KEPT_PROOFS, PrivateStore};
 pub use store::usable_proofs::find_usable_proof;
 pub use store::{Kept, NoStore, ProofPerSide, Store};

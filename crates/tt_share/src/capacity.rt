@@ -3,8 +3,8 @@
 /// How many workers may search a line together.
 pub const MOST_WORKERS: usize = 64;
 
-/// How many proofs may be kept through one handle of a table, and through one view of a log.
-pub const MOST_KEPT_PROOFS: usize = 4096;
+/// How many proofs may be kept through one handle of a table, and through one view of a log: as many as in a store of a caller's own.
+pub const MOST_KEPT_PROOFS: usize = tt_search::MOST_KEPT_PROOFS;
 
 /// For how many more entries a log has room before each push: more than twice as many as there may be workers. So a push
 /// finds room for its entry, whatever other workers push meanwhile.

@@ -76,7 +76,7 @@ fn add_slot_to_index<K: Copy + Drop + Eq + Hash>(
 impl TableState {
     /// An empty table. It takes no memory.
     pub fn new(alloc: Global) -> Result<TableState, NoMemory>
-        ensures { IfOk result (λ t. t ≡ []) }
+        ensures { result ≡ Ok [] }
     {
         Ok(TableState {
             proofs: Vec::new(alloc),

@@ -7,6 +7,7 @@ ghost use Rattle.tt_game.specs.declared.frame.Side.TheVariants.{Attacker, Defend
 ghost use Rattle.tt_search.specs.Stores.{HasKeyAndSide, IsNewest};
 ghost use Rattle.tt_search.specs.KeyIndex.{proof_at};
 ghost use Rattle.tt_search.specs.declared.store.Kept.TheVariants.{Stored, Full};
+ghost use Rattle.tt_search.specs.declared.store.private.TheConstants.{MOST_KEPT_PROOFS};
 
 use crate::store::key_index::{KeyIndex, ProofList};
 use crate::store::{Kept, ProofPerSide, Store};
@@ -16,6 +17,9 @@ use std::sync::Arc;
 use tt_game::{Line, Side};
 use tt_proof::Proof;
 use tt_sgf::NoMemory;
+
+/// How many proofs a store may keep at most.
+pub const MOST_KEPT_PROOFS: usize = 4096;
 
 /// A store that answers the last proof that it kept of a key and a side.
 #[derive(Drop)]
@@ -55,14 +59,11 @@ impl ProofList for Vec<Arc<Proof>> {
 }
 
 impl PrivateStore {
-    /// How many proofs a store may keep at most, and a new one does.
-    pub const DEFAULT_CAPACITY: usize = 4096;
-
-    /// An empty store. It takes no memory.
+    /// An empty store, which may keep as many proofs as any. It takes no memory.
     pub fn new(alloc: Global) -> PrivateStore
-        ensures { result ≡ record { proofs = []; capacity = 4096 } }
+        ensures { result ≡ record { proofs = []; capacity = MOST_KEPT_PROOFS } }
     {
-        PrivateStore::with_capacity(alloc, Self::DEFAULT_CAPACITY)
+        PrivateStore::with_capacity(alloc, MOST_KEPT_PROOFS)
     }
 
     /// An empty store that may keep so many proofs.
@@ -78,10 +79,10 @@ impl PrivateStore {
 
     /// An empty store that may keep so many proofs, where these are no more than 4,096. It takes no memory.
     pub fn bounded(alloc: Global, capacity: usize) -> Option<PrivateStore>
-        ensures { MatchOption result (4096 < capacity)
-            (λ s. (capacity ≤ 4096) × (s ≡ record { proofs = []; capacity = capacity })) }
+        ensures { MatchOption result (MOST_KEPT_PROOFS < capacity)
+            (λ s. (capacity ≤ MOST_KEPT_PROOFS) × (s ≡ record { proofs = []; capacity = capacity })) }
     {
-        if capacity > Self::DEFAULT_CAPACITY {
+        if capacity > MOST_KEPT_PROOFS {
             return None;
         }
         Some(PrivateStore::with_capacity(alloc, capacity))

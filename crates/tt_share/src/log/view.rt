@@ -58,9 +58,7 @@ impl<'a> Model for View<'a> {
 impl<'a> View<'a> {
     /// A view that has met no token of the log, and through which nothing was kept. It takes no memory.
     pub fn new(alloc: Global, log: &'a CertLog) -> Result<View<'a>, NoMemory>
-        ensures log { IfOk result (λ v. v.log ≡ log.now) }
-        ensures tokens { IfOk result (λ v. v.tokens ≡ []) }
-        ensures kept { IfOk result (λ v. v.kept ≡ 0) }
+        ensures { result ≡ Ok (record { log = log.now; tokens = []; kept = 0 }) }
     {
         Ok(View {
             log,
