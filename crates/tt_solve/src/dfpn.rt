@@ -162,7 +162,7 @@ fn life_solution(
 
 /// The solution that df-pn finds by a search, where it is asked for: by a tree that may end at life, unless a plain certificate is asked
 /// for. None where it finds nothing, or where the certificate takes more than so many bytes.
-pub(crate) fn dfpn_solution<S: WinnerSearch>(
+fn dfpn_solution<S: WinnerSearch>(
     alloc: Global,
     search: &S,
     line: &Line,
@@ -185,5 +185,25 @@ pub(crate) fn dfpn_solution<S: WinnerSearch>(
     } else {
         let proof = life_proof_within(alloc, search, line, depth, positions)?;
         life_solution(alloc, line, options, proof, most_bytes)
+    }
+}
+
+/// The same, and whether memory was refused: then there is no solution, and a search may still find one.
+pub(crate) fn try_dfpn<S: WinnerSearch>(
+    alloc: Global,
+    search: &S,
+    line: &Line,
+    options: Options,
+    most_bytes: usize,
+) -> (Option<Solution>, bool)
+    requires ready { S.ready search.now }
+    requires open { winner_of line.now.frame line.now.state ≡ None }
+    requires state { IsWellFormedState line.now.frame line.now.state }
+    ensures decided { IfSome result.0 (IsDecided line.now options.limits options.cert) }
+    ensures within { IfSome result.0 (IsCertificateWithin most_bytes) }
+{
+    match dfpn_solution(alloc, search, line, options, most_bytes) {
+        Ok(solution) => (solution, false),
+        Err(NoMemory) => (None, true),
     }
 }

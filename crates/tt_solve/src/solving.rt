@@ -9,7 +9,7 @@ ghost use Rattle.tt_solve.specs.Solutions.{AreTurnValues, AreTurnValuesAsked, Is
 ghost use Rattle.tt_solve.specs.Totals.{HasGrants, HoldsLeaving, total_left};
 
 use crate::certificate_kinds::solution_of_proof;
-use crate::dfpn::dfpn_solution;
+use crate::dfpn::try_dfpn;
 use crate::options::Options;
 use crate::searches::{search_alone, search_by_workers};
 use crate::solution::{Solution, Solved};
@@ -86,17 +86,10 @@ impl<X: Threads + Wait + Sync> Solver<'_, X> {
             alloc,
             count: self.options.workers,
         };
-        let lacked_memory = match dfpn_solution(
-            alloc,
-            &workers,
-            line,
-            self.options,
-            self.most_bytes,
-        ) {
-            Ok(Some(solution)) => return Ok((solution, total)),
-            Ok(None) => false,
-            Err(NoMemory) => true,
-        };
+        let (found, lacked_memory) = try_dfpn(alloc, &workers, line, self.options, self.most_bytes);
+        if let Some(solution) = found {
+            return Ok((solution, total));
+        }
         let (answer, granted) = search_by_workers(rt, alloc, line, self.options, total, gate)?;
         let solution = solution_of_answer(alloc, line, self.options, lacked_memory, &answer)?;
         Ok((solution, total_left(total, granted)))
@@ -225,11 +218,10 @@ fn solution_alone(
     ensures { IfOk result (IsSolution line.now options.limits options.total options.cert) }
 {
     let most_bytes = most_certificate_bytes(bytes);
-    let lacked_memory = match dfpn_solution(alloc, &OneFinder, line, options, most_bytes) {
-        Ok(Some(solution)) => return Ok(solution),
-        Ok(None) => false,
-        Err(NoMemory) => true,
-    };
+    let (found, lacked_memory) = try_dfpn(alloc, &OneFinder, line, options, most_bytes);
+    if let Some(solution) = found {
+        return Ok(solution);
+    }
     let answer = search_alone(alloc, line, options);
     solution_of_answer(alloc, line, options, lacked_memory, &answer)
 }
