@@ -23,7 +23,7 @@ use tt_text::{TreeOutcome, check_input, outcome_line};
 /// One byte more than the longest input whose trees are read.
 const MOST_READ: usize = MAX_BYTES + 1;
 
-/// Writes the line of one outcome.
+/// Writes the lines of one outcome.
 fn write_outcome_line<W: Write>(
     alloc: Global,
     writer: &mut Watched<W>,

@@ -1,4 +1,4 @@
-//! The line on the first tree of an input.
+//! The lines on the first tree of an input.
 ghost use Rattle.std.specs.Prelude.{◌≡◌, ◌∷◌, [], IfOk, false};
 ghost use Rattle.tt_text.specs.Checking.{IsCheckText};
 ghost use Rattle.tt_text.specs.Scoring.{Scores};
@@ -36,7 +36,7 @@ fn solve_first_tree(alloc: Global, sgf: &[u8], options: Options) -> Result<TreeO
     }
 }
 
-/// The line of an outcome, with its status.
+/// The lines of an outcome, with its status.
 fn text_and_status_of(alloc: Global, outcome: &TreeOutcome) -> Result<TextAndStatus, NoMemory>
     ensures { IfOk result (λ t. (t.bytes.items ≡ outcome_line 1 outcome.now)
         × (t.status ≡ status_of (outcome.now ∷ []))) }
@@ -54,7 +54,7 @@ pub fn score_text(alloc: Global, sgf: &[u8]) -> Result<TextAndStatus, NoMemory>
     text_and_status_of(alloc, &outcome)
 }
 
-/// The line of a verdict.
+/// The lines on a problem, its verdict and its certificate where one is asked for, with their status.
 pub fn solve_text(alloc: Global, sgf: &[u8], options: Options) -> Result<TextAndStatus, NoMemory>
     requires { options.turns ≡ false }
     ensures { IfOk result (λ t. IsFirstTreeText (Solves options) sgf.now t.bytes.items t.status) }

@@ -1,4 +1,4 @@
--- What is written on the game trees of an input: a line each, numbered from 1.
+-- What is written on the game trees of an input: the lines of each, of which the first has its number, from 1.
 use Rattle.std.specs.Prelude.{◌≡◌, ◌≢◌, ◌⊎◌, ◌+◌, ◌<◌, ◌≤◌, ℕ, Bool, true, false, List, [], ◌∷◌, ◌++◌, length, drop, codes, decimal, if◌then◌else◌}
 use Rattle.std.specs.List.{list_any}
 use Rattle.tt_sgf.specs.declared.trees.TheConstants.{MAX_BYTES}
