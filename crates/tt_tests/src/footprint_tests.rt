@@ -55,7 +55,7 @@ fn has_any(kept: &BoardSet, boards: &[Board]) -> bool {
 }
 
 /// Whether the footprint fits the history exactly where a plus stands before it. No problem has most of these histories, so
-/// the footprint is asked as `Proof::fits` asks it.
+/// its two sets are asked, and no line.
 fn fits_so(alloc: Global, found: &Footprint, size: Size, text: &[u8]) -> Option<bool> {
     let (sign, drawn) = text.split_first()?;
     let history = boards_of(alloc, size, drawn)?;
