@@ -1,5 +1,5 @@
 -- Lists of boards whose hashes rise, and the boards of a history.
-use Rattle.std.proofs.Common.{◌≡◌, ◌↔◌, ◌⊎◌, ℕ, ◌<◌, ◌≤◌, inl, inr, arith, List, [], ◌∷◌, All, length, get_or, Contains, refl, sym, subst, ap}
+use Rattle.std.proofs.Common.{◌≡◌, ℕ, ◌<◌, ◌≤◌, inl, inr, arith, List, [], ◌∷◌, All, length, get_or, Contains, refl, sym, subst, ap}
 use Rattle.std.proofs.lemmas.Bool.{cases_lt}
 use Rattle.std.proofs.lemmas.List.Elements.{All-get_or}
 use Rattle.tt_board.specs.Position.{Position, colourings}
@@ -52,18 +52,3 @@ module _ (f : Frame) (s : State) (bs : List Position) (shows : colourings bs ≡
         subst (λ (z : Position). z.size ≡ f.size) m.2 (All-get_or (λ (z : Position). z.size ≡ f.size) bs m.0 b lt sized),
         subst (λ cs. Contains cs b.points) shows (contains_of_in (colourings bs) b.points (in_colourings bs b (in_of_contains bs b m))),
       )
-
--- what holds all of another holds what both do
-pub held_of_both : (xs ys : List Position) → ((b : Position) → Contains ys b → Contains xs b) → (b : Position) → Contains xs b ↔ (Contains xs b ⊎ Contains ys b)
-held_of_both xs ys h b = (λ m. inl m, back)
-  where
-    back : Contains xs b ⊎ Contains ys b → Contains xs b
-    back (inl m) = m
-    back (inr m) = h b m
-
-pub held_of_both_behind : (xs ys : List Position) → ((b : Position) → Contains xs b → Contains ys b) → (b : Position) → Contains ys b ↔ (Contains xs b ⊎ Contains ys b)
-held_of_both_behind xs ys h b = (λ m. inr m, back)
-  where
-    back : Contains xs b ⊎ Contains ys b → Contains ys b
-    back (inl m) = h b m
-    back (inr m) = m

@@ -5,3 +5,4 @@ pub mod CertificateReading
 pub mod CertificateWalking
 pub mod WonChildren
 pub mod RisingHashes
+pub mod SharedLists

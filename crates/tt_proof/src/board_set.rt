@@ -37,12 +37,13 @@ impl Model for SharedBoard {
 }
 
 impl SharedBoard {
-    /// A copy of the board, which is made once.
-    fn of(alloc: Global, board: &Board) -> Result<SharedBoard, NoMemory>
+    /// A copy of the board, of which the hash is given. It is made once.
+    fn of(alloc: Global, hash: u64, board: &Board) -> Result<SharedBoard, NoMemory>
+        requires { hash ≡ hash_of_board board.now }
         ensures { IfOk result (λ b. b ≡ board.now) }
     {
         Ok(SharedBoard {
-            hash: board_hash(board),
+            hash,
             board: Arc::new(alloc, board.copy())?,
         })
     }
@@ -123,6 +124,11 @@ impl BoardSet {
         }
     }
 
+    /// Where memory for its list comes from.
+    pub(crate) fn allocator(&self) -> Global {
+        *self.boards.allocator()
+    }
+
     /// The index of the first board whose hash isn't less.
     fn insertion_index(&self, hash: u64) -> usize
         ensures { IsPlaceOfHash self.now hash result }
@@ -131,7 +137,7 @@ impl BoardSet {
     }
 
     /// Whether the board, of which the hash is given, is held: by halving.
-    fn has_with_hash(&self, hash: u64, board: &Board) -> bool
+    pub(crate) fn has_with_hash(&self, hash: u64, board: &Board) -> bool
         requires { hash ≡ hash_of_board board.now }
         ensures { IsTrue result ↔ Contains self.now board.now }
     {
@@ -173,6 +179,16 @@ impl BoardSet {
         Ok(())
     }
 
+    /// Takes out all that the others hold.
+    pub(crate) fn remove_all_of(&mut self, others: &BoardSet)
+        ensures rest { (b : Position)
+            → Contains self.new b → Contains self.old b × (Contains others.now b → ⊥) }
+        ensures others { (b : Position)
+            → Contains self.old b → Contains self.new b ⊎ Contains others.now b }
+    {
+        self.boards.retain(|held| !others.has_shared(held));
+    }
+
     /// Takes in what the others hold and this one doesn't. A sort joins two lists that are in order by one walk over both. After want
     /// of memory nothing is held.
     fn merge(&mut self, others: BoardSet) -> Result<(), NoMemory>
@@ -205,16 +221,23 @@ impl BoardSet {
         self.merge(fewer)
     }
 
+    /// Takes the board out, of which the hash is given.
+    pub(crate) fn remove_with_hash(&mut self, hash: u64, board: &Board)
+        requires { hash ≡ hash_of_board board.now }
+        ensures { (b : Position) → Contains self.new b ↔ (Contains self.old b × (b ≢ board.now)) }
+    {
+        self.boards.retain(|held| !held.is(hash, board));
+    }
+
     /// Takes the board out.
     pub(crate) fn remove(&mut self, board: &Board)
         ensures { (b : Position) → Contains self.new b ↔ (Contains self.old b × (b ≢ board.now)) }
     {
-        let hash = board_hash(board);
-        self.boards.retain(|held| !held.is(hash, board));
+        self.remove_with_hash(board_hash(board), board);
     }
 
     /// Whether none is one of the boards.
-    pub(crate) fn has_none_of(&self, boards: &[Board]) -> bool
+    fn has_none_of(&self, boards: &[Board]) -> bool
         ensures { IsTrue result
             ↔ ((b : Position) → Contains self.now b → Contains boards.now b → ⊥) }
     {
@@ -226,15 +249,16 @@ impl BoardSet {
         true
     }
 
-    /// Whether each of the others is held.
-    pub(crate) fn has_all_of(&self, others: &BoardSet) -> bool
+    /// Whether the others are the same boards in the same order.
+    pub(crate) fn has_same_as(&self, others: &BoardSet) -> bool
         ensures { IsTrue result → (b : Position) → Contains others.now b → Contains self.now b }
     {
-        if self.boards.len() < others.boards.len() {
+        if self.boards.len() != others.boards.len() {
             return false;
         }
-        for other in &others.boards {
-            if !self.has_shared(other) {
+        for k in 0..self.boards.len() {
+            let other = &others.boards[k];
+            if !self.boards[k].is(other.hash(), other.board()) {
                 return false;
             }
         }
@@ -259,16 +283,30 @@ impl BoardSet {
         Ok(())
     }
 
+    /// Adds the board, of which the hash is given, where it isn't held yet.
+    pub(crate) fn add_with_hash(
+        &mut self,
+        alloc: Global,
+        hash: u64,
+        board: &Board,
+    ) -> Result<(), NoMemory>
+        requires { hash ≡ hash_of_board board.now }
+        ensures { OnOk result ((b : Position)
+            → Contains self.new b ↔ (Contains self.old b ⊎ (b ≡ board.now))) }
+    {
+        if self.has_with_hash(hash, board) {
+            return Ok(());
+        }
+        let made = SharedBoard::of(alloc, hash, board)?;
+        self.insert(made)
+    }
+
     /// Adds the board, where it isn't held yet.
     pub fn add(&mut self, alloc: Global, board: &Board) -> Result<(), NoMemory>
         ensures { OnOk result ((b : Position)
             → Contains self.new b ↔ (Contains self.old b ⊎ (b ≡ board.now))) }
     {
-        if self.has(board) {
-            return Ok(());
-        }
-        let made = SharedBoard::of(alloc, board)?;
-        self.insert(made)
+        self.add_with_hash(alloc, board_hash(board), board)
     }
 
     /// The same boards again, by handles.
@@ -320,5 +358,18 @@ impl BoardSet {
             }
         }
         true
+    }
+
+    /// The same. Where the history has fewer boards, each of them is looked up here.
+    pub(crate) fn has_none_of_history(&self, line: &Line) -> bool
+        ensures { IsTrue result
+            ↔ ((b : Position)
+            → Contains self.now b → HasBoardInHistory line.now.frame line.now.state b → ⊥) }
+    {
+        let boards = line.history();
+        if boards.len() < self.boards.len() {
+            return self.has_none_of(boards);
+        }
+        self.none_in_history(line)
     }
 }

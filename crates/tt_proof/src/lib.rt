@@ -6,7 +6,7 @@
 //! | `tree`, `tree_builders`, `measures`, `measured_tree` | `Tree`, a strategy; its depth and number of nodes |
 //! | `replays` | whether a tree wins at a line |
 //! | `footprints` | on which boards of the history that rests |
-//! | `board_set`, `board_set_bounds`, `shared_board_set` | sets of boards, which share them |
+//! | `board_set`, `board_set_bounds`, `shared_board_set`, `shared_list` | sets of boards, which share them |
 //! | `proven`, `life_proof` | `Proof`: a tree that wins. `LifeProof`: one that may end at life |
 //! | `certificate_read`, `certificate_write` | a tree as text |
 //! | `certificate_stops` | where the reading of a certificate stops |
@@ -26,6 +26,7 @@ mod measures;
 mod proven;
 mod replays;
 mod shared_board_set;
+mod shared_list;
 mod tree;
 mod tree_builders;
 

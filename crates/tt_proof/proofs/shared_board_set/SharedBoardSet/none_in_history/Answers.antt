@@ -1,18 +1,40 @@
-use Rattle.std.proofs.Common.{◌↔◌, Contains, IsTrue, List, subst}
-use Rattle.tt_board.specs.Position.{Position}
+use Rattle.std.proofs.Common.{rules, ◌≡◌, inl, inr, false, IsTrue, sym, ◌∙◌}
+use Rattle.std.proofs.lemmas.Bool.{false≢true}
 use Rattle.tt_game.specs.Line.{HasBoardInHistory}
-use Rattle.tt_proof.proofs.RisingLemmas.{in_history, of_history}
+use Rattle.tt_proof.proofs.SharedLemmas.{in_three, all_of_three}
 use Rattle.tt_proof.proofs.shared_board_set.SharedBoardSet.none_in_history.Goals as goal
+use Rattle.tt_proof.proofs.shared_board_set.SharedBoardSet.none_in_history.Goals.{then-has_none_of_history, else-has_none_of_history}
 
-pub returns-then-boards-len : goal.returns-then-boards-len
-returns-then-boards-len c =
+pub returns-then-none_in_history : goal.returns-then-none_in_history
+returns-then-none_in_history c =
+    let a = c.self.inside.added in
+    let m = c.self.inside.middle in
+    let z = c.self.inside.base in
     let line = c.args.line.now in
-    let found = subst (λ (xs : List Position). IsTrue c.has_none_of.result ↔ ((b : Position) → Contains xs b → Contains c.history-boards.result.now b → ⊥)) c.set-set.ensures c.has_none_of.ensures in
-    let there = in_history line.frame line.state c.history-boards.result.now c.history-boards.ensures.colourings c.history-boards.ensures.sizes in
-    let back = of_history line.frame line.state c.history-boards.result.now c.history-boards.ensures.colourings c.history-boards.ensures.sizes in
-    (λ y b m h. found.0 y b m (there b h), λ n. found.1 (λ b m h. n b m (back b h)))
+    let last = c.none_in_history-then-none_in_history.ensures in
+    elim c.if-has_none_of_history.branch [
+      | then-has_none_of_history w ↦
+          let first : IsTrue c.has_none_of_history.result = search rules in
+          let second : IsTrue w.none_in_history.result = search rules in (
+            λ y. all_of_three (λ b. HasBoardInHistory line.frame line.state b → ⊥) a m z c.args.self.now c.self.view_is (c.has_none_of_history.ensures.0 first) (w.none_in_history.ensures.0 second) (last.0 y),
+            λ h. last.1 (λ b x. h b ((in_three a m z c.args.self.now c.self.view_is b).1 (inr (inr x)))),
+          )
+      | else-has_none_of_history w ↦ absurd (false≢true (search rules))
+    ]
 
-pub returns : goal.returns
-returns c =
-    let line = c.args.line.now in
-    subst (λ (xs : List Position). IsTrue c.none_in_history.result ↔ ((b : Position) → Contains xs b → HasBoardInHistory line.frame line.state b → ⊥)) c.set-set.ensures c.none_in_history.ensures
+pub returns-else-none_in_history : goal.returns-else-none_in_history
+returns-else-none_in_history c =
+    let a = c.self.inside.added in
+    let m = c.self.inside.middle in
+    let z = c.self.inside.base in
+    let off : c.if-has_none_of_history.value ≡ false = search rules in (
+      λ y. absurd (false≢true (sym off ∙ y)),
+      λ h. elim c.if-has_none_of_history.branch [
+        | then-has_none_of_history w ↦
+            let no : w.none_in_history.result ≡ false = search rules in
+            absurd (false≢true (sym no ∙ w.none_in_history.ensures.1 (λ b x. h b ((in_three a m z c.args.self.now c.self.view_is b).1 (inr (inl x))))))
+        | else-has_none_of_history w ↦
+            let no : c.has_none_of_history.result ≡ false = search rules in
+            absurd (false≢true (sym no ∙ c.has_none_of_history.ensures.1 (λ b x. h b ((in_three a m z c.args.self.now c.self.view_is b).1 (inl x)))))
+      ],
+    )

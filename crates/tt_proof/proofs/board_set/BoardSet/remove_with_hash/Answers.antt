@@ -1,6 +1,6 @@
 use Rattle.std.proofs.Common.{rules, ◌≡◌, ◌≢◌, inl, inr, Contains, sym, subst}
 use Rattle.tt_proof.proofs.RetainLemmas.{kept, left_out_or_kept, kept_rise}
-use Rattle.tt_proof.proofs.board_set.BoardSet.remove.Goals as goal
+use Rattle.tt_proof.proofs.board_set.BoardSet.remove_with_hash.Goals as goal
 
 pub invariant_of-self : goal.invariant_of-self
 invariant_of-self c = kept_rise _ _ c.self.inside.boards.items c.retain.new.self.items c.retain.ensures.filtered c.self.invariant

@@ -1,10 +1,10 @@
 use Rattle.std.proofs.Common.{rules, ◌≡◌, ◌⊎◌, ◌↔◌, Contains, subst}
 use Rattle.tt_proof.proofs.ResultLemmas.{on_ok}
 use Rattle.tt_proof.proofs.SharedLemmas.{held_already}
-use Rattle.tt_proof.proofs.board_set.BoardSet.add.Goals as goal
+use Rattle.tt_proof.proofs.board_set.BoardSet.add_with_hash.Goals as goal
 
-pub returns-then-has : goal.returns-then-has
-returns-then-has c b = held_already c.args.self.now c.args.board.now b (c.has.ensures.0 c.if-has.true)
+pub returns-then-has_with_hash : goal.returns-then-has_with_hash
+returns-then-has_with_hash c b = held_already c.args.self.now c.args.board.now b (c.has_with_hash.ensures.0 c.if-has_with_hash.true)
 
 pub returns : goal.returns
 returns c =
