@@ -9,7 +9,7 @@ use once_cell::race::OnceBox;
 use std::alloc::Global;
 use std::sync::atomic::{AtomicBool, AtomicU64, Ordering};
 use tt_game::{Line, Side, Turn};
-use tt_proof::{LifeProof, Tree};
+use tt_proof::LifeProof;
 use tt_sgf::NoMemory;
 
 /// How many slots there are, and how many of them a key has: those from the one on that its hash names.
@@ -17,15 +17,18 @@ const SLOTS: usize = 262_144;
 
 const SLOTS_PER_KEY: usize = 4;
 
-/// How many bytes kept proofs may take, as they are counted. Past it no more are kept here.
+/// How many bytes kept proofs may take, as they are counted. Past it no more are kept here. With a million positions on two dense boards of
+/// 19x19 the whole process then took 0.5 to 0.6 GB: what is being made and holes in memory come on top.
 pub(crate) const MOST_KEPT_BYTES: usize = 320_000_000;
 
-// For how much a kept proof counts: for the handles of its footprint's boards, for the entries of its reply, and for all else.
+// For how much a kept proof counts: for the handles of its footprint's boards, for the edits of two bytes that keep its line's boards,
+// and for all else. A board takes an edit for the stone that is played, one for each that is taken, and one that ends it: three at most in
+// the mean, as a stone is taken once. On those two boards they took 2,100 bytes a proof, and all else some 600.
 const BYTES_PER_BOARD: usize = 16;
 
-const BYTES_PER_ENTRY: usize = 24;
+const BYTES_PER_LINE_BOARD: usize = 6;
 
-const BYTES_PER_PROOF: usize = 960;
+const BYTES_PER_PROOF: usize = 640;
 
 /// How many keys there is room for at which a certifier is.
 const MOST_BEGUN: usize = 4096;
@@ -39,20 +42,12 @@ pub(crate) struct SharedProofs {
     has_ended: AtomicBool,
 }
 
-/// How many turns a reply answers; none where the tree is no reply.
-fn reply_entries(tree: &Tree) -> usize {
-    match tree {
-        Tree::Reply(entries) => entries.len(),
-        _ => 0,
-    }
-}
-
-/// For how many bytes a kept proof counts. Its tree's parts are those of other kept proofs.
-pub(crate) fn counted_bytes(proof: &LifeProof) -> usize {
-    let boards = proof.footprint_len().saturating_mul(BYTES_PER_BOARD);
-    let entries = reply_entries(proof.tree()).saturating_mul(BYTES_PER_ENTRY);
-    boards
-        .saturating_add(entries)
+/// For how many bytes a proof counts that is kept at the line. Its tree's parts are those of other kept proofs.
+pub(crate) fn counted_bytes(line: &Line, proof: &LifeProof) -> usize {
+    let footprint = proof.footprint_len().saturating_mul(BYTES_PER_BOARD);
+    let history = line.history().len().saturating_mul(BYTES_PER_LINE_BOARD);
+    footprint
+        .saturating_add(history)
         .saturating_add(BYTES_PER_PROOF)
 }
 
@@ -123,12 +118,12 @@ impl SharedProofs {
         Ok(None)
     }
 
-    /// Keeps the proof for all, or hands it back where there is no room for it.
-    pub(crate) fn keep(&self, alloc: Global, proof: LifeProof) -> Option<LifeProof> {
+    /// Keeps the proof at the line for all, or hands it back where there is no room for it.
+    pub(crate) fn keep(&self, alloc: Global, line: &Line, proof: LifeProof) -> Option<LifeProof> {
         if self.bytes.load(Ordering::Relaxed) > MOST_KEPT_BYTES as u64 {
             return Some(proof);
         }
-        let bytes = counted_bytes(&proof) as u64;
+        let bytes = counted_bytes(line, &proof) as u64;
         let first = first_slot(proof.key_hash());
         let Ok(mut proof) = Box::new(alloc, proof) else {
             return None;
@@ -158,7 +153,7 @@ impl SharedProofs {
         }
     }
 
-    /// Notes that no certifier is at the line any more.
+    /// Takes the mark of the line's key away, whichever certifier made it. Where memory was refused on the way, the mark stays.
     pub(crate) fn end(&self, line: &Line) {
         let hash = line.key_hash();
         if let Some(place) = self.begun.get(begun_index(hash)) {
