@@ -276,38 +276,32 @@ def read_problem(nodes):
 class Footprint:
     """Where a tree that wins at a position wins too: at the same position behind other boards, if all that it needs are
     among them, boards that plays of the other side may not repeat, and none that it avoids, which its own plays make.
-    A shared one is another's too, and is copied before it changes."""
+    It never changes, so that many trees share one. What it avoids is in a few sets, which it shares with others too: each
+    has more than twice as many boards as the next."""
 
-    def __init__(self, needs=(), avoids=()):
-        self.needs, self.avoids, self.is_shared = set(needs), set(avoids), False
+    def __init__(self, needs=frozenset(), avoids=()):
+        self.needs, self.avoids = needs, avoids
 
-    def share(self):
-        """The same once more. It is copied where one of both changes."""
-        other = Footprint()
-        other.needs, other.avoids = self.needs, self.avoids
-        self.is_shared = other.is_shared = True
-        return other
+    def avoiding(self, boards):
+        """The sets to avoid with one more, together with those that aren't much larger."""
+        avoids = self.avoids
+        while avoids and len(avoids[-1]) <= 2 * len(boards):
+            avoids, boards = avoids[:-1], avoids[-1] | boards
+        return avoids + (boards,)
 
-    def unshare(self):
-        if self.is_shared:
-            self.needs, self.avoids, self.is_shared = set(self.needs), set(self.avoids), False
-
-    def step_back(self, board, is_own):
-        """Goes in front of the play that made the board, which is the side's own or isn't."""
-        if board in self.needs or is_own and board not in self.avoids:
-            self.unshare()
-            self.needs.discard(board)
-            if is_own:
-                self.avoids.add(board)
+    def before(self, board, is_own):
+        """In front of the play that made the board, which is the side's own or isn't."""
+        needs = self.needs - {board} if board in self.needs else self.needs
+        is_new = is_own and not any(board in boards for boards in self.avoids)
+        return Footprint(needs, self.avoiding(frozenset([board])) if is_new else self.avoids)
 
     def joined(self, other):
-        """Both in one; the smaller one is put into the larger, if it isn't there already."""
-        one, two = (self, other) if len(self.avoids) >= len(other.avoids) else (other, self)
-        if not (two.avoids is one.avoids or two.avoids <= one.avoids) or not two.needs <= one.needs:
-            one.unshare()
-            one.needs |= two.needs
-            one.avoids |= two.avoids
-        return one
+        """Both in one."""
+        found = Footprint(self.needs if other.needs <= self.needs else self.needs | other.needs, self.avoids)
+        for boards in other.avoids:
+            if not any(boards is held or boards <= held for held in found.avoids):
+                found.avoids = found.avoiding(boards)
+        return found
 
 
 class Certificate:
@@ -353,7 +347,7 @@ class Certificate:
         if turn != game.passing:
             game.earlier.remove(board)
             if found:
-                found.step_back(board, game.to_move == self.side)
+                found = found.before(board, game.to_move == self.side)
         return found
 
     def tree(self, level, is_reached):
@@ -374,7 +368,7 @@ class Certificate:
             raise Refused(30)
         wins = goes_on and game.to_move != self.side
         unanswered, repeated = game.legal(range(game.passing + 1)) if wins else ({}, set())
-        turn, found = -1, Footprint(repeated)
+        turn, found = -1, Footprint(frozenset(repeated))
         while not self.next(b";"):
             turn = self.turn(level, turn)
             if turn not in unanswered:
@@ -398,8 +392,7 @@ class Certificate:
             raise Refused(30)
         outside, self.deepest = self.deepest, level - 1
         found = self.tree(level, is_reached)
-        kept = found.share() if found else None
-        self.named.append((kept, self.game.position(), self.deepest - level + 1))
+        self.named.append((found, self.game.position(), self.deepest - level + 1))
         self.deepest = max(outside, self.deepest)
         return found
 
@@ -413,8 +406,8 @@ class Certificate:
         if not is_reached:
             return None
         earlier = self.game.earlier
-        if kept and position == self.game.position() and kept.needs <= earlier and kept.avoids.isdisjoint(earlier):
-            return kept.share()
+        if kept and position == self.game.position() and kept.needs <= earlier and all(map(earlier.isdisjoint, kept.avoids)):
+            return kept
         self.all_fit = False
         return None
 
