@@ -1,10 +1,8 @@
 -- Stones that close a wall.
-use Rattle.std.proofs.Common.{◌≡◌, ◌⊎◌, ◌<◌, ◌≤◌, ℕ, ◌+◌, ◌&&◌, ◌||◌, ◌-◌, cond, not, Bool, List, [], ◌∷◌, ◌++◌, Option, Some, None, true, false, inl, inr, refl, sym, ap, subst, ◌∙◌, arith}
+use Rattle.std.proofs.Common.{◌≡◌, ◌<◌, ◌≤◌, ℕ, ◌+◌, ◌&&◌, ◌||◌, not, Bool, List, [], ◌∷◌, ◌++◌, Option, Some, None, true, false, inl, inr, refl, sym, ap, subst, ◌∙◌, arith}
 use Rattle.std.proofs.lemmas.List.Elements.{All-head, All-nil, All-push}
-use Rattle.std.proofs.lemmas.List.Sorted.{All-permutation}
 use Rattle.std.proofs.lemmas.Bool.{and_from, and_parts, cases_Bool, not_from_false, true≢false, false≢true, cases_lt}
 use Rattle.std.specs.Prelude.{All, slice_get}
-use Rattle.std.specs.List.Sorted.{IsPermutation}
 use Rattle.std.specs.Cmp.{nat_cmp_total}
 use Rattle.std.specs.Ordering.{eq_by_cmp, nat_cmp}
 use Rattle.std.specs.FinSet as set
@@ -56,14 +54,6 @@ without_one points alone others p one is = set.same_set nat_cmp_total set.nat_cm
     ap (λ x. set.contains x q) one ∙ set.contains-insert nat_cmp_total set.empty p q ∙ ap (λ b. same || b) (set.contains-empty nat_cmp q) in
     ap (λ x. set.contains x q) is ∙ set.contains-difference nat_cmp_total points alone q ∙ ap (λ b. set.contains points q && not b) taken
     ∙ and_not_swap (set.contains points q) same ∙ sym (set.contains-remove nat_cmp_total points p q))
-
--- which are fewer
-pub fewer_without : (points others : PointNumberSet) (p : ℕ) → others ≡ set.remove points p → set.contains points p ≡ true → 0 < set.len points
-    → set.len others < set.len points
-fewer_without points others p is there some =
-    let less : set.len (set.remove points p) ≡ set.len points - 1 = set.len-remove nat_cmp_total points p ∙ ap (λ b. cond b (set.len points - 1) (set.len points)) there in
-    let e : set.len others ≡ set.len points - 1 = ap set.len is ∙ less in
-    omega (arith, some, e)
 
 -- where the stones enclose the group, it is walled in on the board with them
 pub walled_in_there : (s : Size) (c : Colouring) (k j : Colour) (q : ℕ) (stones : PointNumberSet) (b : Position) → j ≡ other k
@@ -124,11 +114,6 @@ among_empty s c points made is p h =
 pub no_closings : (s : Size) (c : Colouring) (k : Colour) (q : ℕ) → AreClosings s c k q []
 no_closings s c k q = (All-nil _, (0, All-nil _))
 
--- what is left of a list when all of it may go
-pub some_left : (s : Size) (c : Colouring) (k : Colour) (q : ℕ) (before left : List Closing) → (left ≡ before) ⊎ (left ≡ []) → AreClosings s c k q before → AreClosings s c k q left
-some_left s c k q before left (inl same) all = subst (AreClosings s c k q) (sym same) all
-some_left s c k q before left (inr none) all = subst (AreClosings s c k q) (sym none) (no_closings s c k q)
-
 -- closings by so many stones
 abbrev pub AreByCount : ℕ → List Closing → Type 0
 AreByCount n = All (λ m. set.len m.stones ≡ n)
@@ -155,11 +140,4 @@ pub one_more : (s : Size) (c : Colouring) (k : Colour) (q : ℕ) (before : List 
 one_more s c k q before m all closes same = (
   All-push (λ (x : Closing). ClosesWall s c k q x.stones x.region) before m all.0 closes,
   (set.len m.stones, All-push (λ (x : Closing). set.len x.stones ≡ set.len m.stones) before m same refl),
-)
-
--- in another order
-pub other_order : (s : Size) (c : Colouring) (k : Colour) (q : ℕ) (before sorted : List Closing) → IsPermutation before sorted → AreClosings s c k q before → AreClosings s c k q sorted
-other_order s c k q before sorted order all = (
-  All-permutation (λ (x : Closing). ClosesWall s c k q x.stones x.region) before sorted order all.0,
-  (all.1.0, All-permutation (λ (x : Closing). set.len x.stones ≡ all.1.0) before sorted order all.1.1),
 )

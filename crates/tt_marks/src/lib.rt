@@ -7,13 +7,15 @@
 //! | `walls` | the group of a stone, the whole wall around it, what is within |
 //! | `regions` | the region within a wall, whether it is closed, and inner |
 //! | `ways` | the ways that lead from a group to what is far |
-//! | `gaps` | the stones that close a wall, the best first |
+//! | `enclosures` | the stones that seem to close a wall, the best first |
+//! | `gaps` | those that close it |
 //! | `danger` | the stones of a wall that plays in a region may take |
 //! | `proposals` | the group that is meant where nobody names one |
 //! | `laws` | no path that avoids the wall leads out, plays within take none of its stones, and a region lacks none of its liberties |
 #![tactic(auto)]
 
 mod danger;
+mod enclosures;
 mod filling;
 mod gaps;
 pub mod laws;
@@ -24,7 +26,8 @@ mod walls;
 mod ways;
 
 pub use danger::{stones_in_danger, wall_in_danger};
-pub use gaps::{Closing, MOST_STONES, board_with_stones, closings};
+pub use enclosures::MOST_STONES;
+pub use gaps::{Closing, board_with_stones, closings};
 pub use point_sets::{chains, points_beside, stones_of_colour};
 pub use proposals::proposed_stone;
 pub use regions::{

@@ -5,13 +5,13 @@ ghost use Rattle.tt_sgf.specs.Sizes.{point_count};
 ghost use Rattle.tt_board.specs.Reach.{entry_at};
 ghost use Rattle.tt_marks.specs.Walls.{IsOfInnerGroup};
 
-use crate::gaps::{MOST_STONES, closings_by};
+use crate::enclosures::MOST_STONES;
 use crate::regions::{is_inner, region, set_of};
 use crate::walls::group_bits;
 use crate::ways::Ways;
 use std::alloc::Global;
 use tt_board::{Board, Colour};
-use tt_sgf::{NoMemory, Point, PointSet};
+use tt_sgf::{Bits, NoMemory, Point, PointSet};
 
 /// A stone of a group that may be meant, and the group's region, once its wall is closed.
 #[derive(Drop)]
@@ -115,14 +115,14 @@ fn open_candidate(
     ensures { IfOk result (λ found. IfSome found (λ m. m.stone ≡ stone)) }
 {
     let ways = Ways::of(board, colour, stone);
-    if stones < ways.separate(stones + 1) {
+    if stones < ways.separate(&Bits::none(), stones + 1) {
         return Ok(None);
     }
-    let found = closings_by(alloc, board, colour, stone, &ways, stones)?;
-    if found.is_empty() {
+    let gaps = ways.gaps_by(alloc, stones)?;
+    let Some(best) = gaps.first() else {
         return Ok(None);
-    }
-    let region = found[0].region.copy();
+    };
+    let region = set_of(board.size(), &best.region);
     if is_lone(board, colour, stone, &region) {
         return Ok(None);
     }

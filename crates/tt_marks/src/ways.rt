@@ -5,7 +5,7 @@ ghost use Rattle.tt_sgf.specs.Sizes.{point_count};
 ghost use Rattle.tt_marks.specs.Closings.{AreEmptyPoints};
 
 use crate::filling::{beside, reached};
-use crate::regions::{empties, set_of};
+use crate::regions::{MOST_ENCLOSED_POINTS, empties, set_of};
 use crate::walls::group_bits;
 use tt_board::{Board, Colour};
 use tt_sgf::{BITS, Bits, NoMemory, Point, PointSet, Size};
@@ -21,18 +21,38 @@ const MOST_STEPS: usize = 64;
 /// What ways lead over.
 #[derive(Clone, Copy)]
 pub(crate) struct Ways {
-    size: Size,
+    pub size: Size,
     /// The empty points.
-    empty: Bits,
+    pub empty: Bits,
     /// These, and the stones of the group's colour.
-    free: Bits,
-    group: Bits,
+    pub free: Bits,
+    /// The stones of the other colour.
+    pub others: Bits,
+    pub group: Bits,
     far: Bits,
 }
 
 /// Whether a set has no point.
-fn has_none(points: &Bits) -> bool {
+pub(crate) fn has_none(points: &Bits) -> bool {
     points.first_from(0) == BITS
+}
+
+/// How many points a set has.
+pub(crate) fn count(points: &Bits) -> usize {
+    let mut count: usize = 0;
+    for word in &points.words() {
+        count = count.saturating_add(word.count_ones() as usize);
+    }
+    count
+}
+
+/// The set of the point of this number, if it is one.
+fn alone(p: usize) -> Bits {
+    let mut made = Bits::none();
+    if p < BITS {
+        made.set(p);
+    }
+    made
 }
 
 /// The points beside those of a set.
@@ -41,7 +61,7 @@ pub(crate) fn neighbours(size: Size, points: &Bits) -> Bits {
 }
 
 /// What is `reached`, of sets that may have bits of no point.
-fn flood(size: Size, free: &Bits, first: &Bits) -> Bits {
+pub(crate) fn flood(size: Size, free: &Bits, first: &Bits) -> Bits {
     let count = size.point_count();
     reached(size, &free.truncated_to(count), &first.truncated_to(count))
 }
@@ -59,12 +79,12 @@ pub fn ways_out(board: &Board, colour: Colour, stone: Point) -> PointSet
 
 /// What is near a group: so many steps away at most, and no more empty points than are left.
 fn near_points(size: Size, empty: &Bits, own: &Bits, group: &Bits) -> Bits {
-    let half = set_of(size, empty).count() / 2;
+    let half = count(empty) / 2;
     let mut near = *group;
     for _step in 0..NEAR_STEPS {
         let more = near.or(&neighbours(size, &near).and(empty));
         let more = flood(size, own, &more);
-        if half < set_of(size, &more.and(empty)).count() {
+        if half < count(&more.and(empty)) {
             return near;
         }
         near = more;
@@ -79,14 +99,9 @@ fn way_back(size: Size, layers: &[Bits; MOST_STEPS], last: usize, ends: Bits) ->
     let mut way = Bits::none();
     let mut ends = ends;
     for back in 0..last + 1 {
-        let p = ends.first_from(0);
-        if p == BITS {
-            return way;
-        }
-        way.set(p);
-        let mut alone = Bits::none();
-        alone.set(p);
-        ends = neighbours(size, &alone).and(&layers[(last - back).saturating_sub(1)]);
+        let at = alone(ends.first_from(0));
+        way = way.or(&at);
+        ends = neighbours(size, &at).and(&layers[(last - back).saturating_sub(1)]);
     }
     way
 }
@@ -106,13 +121,19 @@ impl Ways {
             size,
             empty,
             free,
+            others: *board.bits(colour.other()),
             group,
             far: flood(size, &free, &group).minus(&near),
         }
     }
 
-    /// The empty points of a shortest way to what is far, past points that are shut: none where there is no way.
-    fn shortest(&self, shut: &Bits) -> Bits {
+    /// The stones of the group's colour.
+    pub(crate) fn own(&self) -> Bits {
+        self.free.minus(&self.empty)
+    }
+
+    /// A shortest way to what is far, past points that are shut: none where there is no way.
+    pub(crate) fn shortest(&self, shut: &Bits) -> Bits {
         let free = self.free.minus(shut);
         let mut layers = [Bits::none(); MOST_STEPS];
         let mut seen = self.group;
@@ -125,54 +146,102 @@ impl Ways {
             layers[step] = front;
             let ends = front.and(&self.far);
             if !has_none(&ends) {
-                return way_back(self.size, &layers, step, ends).and(&self.empty);
+                return way_back(self.size, &layers, step, ends);
             }
             seen = seen.or(&front);
         }
         Bits::none()
     }
 
-    /// Whether no way is left where these points are shut.
-    fn are_shut_by(&self, shut: &Bits) -> bool {
+    /// The empty points of a shortest way past points that are shut each of which shuts all other ways too. It stops where more points are
+    /// within than a region has.
+    fn points_of_all_ways(&self, shut: &Bits, way: &Bits) -> Bits {
         let free = self.free.minus(shut);
-        has_none(&flood(self.size, &free, &self.group).and(&self.far))
+        let mut found = Bits::none();
+        let mut ahead = *way;
+        let mut within = self.group;
+        let mut at = neighbours(self.size, &within).and(&ahead);
+        for _step in 0..MOST_STEPS {
+            if has_none(&at) {
+                return found;
+            }
+            // What is reached without this point of the way and those behind it.
+            within = flood(self.size, &free.minus(&ahead), &within);
+            let room = count(&within.minus(&self.group));
+            if !has_none(&within.and(&self.far)) || usize::from(MOST_ENCLOSED_POINTS) < room {
+                return found;
+            }
+            if neighbours(self.size, &within).and(&ahead).same(&at) {
+                found = found.or(&at.and(&self.empty));
+            }
+            ahead = ahead.minus(&at);
+            within = within.or(&at);
+            at = neighbours(self.size, &at).and(&ahead);
+        }
+        found
     }
 
-    /// Lists the sets of so many points more than these that shut all ways: each is on a shortest way that the others leave open.
+    /// Lists the sets of so many points more than these that shut all ways, but for those that leave more within than a region has. Each
+    /// point is on a way that the others leave open; this is a shortest one past these or, for the last point, any.
     pub(crate) fn list_shutting(
         &self,
         shut: &Bits,
         left: usize,
+        way: &Bits,
         found: &mut Vec<Bits>,
     ) -> Result<(), NoMemory> {
         if left == 0 {
-            if self.are_shut_by(shut) {
-                found.push(*shut)?;
-            }
             return Ok(());
         }
-        let way = self.shortest(shut);
+        if left == 1 {
+            return self.list_with_each(shut, &self.points_of_all_ways(shut, way), found);
+        }
+        let points = way.and(&self.empty);
+        let past = shut.or(&points);
+        let other = self.shortest(&past);
+        if self.separate(&past.or(&other.and(&self.empty)), left - 1) == left - 1 {
+            return Ok(());
+        }
         for p in 0..self.size.point_count() {
-            if !way.has(p) {
-                continue;
+            if points.has(p) {
+                let more = shut.or(&alone(p));
+                let next = if left == 2 && !has_none(&other) {
+                    other
+                } else {
+                    self.shortest(&more)
+                };
+                self.list_shutting(&more, left - 1, &next, found)?;
             }
-            let mut more = *shut;
-            more.set(p);
-            self.list_shutting(&more, left - 1, found)?;
         }
         Ok(())
     }
 
-    /// How many ways have no empty point in common, as far as the shortest tell, up to a number: at least so many points shut them.
-    pub(crate) fn separate(&self, most: usize) -> usize {
-        let mut shut = Bits::none();
+    /// How many ways past these points have no empty point in common, as far as the shortest tell, up to a number: at least so many points
+    /// shut them.
+    pub(crate) fn separate(&self, past: &Bits, most: usize) -> usize {
+        let mut shut = *past;
         for found in 0..most {
             let way = self.shortest(&shut);
             if has_none(&way) {
                 return found;
             }
-            shut = shut.or(&way);
+            shut = shut.or(&way.and(&self.empty));
         }
         most
+    }
+
+    /// Lists a set with each of these points.
+    fn list_with_each(
+        &self,
+        shut: &Bits,
+        points: &Bits,
+        found: &mut Vec<Bits>,
+    ) -> Result<(), NoMemory> {
+        for p in 0..self.size.point_count() {
+            if points.has(p) {
+                found.push(shut.or(&alone(p)))?;
+            }
+        }
+        Ok(())
     }
 }

@@ -1,0 +1,150 @@
+//! Looks for stones that close the wall around a group, all in bits. No contract says what is found: `gaps` sees whether it closes the wall.
+
+use crate::regions::MOST_ENCLOSED_POINTS;
+use crate::ways::{Ways, count, flood, has_none, neighbours};
+use std::alloc::Global;
+use tt_sgf::{BITS, Bits, NoMemory};
+
+/// The most stones that close a wall together.
+pub const MOST_STONES: usize = 3;
+
+/// Stones that close the wall, and the region of the group once they stand.
+#[derive(Clone, Copy)]
+pub(crate) struct Gap {
+    pub stones: Bits,
+    pub region: Bits,
+}
+
+impl Ways {
+    /// The stones among these whose chains have one of these liberties.
+    fn stones_with_liberty(&self, stones: &Bits, liberties: &Bits) -> Bits {
+        let first = neighbours(self.size, liberties).and(stones);
+        flood(self.size, stones, &first)
+    }
+
+    /// Whether each stone has a liberty once the other colour has these stones too.
+    fn are_all_alive(&self, added: &Bits) -> bool {
+        let empty = self.empty.minus(added);
+        let own = self.own();
+        let others = self.others.or(added);
+        own.same(&self.stones_with_liberty(&own, &empty))
+            && others.same(&self.stones_with_liberty(&others, &empty))
+    }
+
+    /// What is within the whole wall once these stones are added, where the group is walled in then by a wall that has the kept ones. The
+    /// points from which it is looked for are within in any case.
+    fn walled_in_by(&self, added: &Bits, kept: &Bits, from: &Bits) -> Option<Bits> {
+        let empty = self.empty.minus(added);
+        let others = self.others.or(added);
+        let mut wall = others;
+        let mut inside = *from;
+        for _stone in 0..BITS {
+            inside = flood(self.size, &self.free.or(&others).minus(&wall), &inside);
+            if count(&empty.minus(&inside)) < count(&empty.and(&inside)) {
+                return None;
+            }
+            let left = wall.and(&self.stones_with_liberty(&others, &empty.minus(&inside)));
+            if !has_none(&kept.minus(&left)) {
+                return None;
+            }
+            if left.same(&wall) {
+                let is_wall = !has_none(&wall) && self.are_all_alive(added);
+                return if is_wall { Some(inside) } else { None };
+            }
+            wall = left;
+        }
+        None
+    }
+
+    /// The region that these stones close, each of which is of the wall.
+    fn region_closed_by(&self, stones: &Bits) -> Option<Bits> {
+        let inside = self.walled_in_by(stones, stones, &self.group)?;
+        let region = inside.minus(&self.group);
+        let points = count(&region);
+        if points < 2 || usize::from(MOST_ENCLOSED_POINTS) < points {
+            return None;
+        }
+        Some(region)
+    }
+
+    /// These stones without the first one that isn't needed: the others wall the group in.
+    fn without_unneeded(&self, gap: &Gap) -> Option<Bits> {
+        let inside = gap.region.or(&self.group);
+        let mut rest = gap.stones;
+        for _stone in 0..MOST_STONES {
+            let p = rest.first_from(0);
+            if p == BITS {
+                return None;
+            }
+            rest.clear_bit(p);
+            let mut others = gap.stones;
+            others.clear_bit(p);
+            if self.walled_in_by(&others, &Bits::none(), &inside).is_some() {
+                return Some(others);
+            }
+        }
+        None
+    }
+
+    /// Lists what these stones close or, where some of them aren't needed, the others. The known ones were tried before.
+    fn list_gap(
+        &self,
+        stones: &Bits,
+        known: &mut Vec<Bits>,
+        found: &mut Vec<Gap>,
+    ) -> Result<(), NoMemory> {
+        let mut stones = *stones;
+        for _stone in 0..MOST_STONES {
+            if has_none(&stones) || known.iter().any(|other| other.same(&stones)) {
+                return Ok(());
+            }
+            let Some(region) = self.region_closed_by(&stones) else {
+                return Ok(());
+            };
+            known.push(stones)?;
+            let gap = Gap { stones, region };
+            match self.without_unneeded(&gap) {
+                Some(others) => stones = others,
+                None => {
+                    found.push(gap)?;
+                    return Ok(());
+                }
+            }
+        }
+        Ok(())
+    }
+
+    /// The place of a gap among others: first by the count of its stones, then by how many of these are beside one of the group's colour,
+    /// then the more points the region has, the lower.
+    fn rank(&self, gap: &Gap) -> (usize, usize, usize) {
+        let beside = neighbours(self.size, &self.own()).and(&gap.stones);
+        let room = BITS.saturating_sub(count(&gap.region));
+        (count(&gap.stones), count(&beside), room)
+    }
+
+    /// The gaps with so many stones or, where some of these aren't needed, with fewer. The best come first.
+    pub(crate) fn gaps_by(&self, alloc: Global, stones: usize) -> Result<Vec<Gap>, NoMemory> {
+        let mut shutting = Vec::new(alloc);
+        let way = self.shortest(&Bits::none());
+        self.list_shutting(&Bits::none(), stones, &way, &mut shutting)?;
+        let mut known = Vec::new(alloc);
+        let mut found = Vec::new(alloc);
+        for stones in shutting.as_slice() {
+            self.list_gap(stones, &mut known, &mut found)?;
+        }
+        found.sort_by_key(|gap| self.rank(gap))?;
+        Ok(found)
+    }
+
+    /// The gaps with the fewest stones, at most `MOST_STONES`. The best come first.
+    pub(crate) fn fewest_gaps(&self, alloc: Global) -> Result<Vec<Gap>, NoMemory> {
+        let fewest = self.separate(&Bits::none(), MOST_STONES + 1);
+        for stones in fewest..=MOST_STONES {
+            let found = self.gaps_by(alloc, stones)?;
+            if !found.is_empty() {
+                return Ok(found);
+            }
+        }
+        Ok(Vec::new(alloc))
+    }
+}
