@@ -51,16 +51,23 @@ module _ (name : Option PointName) (g : GameState) (q : ℕ) (taken : IsTaken na
       let found = only squares (subst (λ (x : Colour). IsEnclosedGroup s c x q squares) same enclosed) in
       never (found.0, subst (λ (x : PointNumberSet). IsInnerUnlessNamed name s c x) found.1 inner))
 
+-- a group that is enclosed or walled in in the game is so on the board
+pub enclosed_on_board : (g : GameState) (q : ℕ) (s : Size) (c : Colouring) → s ≡ g.size → c ≡ g.present → (k : Colour) (squares : PointNumberSet)
+    → IsEnclosedGroup g.size g.present k q squares → IsEnclosedGroup s c k q squares
+enclosed_on_board g q s c size points k squares h =
+    subst (λ (x : Colouring). IsEnclosedGroup s x k q squares) (sym points) (subst (λ (x : Size). IsEnclosedGroup x g.present k q squares) (sym size) h)
+
 -- walled in on the board is walled in in the game
 pub walled_in_game : (g : GameState) (q : ℕ) (s : Size) (c : Colouring) → s ≡ g.size → c ≡ g.present → (k : Colour) → IsWalledIn s c k q → IsWalledIn g.size g.present k q
 walled_in_game g q s c size points k h = subst (λ (x : Colouring). IsWalledIn g.size x k q) points (subst (λ (x : Size). IsWalledIn x c k q) size h)
 
 -- with stones that close the wall
 pub marked_setup : (text : List ℕ) (g : GameState) (q : ℕ) (k foe : Colour) (s : Size) (c : Colouring) (stones region squares : PointNumberSet) (made : Position)
-    (l : LineWithUndo) → s ≡ g.size → c ≡ g.present → foe ≡ other k → squares ≡ region → (IsWalledIn g.size g.present k q → ⊥) → ClosesWall s c k q stones region
+    (l : LineWithUndo) → s ≡ g.size → c ≡ g.present → foe ≡ other k → squares ≡ region
+    → ((marked : PointNumberSet) → IsEnclosedGroup g.size g.present k q marked → ⊥) → (IsWalledIn g.size g.present k q → ⊥) → ClosesWall s c k q stones region
     → made ≡ record { size = s; points = with_stones s c foe stones } → l ≡ posed_problem g squares (target q) k
     → IsSetupText text l.frame made.points l.state.to_move → IsClosedText text g q
-marked_setup text g q k foe s c stones region squares made l size points others same unwalled closes stands posed is =
+marked_setup text g q k foe s c stones region squares made l size points others same unmarked unwalled closes stands posed is =
     let f : Frame = record { size = g.size; region = squares; targets = target q; defender = k } in
     let side = side_of k g.to_move in
     let on = subst (λ (x : LineWithUndo). IsSetupText text x.frame made.points x.state.to_move) posed is in
@@ -68,7 +75,7 @@ marked_setup text g q k foe s c stones region squares made l size points others 
     let added = subst (λ (x : Colour). IsSetupText text f (with_stones s c x stones) side) others placed in
     let sized = subst (λ (x : Size). ClosesWall x c k q stones region × IsSetupText text f (with_stones x c (other k) stones) side) size (closes, added) in
     let both = subst (λ (x : Colouring). ClosesWall g.size x k q stones region × IsSetupText text f (with_stones g.size x (other k) stones) side) points sized in
-    (k, squares, stones, unwalled, subst (λ (x : PointNumberSet). ClosesWall g.size g.present k q stones x) (sym same) both.0, both.1)
+    (k, squares, stones, unmarked, unwalled, subst (λ (x : PointNumberSet). ClosesWall g.size g.present k q stones x) (sym same) both.0, both.1)
 
 module _ (wanted : WantedMarks) (given : List ℕ) (nodes : List Node) (text : List ℕ) where
   -- a tree stays as it was where marks stand there, its game can't be played, or no stone that may be meant marks a group

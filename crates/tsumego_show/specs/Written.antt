@@ -90,10 +90,11 @@ abbrev pub IsEnclosedText : Option PointName → List ℕ → GameState → ℕ 
 IsEnclosedText name text g q = (k : Colour) × (squares : PointNumberSet) × IsEnclosedGroup g.size g.present k q squares × IsInnerUnlessNamed name g.size g.present squares
     × IsTextOf text (posed_problem g squares (target q) k)
 
--- a text is the game with more stones, which close the wall around the group of the stone on q where it isn't walled in, with such marks too, and
--- who moves stays
+-- a text is the game with more stones, which close the wall around the group of the stone on q where it is neither enclosed nor walled in, with
+-- such marks too, and who moves stays
 abbrev pub IsClosedText : List ℕ → GameState → ℕ → Type 0
-IsClosedText text g q = (k : Colour) × (squares : PointNumberSet) × (stones : PointNumberSet) × (IsWalledIn g.size g.present k q → ⊥)
+IsClosedText text g q = (k : Colour) × (squares : PointNumberSet) × (stones : PointNumberSet)
+    × ((marked : PointNumberSet) → IsEnclosedGroup g.size g.present k q marked → ⊥) × (IsWalledIn g.size g.present k q → ⊥)
     × ClosesWall g.size g.present k q stones squares
     × IsSetupText text (record { size = g.size; region = squares; targets = target q; defender = k }) (with_stones g.size g.present (other k) stones) (side_of k g.to_move)
 

@@ -5,7 +5,8 @@ ghost use Rattle.tt_sgf.specs.Sizes.{point_count};
 ghost use Rattle.tt_board.specs.Reach.{entry_at};
 ghost use Rattle.tt_game.specs.Nodes.{TR, has};
 ghost use Rattle.tt_game.specs.Problems.{game_of, posed_problem};
-ghost use Rattle.tt_marks.specs.Walls.{IsClosed, IsWalledIn};
+ghost use Rattle.tt_board.specs.Stones.{PointNumberSet};
+ghost use Rattle.tt_marks.specs.Walls.{IsClosed, IsEnclosedGroup, IsWalledIn};
 ghost use Rattle.tsumego_show.specs.Written.{HasNoGroup, IsClosedText, IsGivenWithMore, IsInnerUnlessNamed, IsMarkedOrKept, IsMarkedText, IsSetupText, IsTaken};
 ghost use Rattle.tsumego_show.specs.Written.{IsTextOf, as_given, asking_nodes, has_triangles_alone, last_has_squares, target};
 
@@ -219,6 +220,8 @@ fn closed_tree(
 ) -> Result<Option<Vec<u8>>, ShowFault>
     requires on_board { stone < point_count game.size }
     requires stands { entry_at game.present stone ≡ Some colour }
+    requires unmarked { (squares : PointNumberSet)
+        → IsEnclosedGroup game.size game.present colour stone squares → ⊥ }
     requires open { IsWalledIn game.size game.present colour stone → ⊥ }
     ensures { IfOk result
         (λ made. IfSome made (λ text. IsGivenWithMore tree.now.bytes.now tree.now.main.nodes text.items
@@ -265,7 +268,7 @@ fn is_enclosed(board: &Board, found: &WalledRegion, name: Option<PointName>) -> 
 }
 
 /// The tree with the marks for the group of the stone on a point, where its region is closed and, where nobody named the stone, an inner
-/// one; or with the best stones that close its wall, where they are wanted and are found.
+/// one; or with the best stones that close its wall, where they are wanted and are found, and its region isn't closed without them.
 #[tactic(auto, using(crate::proofs::Marked::empty_has_none))]
 fn marked_tree(
     alloc: Global,
@@ -296,6 +299,10 @@ fn marked_tree(
         return Ok(Some(text));
     }
     if !wanted.closes {
+        return Ok(None);
+    }
+    // A name is all that its marks want then.
+    if found.is_closed() {
         return Ok(None);
     }
     if is_walled_in(board, colour, stone) {

@@ -2,7 +2,6 @@
 ghost use Rattle.std.specs.Prelude.{◌≡◌, ◌<◌, Some, IfSome};
 ghost use Rattle.tt_sgf.specs.Sizes.{point_count};
 ghost use Rattle.tt_board.specs.Reach.{entry_at};
-ghost use Rattle.tt_marks.specs.Walls.{IsWalledIn};
 
 use crate::picture::colour_name;
 use crate::points::{PointForm, put_point, put_points, put_points_line_if_any};
@@ -83,7 +82,6 @@ fn put_how_to_go_on(
 ) -> Result<(), ShowFault>
     requires on_board { stone < point_count board.now.size }
     requires stands { entry_at board.now.points stone ≡ Some colour }
-    requires open { IsWalledIn board.now.size board.now.points colour stone → ⊥ }
 {
     let ways = closings(alloc, board, colour, stone)?;
     if let Some(best) = ways.first() {
@@ -185,9 +183,13 @@ fn put_chain_that_may_be_meant(
 {
     out.extend_from_slice(b"; it may be ")?;
     put_chain_name(out, board.size(), colour, stone)?;
-    if is_walled_in(board, colour, stone) {
-        let count = region(board, colour, stone).points.count();
-        return Ok(writeln!(out, ": it is enclosed with {count}: mark it by hand")?);
+    let found = region(board, colour, stone);
+    if found.is_closed() {
+        let count = found.points.count();
+        return Ok(writeln!(
+            out,
+            ": it is enclosed with {count}, and most empty points are inside: name it to have it marked"
+        )?);
     }
     out.extend_from_slice(b": ")?;
     put_how_to_go_on(alloc, out, board, colour, stone)

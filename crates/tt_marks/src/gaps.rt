@@ -6,7 +6,6 @@ ghost use Rattle.tt_sgf.specs.Sizes.{point_count};
 ghost use Rattle.tt_board.specs.Reach.{entry_at};
 ghost use Rattle.tt_board.specs.Setup.{AllHaveLiberties};
 ghost use Rattle.tt_marks.specs.Closings.{AreClosings, AreEnclosing, ClosesWall, HaveAsMany, with_stones};
-ghost use Rattle.tt_marks.specs.Walls.{IsWalledIn};
 
 use crate::enclosures::MOST_STONES;
 use crate::regions::{empties, is_inner, is_walled_in, region, set_of};
@@ -148,7 +147,7 @@ fn list_if_closing(
     Ok(())
 }
 
-/// The stones that close the wall around the group of a stone of this colour, which isn't walled in: at most `MOST_STONES` together, and
+/// The stones that close the wall around the group of a stone of this colour: at most `MOST_STONES` together, and
 /// as many in each closing. More are looked for only where fewer weren't found, and each is needed. The best come first: those of which
 /// fewest are beside a stone of the group's colour, then those that leave the group most room.
 pub fn closings(
@@ -159,7 +158,6 @@ pub fn closings(
 ) -> Result<Vec<Closing>, NoMemory>
     requires on_board { stone < point_count board.now.size }
     requires stands { entry_at board.now.points stone ≡ Some colour }
-    requires open { IsWalledIn board.now.size board.now.points colour stone → ⊥ }
     ensures { IfOk result (λ v. AreClosings board.now.size board.now.points colour stone v.items) }
 {
     let gaps = Ways::of(board, colour, stone).fewest_gaps(alloc)?;

@@ -3,16 +3,11 @@ use Rattle.std.proofs.lemmas.List.Elements.{All-head}
 use Rattle.tt_board.specs.Reach.{entry_at}
 use Rattle.tt_marks.specs.declared.gaps.Closing.{Closing}
 use Rattle.tt_marks.specs.Closings.{AreClosings, ClosesWall}
-use Rattle.tsumego_show.proofs.Marked.{marked_setup, walled_in_game}
+use Rattle.tsumego_show.proofs.Marked.{marked_setup}
 use Rattle.tsumego_show.proofs.marking.closed_tree.Goals as goal
 
 pub closings-requires-clause-stands : goal.closings-requires-clause-stands
 closings-requires-clause-stands c = ap (λ points. entry_at points c.args.stone) c.present-board.ensures.points ∙ c.requires.stands
-
-pub closings-requires-clause-open : goal.closings-requires-clause-open
-closings-requires-clause-open c = λ h.
-    let board = c.present-board.result.now in
-    c.requires.open (walled_in_game c.args.game c.args.stone board.size board.points c.present-board.ensures.size c.present-board.ensures.points c.args.colour h)
 
 pub returns : goal.returns
 returns c =
@@ -26,6 +21,6 @@ returns c =
     let closes = All-head (λ (m : Closing). ClosesWall board.size board.points k q m.stones m.region) best others listed.0 in (
       c.in_ok-text.ensures.given,
       marked_setup _ c.args.game q k c.other.result board.size board.points best.stones best.region c.copy.result c.in-Some-board_with_stones.next c.in_ok-line.line
-          c.present-board.ensures.size c.present-board.ensures.points c.other.ensures c.copy.ensures c.requires.open closes c.in-Some-board_with_stones.ensures.0
+          c.present-board.ensures.size c.present-board.ensures.points c.other.ensures c.copy.ensures c.requires.unmarked c.requires.open closes c.in-Some-board_with_stones.ensures.0
           c.in_ok-line.ensures c.in_ok-text.ensures.reads,
     )

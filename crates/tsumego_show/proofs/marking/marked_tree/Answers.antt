@@ -6,7 +6,7 @@ use Rattle.tt_board.specs.Position.{Colouring}
 use Rattle.tt_board.specs.Reach.{entry_at}
 use Rattle.tt_game.specs.Line.{LineWithUndo}
 use Rattle.tt_marks.specs.Walls.{IsEnclosedGroup, IsWalledIn}
-use Rattle.tsumego_show.proofs.Marked.{empty_has_none, marked_board, open_has_none}
+use Rattle.tsumego_show.proofs.Marked.{empty_has_none, enclosed_on_board, marked_board, open_has_none}
 use Rattle.tsumego_show.specs.Written.{IsTextOf}
 use Rattle.tsumego_show.proofs.marking.marked_tree.Goals as goal
 
@@ -42,6 +42,13 @@ returns-then-not-wanted c =
     c.region-found.result.wall c.region-found.result.points (sym c.in-Some.ensures) c.region-found.ensures.only
     (λ h. false≢true (sym c.if-is_enclosed.false ∙ c.is_enclosed.ensures.1 h))
 
+pub returns-then-is_closed : goal.returns-then-is_closed
+returns-then-is_closed c =
+    let board = c.present-board.result.now in
+    open_has_none c.args.wanted.name c.args.game c.args.stone c.requires board.size board.points c.present-board.ensures.size c.present-board.ensures.points c.in-Some.colour
+    c.region-found.result.wall c.region-found.result.points (sym c.in-Some.ensures) c.region-found.ensures.only
+    (λ h. false≢true (sym c.if-is_enclosed.false ∙ c.is_enclosed.ensures.1 h))
+
 pub returns-then-is_walled_in : goal.returns-then-is_walled_in
 returns-then-is_walled_in c =
     let board = c.present-board.result.now in
@@ -51,6 +58,12 @@ returns-then-is_walled_in c =
 
 pub closed_tree-requires-clause-stands : goal.closed_tree-requires-clause-stands
 closed_tree-requires-clause-stands c = ap (λ points. entry_at points c.args.stone) (sym c.present-board.ensures.points) ∙ sym c.in-Some.ensures
+
+pub closed_tree-requires-clause-unmarked : goal.closed_tree-requires-clause-unmarked
+closed_tree-requires-clause-unmarked c = λ squares h.
+    let board = c.present-board.result.now in
+    let there = enclosed_on_board c.args.game c.args.stone board.size board.points c.present-board.ensures.size c.present-board.ensures.points c.in-Some.colour squares h in
+    false≢true (sym c.if-is_closed.false ∙ c.is_closed.ensures.1 (c.region-found.ensures.only squares there).0)
 
 pub closed_tree-requires-clause-open : goal.closed_tree-requires-clause-open
 closed_tree-requires-clause-open c = λ h.
