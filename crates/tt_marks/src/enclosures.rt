@@ -1,7 +1,7 @@
 //! Looks for stones that close the wall around a group, all in bits. No contract says what is found: `gaps` sees whether it closes the wall.
 
 use crate::regions::MOST_ENCLOSED_POINTS;
-use crate::ways::{Ways, count, flood, has_none, neighbours};
+use crate::ways::{Ways, count, has_none};
 use std::alloc::Global;
 use tt_sgf::{BITS, Bits, NoMemory};
 
@@ -15,11 +15,78 @@ pub(crate) struct Gap {
     pub region: Bits,
 }
 
+/// Whether a set is among others.
+fn are_among(sets: &[Bits], points: &Bits) -> bool {
+    sets.iter().any(|other| other.same(points))
+}
+
+/// A search for gaps.
+#[derive(Drop)]
+struct Search<'a> {
+    ways: &'a Ways,
+    /// Stones that close the wall, whether they are all needed or not.
+    known: Vec<Bits>,
+    /// Stones that don't wall the group in.
+    open: Vec<Bits>,
+    found: Vec<Gap>,
+}
+
+impl Search<'_> {
+    /// The stones of a gap without the first one that isn't needed: the others wall the group in.
+    fn without_unneeded(&mut self, gap: &Gap) -> Result<Option<Bits>, NoMemory> {
+        let inside = gap.region.or(&self.ways.group);
+        let mut rest = gap.stones;
+        for _stone in 0..MOST_STONES {
+            let p = rest.first_from(0);
+            if p == BITS {
+                break;
+            }
+            rest.clear_bit(p);
+            let mut others = gap.stones;
+            others.clear_bit(p);
+            if !are_among(self.open.as_slice(), &others) {
+                if self
+                    .ways
+                    .walled_in_by(&others, &Bits::none(), &inside)
+                    .is_some()
+                {
+                    return Ok(Some(others));
+                }
+                self.open.push(others)?;
+            }
+        }
+        Ok(None)
+    }
+
+    /// Adds what these stones close or, where some of them aren't needed, the others.
+    fn add(&mut self, stones: &Bits) -> Result<(), NoMemory> {
+        let mut stones = *stones;
+        for _stone in 0..MOST_STONES {
+            if has_none(&stones) || are_among(self.known.as_slice(), &stones) {
+                return Ok(());
+            }
+            let Some(region) = self.ways.region_closed_by(&stones) else {
+                return Ok(());
+            };
+            self.known.push(stones)?;
+            let gap = Gap { stones, region };
+            match self.without_unneeded(&gap)? {
+                Some(others) => stones = others,
+                None => {
+                    self.found.push(gap)?;
+                    return Ok(());
+                }
+            }
+        }
+        Ok(())
+    }
+}
+
 impl Ways {
     /// The stones among these whose chains have one of these liberties.
     fn stones_with_liberty(&self, stones: &Bits, liberties: &Bits) -> Bits {
-        let first = neighbours(self.size, liberties).and(stones);
-        flood(self.size, stones, &first)
+        let first = self.grid.neighbours(liberties).and(stones);
+        self.grid.flood(stones, &first)
     }
 
     /// Whether each stone has a liberty once the other colour has these stones too.
@@ -39,7 +106,9 @@ impl Ways {
         let mut wall = others;
         let mut inside = *from;
         for _stone in 0..BITS {
-            inside = flood(self.size, &self.free.or(&others).minus(&wall), &inside);
+            inside = self
+                .grid
+                .flood(&self.free.or(&others).minus(&wall), &inside);
             if count(&empty.minus(&inside)) < count(&empty.and(&inside)) {
                 return None;
             }
@@ -67,57 +136,10 @@ impl Ways {
         Some(region)
     }
 
-    /// These stones without the first one that isn't needed: the others wall the group in.
-    fn without_unneeded(&self, gap: &Gap) -> Option<Bits> {
-        let inside = gap.region.or(&self.group);
-        let mut rest = gap.stones;
-        for _stone in 0..MOST_STONES {
-            let p = rest.first_from(0);
-            if p == BITS {
-                return None;
-            }
-            rest.clear_bit(p);
-            let mut others = gap.stones;
-            others.clear_bit(p);
-            if self.walled_in_by(&others, &Bits::none(), &inside).is_some() {
-                return Some(others);
-            }
-        }
-        None
-    }
-
-    /// Lists what these stones close or, where some of them aren't needed, the others. The known ones were tried before.
-    fn list_gap(
-        &self,
-        stones: &Bits,
-        known: &mut Vec<Bits>,
-        found: &mut Vec<Gap>,
-    ) -> Result<(), NoMemory> {
-        let mut stones = *stones;
-        for _stone in 0..MOST_STONES {
-            if has_none(&stones) || known.iter().any(|other| other.same(&stones)) {
-                return Ok(());
-            }
-            let Some(region) = self.region_closed_by(&stones) else {
-                return Ok(());
-            };
-            known.push(stones)?;
-            let gap = Gap { stones, region };
-            match self.without_unneeded(&gap) {
-                Some(others) => stones = others,
-                None => {
-                    found.push(gap)?;
-                    return Ok(());
-                }
-            }
-        }
-        Ok(())
-    }
-
     /// The place of a gap among others: first by the count of its stones, then by how many of these are beside one of the group's colour,
     /// then the more points the region has, the lower.
     fn rank(&self, gap: &Gap) -> (usize, usize, usize) {
-        let beside = neighbours(self.size, &self.own()).and(&gap.stones);
+        let beside = self.grid.neighbours(&self.own()).and(&gap.stones);
         let room = BITS.saturating_sub(count(&gap.region));
         (count(&gap.stones), count(&beside), room)
     }
@@ -127,11 +149,16 @@ impl Ways {
         let mut shutting = Vec::new(alloc);
         let way = self.shortest(&Bits::none());
         self.list_shutting(&Bits::none(), stones, &way, &mut shutting)?;
-        let mut known = Vec::new(alloc);
-        let mut found = Vec::new(alloc);
+        let mut search = Search {
+            ways: self,
+            known: Vec::new(alloc),
+            open: Vec::new(alloc),
+            found: Vec::new(alloc),
+        };
         for stones in shutting.as_slice() {
-            self.list_gap(stones, &mut known, &mut found)?;
+            search.add(stones)?;
         }
+        let mut found = search.found;
         found.sort_by_key(|gap| self.rank(gap))?;
         Ok(found)
     }

@@ -4,7 +4,7 @@ ghost use Rattle.std.specs.Prelude.{◌<◌};
 ghost use Rattle.tt_sgf.specs.Sizes.{point_count};
 ghost use Rattle.tt_marks.specs.Closings.{AreEmptyPoints};
 
-use crate::filling::{beside, reached};
+use crate::filling::Grid;
 use crate::regions::{MOST_ENCLOSED_POINTS, empties, set_of};
 use crate::walls::group_bits;
 use tt_board::{Board, Colour};
@@ -21,7 +21,7 @@ const MOST_STEPS: usize = 64;
 /// What ways lead over.
 #[derive(Clone, Copy)]
 pub(crate) struct Ways {
-    pub size: Size,
+    pub grid: Grid,
     /// The empty points.
     pub empty: Bits,
     /// These, and the stones of the group's colour.
@@ -55,35 +55,24 @@ fn alone(p: usize) -> Bits {
     made
 }
 
-/// The points beside those of a set.
-pub(crate) fn neighbours(size: Size, points: &Bits) -> Bits {
-    beside(size, &points.truncated_to(size.point_count()))
-}
-
-/// What is `reached`, of sets that may have bits of no point.
-pub(crate) fn flood(size: Size, free: &Bits, first: &Bits) -> Bits {
-    let count = size.point_count();
-    reached(size, &free.truncated_to(count), &first.truncated_to(count))
-}
-
 /// The empty points beside the group of a stone of this colour from which a way leads to what is far.
 pub fn ways_out(board: &Board, colour: Colour, stone: Point) -> PointSet
     requires { stone < point_count board.now.size }
     ensures { AreEmptyPoints board.now.size board.now.points result }
 {
     let ways = Ways::of(board, colour, stone);
-    let leading = flood(ways.size, &ways.free, &ways.far);
-    let out = neighbours(ways.size, &ways.group).and(&leading);
+    let leading = ways.grid.flood(&ways.free, &ways.far);
+    let out = ways.grid.neighbours(&ways.group).and(&leading);
     set_of(board.size(), &out).and(&empties(board))
 }
 
 /// What is near a group: so many steps away at most, and no more empty points than are left.
-fn near_points(size: Size, empty: &Bits, own: &Bits, group: &Bits) -> Bits {
+fn near_points(grid: &Grid, empty: &Bits, own: &Bits, group: &Bits) -> Bits {
     let half = count(empty) / 2;
     let mut near = *group;
     for _step in 0..NEAR_STEPS {
-        let more = near.or(&neighbours(size, &near).and(empty));
-        let more = flood(size, own, &more);
+        let more = near.or(&grid.neighbours(&near).and(empty));
+        let more = grid.flood(own, &more);
         if half < count(&more.and(empty)) {
             return near;
         }
@@ -93,7 +82,7 @@ fn near_points(size: Size, empty: &Bits, own: &Bits, group: &Bits) -> Bits {
 }
 
 /// A shortest way to a point of the last of these layers, each of which is one step from the one before: a point of each.
-fn way_back(size: Size, layers: &[Bits; MOST_STEPS], last: usize, ends: Bits) -> Bits
+fn way_back(grid: &Grid, layers: &[Bits; MOST_STEPS], last: usize, ends: Bits) -> Bits
     requires { last < MOST_STEPS }
 {
     let mut way = Bits::none();
@@ -101,7 +90,9 @@ fn way_back(size: Size, layers: &[Bits; MOST_STEPS], last: usize, ends: Bits) ->
     for back in 0..last + 1 {
         let at = alone(ends.first_from(0));
         way = way.or(&at);
-        ends = neighbours(size, &at).and(&layers[(last - back).saturating_sub(1)]);
+        ends = grid
+            .neighbours(&at)
+            .and(&layers[(last - back).saturating_sub(1)]);
     }
     way
 }
@@ -111,19 +102,19 @@ impl Ways {
     pub(crate) fn of(board: &Board, colour: Colour, stone: Point) -> Ways
         requires { stone < point_count board.now.size }
     {
-        let size = board.size();
+        let grid = Grid::of(board.size());
         let empty = board.empty_points();
         let own = board.bits(colour);
         let free = empty.or(own);
         let group = group_bits(board, colour, stone);
-        let near = near_points(size, &empty, own, &group);
+        let near = near_points(&grid, &empty, own, &group);
         Ways {
-            size,
+            grid,
             empty,
             free,
             others: *board.bits(colour.other()),
             group,
-            far: flood(size, &free, &group).minus(&near),
+            far: grid.flood(&free, &group).minus(&near),
         }
     }
 
@@ -139,14 +130,14 @@ impl Ways {
         let mut seen = self.group;
         let mut front = self.group;
         for step in 0..MOST_STEPS {
-            front = neighbours(self.size, &front).and(&free).minus(&seen);
+            front = self.grid.neighbours(&front).and(&free).minus(&seen);
             if has_none(&front) {
                 return Bits::none();
             }
             layers[step] = front;
             let ends = front.and(&self.far);
             if !has_none(&ends) {
-                return way_back(self.size, &layers, step, ends);
+                return way_back(&self.grid, &layers, step, ends);
             }
             seen = seen.or(&front);
         }
@@ -160,23 +151,28 @@ impl Ways {
         let mut found = Bits::none();
         let mut ahead = *way;
         let mut within = self.group;
-        let mut at = neighbours(self.size, &within).and(&ahead);
+        let mut at = self.grid.neighbours(&within).and(&ahead);
+        // Points ahead that are known to be beside those within.
+        let mut touched = at;
         for _step in 0..MOST_STEPS {
             if has_none(&at) {
                 return found;
             }
-            // What is reached without this point of the way and those behind it.
-            within = flood(self.size, &free.minus(&ahead), &within);
-            let room = count(&within.minus(&self.group));
-            if !has_none(&within.and(&self.far)) || usize::from(MOST_ENCLOSED_POINTS) < room {
-                return found;
-            }
-            if neighbours(self.size, &within).and(&ahead).same(&at) {
-                found = found.or(&at.and(&self.empty));
+            if touched.same(&at) {
+                within = self.grid.flood(&free.minus(&ahead), &within);
+                let room = count(&within.minus(&self.group));
+                if !has_none(&within.and(&self.far)) || usize::from(MOST_ENCLOSED_POINTS) < room {
+                    return found;
+                }
+                touched = self.grid.neighbours(&within).and(&ahead);
+                if touched.same(&at) {
+                    found = found.or(&at.and(&self.empty));
+                }
             }
             ahead = ahead.minus(&at);
             within = within.or(&at);
-            at = neighbours(self.size, &at).and(&ahead);
+            at = self.grid.neighbours(&at).and(&ahead);
+            touched = touched.and(&ahead).or(&at);
         }
         found
     }
@@ -202,7 +198,7 @@ impl Ways {
         if self.separate(&past.or(&other.and(&self.empty)), left - 1) == left - 1 {
             return Ok(());
         }
-        for p in 0..self.size.point_count() {
+        for p in 0..self.grid.size.point_count() {
             if points.has(p) {
                 let more = shut.or(&alone(p));
                 let next = if left == 2 && !has_none(&other) {
@@ -237,7 +233,7 @@ impl Ways {
         points: &Bits,
         found: &mut Vec<Bits>,
     ) -> Result<(), NoMemory> {
-        for p in 0..self.size.point_count() {
+        for p in 0..self.grid.size.point_count() {
             if points.has(p) {
                 found.push(shut.or(&alone(p)))?;
             }
