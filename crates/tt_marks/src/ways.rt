@@ -2,10 +2,9 @@
 
 ghost use Rattle.std.specs.Prelude.{◌<◌};
 ghost use Rattle.tt_sgf.specs.Sizes.{point_count};
-ghost use Rattle.tt_marks.specs.Closings.{AreEmptyPoints};
 
 use crate::filling::Grid;
-use crate::regions::{MOST_ENCLOSED_POINTS, empties, set_of};
+use crate::regions::{MOST_ENCLOSED_POINTS, set_of};
 use crate::walls::group_bits;
 use tt_board::{Board, Colour};
 use tt_sgf::{BITS, Bits, NoMemory, Point, PointSet, Size};
@@ -58,12 +57,11 @@ fn alone(p: usize) -> Bits {
 /// The empty points beside the group of a stone of this colour from which a way leads to what is far.
 pub fn ways_out(board: &Board, colour: Colour, stone: Point) -> PointSet
     requires { stone < point_count board.now.size }
-    ensures { AreEmptyPoints board.now.size board.now.points result }
 {
     let ways = Ways::of(board, colour, stone);
     let leading = ways.grid.flood(&ways.free, &ways.far);
     let out = ways.grid.neighbours(&ways.group).and(&leading);
-    set_of(board.size(), &out).and(&empties(board))
+    set_of(board.size(), &out.and(&ways.empty))
 }
 
 /// What is near a group: so many steps away at most, and no more empty points than are left.
