@@ -52,19 +52,8 @@ pub fn read_strategy(
     }
 }
 
-/// The index of the byte at which the reading of a certificate stops; none where it is one, and where shared parts begin at that byte.
-fn refused_byte(alloc: Global, bytes: &[u8], size: Size) -> Result<Option<usize>, ShowFault> {
-    if read_strategy(alloc, bytes, size)?.is_some() {
-        return Ok(None);
-    }
-    let stop = certificate_stop(bytes, size);
-    match bytes.get(stop) {
-        Some(b'=' | b'*') => Ok(None),
-        _ => Ok(Some(stop)),
-    }
-}
-
-/// Writes that what stands behind a problem is no certificate, and where its first line stops being one, behind the text.
+/// Writes that what stands behind a problem is no certificate, and where its first line stops being one, behind the text. A line with
+/// shared parts may stop being one anywhere.
 pub fn put_no_certificate(
     alloc: Global,
     out: &mut Vec<u8>,
@@ -74,11 +63,10 @@ pub fn put_no_certificate(
     out.extend_from_slice(b"what follows is no certificate\n")?;
     let mut lines = trim(behind).split(|byte| *byte == b'\n');
     let line = trim(lines.next().unwrap_or(behind));
-    match refused_byte(alloc, line, size)? {
-        Some(stop) => {
-            let byte = stop.saturating_add(1);
-            Ok(writeln!(out, "look at: byte {byte} of its first line")?)
-        }
-        None => Ok(()),
+    let stop = certificate_stop(line, size);
+    if read_strategy(alloc, line, size)?.is_some() || matches!(line.get(stop), Some(b'=' | b'*')) {
+        return Ok(());
     }
+    let byte = stop.saturating_add(1);
+    Ok(writeln!(out, "look at: byte {byte} of its first line")?)
 }

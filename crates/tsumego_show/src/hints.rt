@@ -68,24 +68,15 @@ fn other_defender_stones(line: &Line) -> PointSet {
 /// and that the region is all of a board of more than 10 points.
 pub fn put_hints(out: &mut Vec<u8>, line: &Line) -> Result<(), ShowFault> {
     let size = line.frame().size;
-    put_points_line_if_any(
-        out,
-        size,
-        b"hint: empty and not in the region, so that nobody can fill them:",
-        &empties_around_region(line),
-    )?;
-    put_points_line_if_any(
-        out,
-        size,
-        b"hint: unlike T and not in the region, and can be taken by plays in it:",
-        &capturable_attackers(line),
-    )?;
-    put_points_line_if_any(
-        out,
-        size,
-        b"hint: stones like T in or beside the region, of other chains:",
-        &other_defender_stones(line),
-    )?;
+    let empties = empties_around_region(line);
+    let words = b"hint: empty and not in the region, so that nobody can fill them:";
+    put_points_line_if_any(out, size, words, &empties)?;
+    let attackers = capturable_attackers(line);
+    let words = b"hint: unlike T and not in the region, and can be taken by plays in it:";
+    put_points_line_if_any(out, size, words, &attackers)?;
+    let defenders = other_defender_stones(line);
+    let words = b"hint: stones like T in or beside the region, of other chains:";
+    put_points_line_if_any(out, size, words, &defenders)?;
     let count = size.point_count();
     if MOST_SMALL_BOARD_POINTS < count && usize::from(line.frame().region.count()) == count {
         out.extend_from_slice(b"hint: the region is the whole board\n")?;

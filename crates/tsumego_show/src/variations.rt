@@ -232,14 +232,7 @@ fn is_cut(tree: &Tree, line: &Line, left: usize, main: &[Turn]) -> bool {
     match tree {
         Tree::Done => false,
         Tree::Pick(turn, _) => is_aside(turn, line, main),
-        Tree::Reply(list) => {
-            for (turn, _) in list.as_slice() {
-                if is_aside(turn, line, main) {
-                    return true;
-                }
-            }
-            false
-        }
+        Tree::Reply(list) => list.iter().any(|entry| is_aside(&entry.0, line, main)),
     }
 }
 
