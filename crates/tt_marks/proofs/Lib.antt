@@ -5,4 +5,3 @@ mod RegionLemmas
 mod SetLemmas
 mod StandLemmas
 mod WallLemmas
-mod PointSetLemmas

@@ -12,10 +12,6 @@ PointTest = ℕ → Bool
 abbrev pub Has : PointTest → ℕ → Type 0
 Has points p = points p ≡ true
 
--- p is adjacent to a point of a set
-abbrev pub IsBeside : Size → (ℕ → Type 0) → ℕ → Type 0
-IsBeside s IsIn p = (q : ℕ) × IsNeighbour s p q × IsIn q
-
 -- p is a first point, or a free point adjacent to one that is reached
 pub data IsReached (s : Size) (IsFree IsFirst : ℕ → Type 0) : ℕ → Type 0 where
   first : (p : ℕ) → p < point_count s → IsFirst p → IsReached s IsFree IsFirst p
