@@ -57,10 +57,6 @@ pub enclosed_on_board : (g : GameState) (q : ℕ) (s : Size) (c : Colouring) →
 enclosed_on_board g q s c size points k squares h =
     subst (λ (x : Colouring). IsEnclosedGroup s x k q squares) (sym points) (subst (λ (x : Size). IsEnclosedGroup x g.present k q squares) (sym size) h)
 
--- walled in on the board is walled in in the game
-pub walled_in_game : (g : GameState) (q : ℕ) (s : Size) (c : Colouring) → s ≡ g.size → c ≡ g.present → (k : Colour) → IsWalledIn s c k q → IsWalledIn g.size g.present k q
-walled_in_game g q s c size points k h = subst (λ (x : Colouring). IsWalledIn g.size x k q) points (subst (λ (x : Size). IsWalledIn x c k q) size h)
-
 -- with stones that close the wall
 pub marked_setup : (text : List ℕ) (g : GameState) (q : ℕ) (k foe : Colour) (s : Size) (c : Colouring) (stones region squares : PointNumberSet) (made : Position)
     (l : LineWithUndo) → s ≡ g.size → c ≡ g.present → foe ≡ other k → squares ≡ region

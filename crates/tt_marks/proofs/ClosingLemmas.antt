@@ -1,6 +1,6 @@
 -- Stones that close a wall.
 use Rattle.std.proofs.Common.{◌≡◌, ◌<◌, ◌≤◌, ℕ, ◌+◌, ◌&&◌, ◌||◌, not, Bool, List, [], ◌∷◌, ◌++◌, Option, Some, None, true, false, inl, inr, refl, sym, ap, subst, ◌∙◌, arith}
-use Rattle.std.proofs.lemmas.List.Elements.{All-head, All-nil, All-push}
+use Rattle.std.proofs.lemmas.List.Elements.{All-nil, All-push}
 use Rattle.std.proofs.lemmas.Bool.{and_from, cases_Bool, not_from_false, true≢false, false≢true, cases_lt}
 use Rattle.std.specs.Prelude.{All, slice_get}
 use Rattle.std.specs.Cmp.{nat_cmp_total}
@@ -16,7 +16,7 @@ use Rattle.tt_board.specs.Reach.{entry_at}
 use Rattle.tt_board.specs.Stones.{IsSetOnBoard, PointNumberSet}
 use Rattle.tt_marks.specs.declared.gaps.Closing.{Closing}
 use Rattle.tt_marks.specs.Walls.{IsClosed, IsInner, IsRegion, IsWalledIn, IsWholeWall, empty_set}
-use Rattle.tt_marks.specs.Closings.{AreClosings, AreEmptyPoints, AreEnclosing, ClosesWall, HaveAsMany, with_stones}
+use Rattle.tt_marks.specs.Closings.{AreClosings, AreEmptyPoints, AreEnclosing, ClosesWall, with_stones}
 use Rattle.tt_marks.proofs.SetLemmas.{has_passing, passing_below}
 
 empty_entry : (x : Option Colour) → is_empty x ≡ true → x ≡ None
@@ -118,14 +118,6 @@ none_by_count n = All-nil _
 pub none_first : (items : List Closing) (n : ℕ) → slice_get items 0 ≡ None → AreByCount n items
 none_first [] n none = none_by_count n
 none_first (m ∷ ms) n none = absurd (let e : Some m ≡ None = none in cc)
-
--- each is by as many stones as the first
-pub as_many_as_first : (items : List Closing) (first : Closing) (n : ℕ) → slice_get items 0 ≡ Some first → n ≡ set.len first.stones → HaveAsMany items → AreByCount n items
-as_many_as_first [] first n at is many = none_by_count n
-as_many_as_first (m ∷ ms) first n at is many =
-    let same : m ≡ first = let e : Some m ≡ Some first = at in cc in
-    let count : many.0 ≡ n = sym (All-head (λ (x : Closing). set.len x.stones ≡ many.0) m ms many.1) ∙ ap (λ (x : Closing). set.len x.stones) same ∙ sym is in
-    subst (λ (x : ℕ). AreByCount x (m ∷ ms)) count many.1
 
 -- one more by as many stones
 pub one_more : (s : Size) (c : Colouring) (k : Colour) (q : ℕ) (before : List Closing) (m : Closing) → AreClosings s c k q before → ClosesWall s c k q m.stones m.region

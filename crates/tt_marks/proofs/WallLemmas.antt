@@ -58,10 +58,6 @@ stays_within s q wall p (r ∷ rest) in_p h linked avoids =
 
 -- ---- sets that are made of others
 
--- a set that is as another one
-pub has_as : {X : Type 0} (made was : List ℕ) (p : ℕ) → bit_in made p ≡ bit_in was p → (Has (bit_in was) p ↔ X) → Has (bit_in made) p ↔ X
-has_as made was p same h = (λ on. h.0 (sym same ∙ on), λ x. same ∙ h.1 x)
-
 -- bits that stay 0
 and_off : (a b : Bool) → a ≡ false → (a && b) ≡ false
 and_off true b h = absurd (true≢false h)
@@ -80,9 +76,6 @@ minus_on s own other made on is q past lt = is q lt ∙ and_off (bit_in own q) (
 
 pub and_on : (s : Size) (own other made : List ℕ) → AreOn s own → ((q : ℕ) → q < BITS → bit_in made q ≡ (bit_in own q && bit_in other q)) → AreOn s made
 and_on s own other made on is q past lt = is q lt ∙ and_off (bit_in own q) (bit_in other q) (on q past lt)
-
-pub and_on_right : (s : Size) (other own made : List ℕ) → AreOn s own → ((q : ℕ) → q < BITS → bit_in made q ≡ (bit_in other q && bit_in own q)) → AreOn s made
-and_on_right s other own made on is q past lt = is q lt ∙ and_off_right (bit_in other q) (bit_in own q) (on q past lt)
 
 pub or_on : (s : Size) (own other made : List ℕ) → AreOn s own → AreOn s other → ((q : ℕ) → q < BITS → bit_in made q ≡ (bit_in own q || bit_in other q)) → AreOn s made
 or_on s own other made on too is q past lt = is q lt ∙ or_off (bit_in own q) (bit_in other q) (on q past lt) (too q past lt)
