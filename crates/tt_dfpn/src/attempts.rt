@@ -136,7 +136,8 @@ fn find_by_certifier<S: WinnerSearch>(
     ensures same { line.new ≡ line.old }
 {
     let advisor = Advisor::new(alloc, line, visits.left)?;
-    let mut certifier = Certifier::new(alloc, advisor, may_end_at_life, *visits)?;
+    let given_boards = line.history().len();
+    let mut certifier = Certifier::new(alloc, advisor, may_end_at_life, given_boards, *visits)?;
     let found = find_by_attempts(search, &mut certifier, line, depth);
     visits.left = certifier.visits.left;
     found

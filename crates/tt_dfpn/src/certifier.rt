@@ -38,16 +38,17 @@ fn ends_at_life(line: &Line, side: Side, memo: &mut Memo) -> bool
 }
 
 impl<A: Advice> Certifier<A> {
-    /// A certifier that has made nothing, with so many visits.
+    /// A certifier that has made nothing, with so many visits, for lines of whose boards so many were given.
     pub fn new(
         alloc: Global,
         advice: A,
         may_end_at_life: bool,
+        given_boards: usize,
         visits: VisitsLeft,
     ) -> Result<Certifier<A>, NoMemory>
         ensures { IfOk result (λ c. c.visits ≡ visits) }
     {
-        let memo = Memo::new(alloc, may_end_at_life)?;
+        let memo = Memo::new(alloc, may_end_at_life, given_boards)?;
         Ok(Certifier {
             advice,
             visits,

@@ -38,16 +38,18 @@ const MOST_BEGUN: usize = 4096;
 pub(crate) struct SharedProofs {
     slots: Vec<OnceBox<LifeProof>>,
     begun: Vec<AtomicU64>,
+    given_boards: usize,
     bytes: AtomicU64,
     has_ended: AtomicBool,
 }
 
-/// For how many bytes a proof counts that is kept at the line. Its tree's parts are those of other kept proofs.
-pub(crate) fn counted_bytes(line: &Line, proof: &LifeProof) -> usize {
+/// For how many bytes a proof counts that is kept at the line, of whose boards so many were given: proofs share those. Its tree's parts are
+/// those of other kept proofs.
+pub(crate) fn counted_bytes(line: &Line, given_boards: usize, proof: &LifeProof) -> usize {
     let footprint = proof.footprint_len().saturating_mul(BYTES_PER_BOARD);
-    let history = line.history().len().saturating_mul(BYTES_PER_LINE_BOARD);
+    let later = line.history().len().saturating_sub(given_boards);
     footprint
-        .saturating_add(history)
+        .saturating_add(later.saturating_mul(BYTES_PER_LINE_BOARD))
         .saturating_add(BYTES_PER_PROOF)
 }
 
@@ -62,8 +64,8 @@ fn begun_index(hash: u32) -> usize {
 }
 
 impl SharedProofs {
-    /// No proofs.
-    pub(crate) fn new(alloc: Global) -> Result<SharedProofs, NoMemory> {
+    /// No proofs, at lines of whose boards so many were given.
+    pub(crate) fn new(alloc: Global, given_boards: usize) -> Result<SharedProofs, NoMemory> {
         let mut slots = Vec::with_capacity(alloc, SLOTS)?;
         for _ in 0..SLOTS {
             slots.push(OnceBox::new(alloc))?;
@@ -75,6 +77,7 @@ impl SharedProofs {
         Ok(SharedProofs {
             slots,
             begun,
+            given_boards,
             bytes: AtomicU64::new(0),
             has_ended: AtomicBool::new(false),
         })
@@ -123,7 +126,7 @@ impl SharedProofs {
         if self.bytes.load(Ordering::Relaxed) > MOST_KEPT_BYTES as u64 {
             return Some(proof);
         }
-        let bytes = counted_bytes(line, &proof) as u64;
+        let bytes = counted_bytes(line, self.given_boards, &proof) as u64;
         let first = first_slot(proof.key_hash());
         let Ok(mut proof) = Box::new(alloc, proof) else {
             return None;

@@ -58,6 +58,7 @@ impl<'a> SharedCertification<'a> {
             self.search.alloc(),
             advisor,
             self.may_end_at_life,
+            self.search.line().history().len(),
             visits,
         )?;
         certifier.memo.share_with(&self.proofs)?;

@@ -86,7 +86,7 @@ fn proofs_of_lies(alloc: Global, line: &mut Line, winner: Side, side: Side) -> O
     let mut count = 0u32;
     for seed in 0..100u64 {
         let visits = VisitsLeft { left: 500 };
-        let mut certifier = Certifier::new(alloc, Liar { state: seed }, false, visits).ok()?;
+        let mut certifier = Certifier::new(alloc, Liar { state: seed }, false, 1, visits).ok()?;
         let found = certifier.certify(line, side, ROOM);
         if let Some(found) = found.ok()? {
             let proof = found.into_proof()?;
