@@ -21,7 +21,7 @@ use Rattle.tt_marks.specs.Closings.{ClosesWall, with_stones}
 use Rattle.tt_marks.specs.Walls.{IsClosed, IsEnclosedGroup, IsWalledIn}
 use Rattle.tsumego_show.specs.declared.mode.PointName.{PointName}
 use Rattle.tsumego_show.specs.declared.mode.WantedMarks.{WantedMarks}
-use Rattle.tsumego_show.specs.Written.{HasNoGroup, IsClosedText, IsEnclosedText, IsGivenWithMore, IsInnerUnlessNamed, IsMarkedOrKept, IsMarkedText}
+use Rattle.tsumego_show.specs.Written.{HasNoGroup, IsClosedText, IsEnclosedText, IsGivenWithMore, IsInnerUnlessNamed, IsMarkedOrKept, IsMarkedText, IsNotLoneUnlessNamed}
 use Rattle.tsumego_show.specs.Written.{IsSetupText, IsTaken, IsTextOf, MarksNoGroup, as_given, asking_nodes, has_squares, has_triangles_alone, last_has_squares, target}
 
 -- with marks alone
@@ -58,12 +58,12 @@ enclosed_on_board g q s c size points k squares h =
     subst (λ (x : Colouring). IsEnclosedGroup s x k q squares) (sym points) (subst (λ (x : Size). IsEnclosedGroup x g.present k q squares) (sym size) h)
 
 -- with stones that close the wall
-pub marked_setup : (text : List ℕ) (g : GameState) (q : ℕ) (k foe : Colour) (s : Size) (c : Colouring) (stones region squares : PointNumberSet) (made : Position)
+pub marked_setup : (name : Option PointName) (text : List ℕ) (g : GameState) (q : ℕ) (k foe : Colour) (s : Size) (c : Colouring) (stones region squares : PointNumberSet) (made : Position)
     (l : LineWithUndo) → s ≡ g.size → c ≡ g.present → foe ≡ other k → squares ≡ region
     → ((marked : PointNumberSet) → IsEnclosedGroup g.size g.present k q marked → ⊥) → (IsWalledIn g.size g.present k q → ⊥) → ClosesWall s c k q stones region
-    → made ≡ record { size = s; points = with_stones s c foe stones } → l ≡ posed_problem g squares (target q) k
-    → IsSetupText text l.frame made.points l.state.to_move → IsClosedText text g q
-marked_setup text g q k foe s c stones region squares made l size points others same unmarked unwalled closes stands posed is =
+    → IsNotLoneUnlessNamed name s c k q region → made ≡ record { size = s; points = with_stones s c foe stones } → l ≡ posed_problem g squares (target q) k
+    → IsSetupText text l.frame made.points l.state.to_move → IsClosedText name text g q
+marked_setup name text g q k foe s c stones region squares made l size points others same unmarked unwalled closes company stands posed is =
     let f : Frame = record { size = g.size; region = squares; targets = target q; defender = k } in
     let side = side_of k g.to_move in
     let on = subst (λ (x : LineWithUndo). IsSetupText text x.frame made.points x.state.to_move) posed is in
@@ -71,7 +71,17 @@ marked_setup text g q k foe s c stones region squares made l size points others 
     let added = subst (λ (x : Colour). IsSetupText text f (with_stones s c x stones) side) others placed in
     let sized = subst (λ (x : Size). ClosesWall x c k q stones region × IsSetupText text f (with_stones x c (other k) stones) side) size (closes, added) in
     let both = subst (λ (x : Colouring). ClosesWall g.size x k q stones region × IsSetupText text f (with_stones g.size x (other k) stones) side) points sized in
-    (k, squares, stones, unmarked, unwalled, subst (λ (x : PointNumberSet). ClosesWall g.size g.present k q stones x) (sym same) both.0, both.1)
+    let wide = subst (λ (x : Size). IsNotLoneUnlessNamed name x c k q region) size company in
+    let there = subst (λ (x : Colouring). IsNotLoneUnlessNamed name g.size x k q region) points wide in (
+      k,
+      squares,
+      stones,
+      unmarked,
+      unwalled,
+      subst (λ (x : PointNumberSet). ClosesWall g.size g.present k q stones x) (sym same) both.0,
+      subst (λ (x : PointNumberSet). IsNotLoneUnlessNamed name g.size g.present k q x) (sym same) there,
+      both.1,
+    )
 
 module _ (wanted : WantedMarks) (given : List ℕ) (nodes : List Node) (text : List ℕ) where
   -- a tree stays as it was where marks stand there, its game can't be played, or no stone that may be meant marks a group

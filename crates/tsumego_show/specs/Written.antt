@@ -23,7 +23,7 @@ use Rattle.tt_game.specs.Line.{LineWithUndo}
 use Rattle.tt_game.specs.Nodes.{SQ, TR, has}
 use Rattle.tt_game.specs.Problems.{game_of, node_count_before_solution, posed_problem, problem_of, side_of}
 use Rattle.tt_marks.specs.Closings.{ClosesWall, with_stones}
-use Rattle.tt_marks.specs.Walls.{IsEnclosedGroup, IsInner, IsWalledIn}
+use Rattle.tt_marks.specs.Walls.{HasOtherStone, IsEnclosedGroup, IsInner, IsWalledIn}
 use Rattle.tsumego_show.specs.declared.mode.Mode.{Mode}
 use Rattle.tsumego_show.specs.declared.mode.Mode.TheVariants.{Picture, Diagram, Marks, Variations}
 use Rattle.tsumego_show.specs.declared.mode.PointName.{PointName}
@@ -90,19 +90,24 @@ abbrev pub IsEnclosedText : Option PointName → List ℕ → GameState → ℕ 
 IsEnclosedText name text g q = (k : Colour) × (squares : PointNumberSet) × IsEnclosedGroup g.size g.present k q squares × IsInnerUnlessNamed name g.size g.present squares
     × IsTextOf text (posed_problem g squares (target q) k)
 
+-- where nobody names a stone, one more of colour k is of its group or in the squares
+abbrev pub IsNotLoneUnlessNamed : Option PointName → Size → Colouring → Colour → ℕ → PointNumberSet → Type 0
+IsNotLoneUnlessNamed None s c k q squares = HasOtherStone s c k q squares
+IsNotLoneUnlessNamed (Some name) s c k q squares = Unit {0}
+
 -- a text is the game with more stones, which close the wall around the group of the stone on q where it is neither enclosed nor walled in, with
 -- such marks too, and who moves stays
-abbrev pub IsClosedText : List ℕ → GameState → ℕ → Type 0
-IsClosedText text g q = (k : Colour) × (squares : PointNumberSet) × (stones : PointNumberSet)
+abbrev pub IsClosedText : Option PointName → List ℕ → GameState → ℕ → Type 0
+IsClosedText name text g q = (k : Colour) × (squares : PointNumberSet) × (stones : PointNumberSet)
     × ((marked : PointNumberSet) → IsEnclosedGroup g.size g.present k q marked → ⊥) × (IsWalledIn g.size g.present k q → ⊥)
-    × ClosesWall g.size g.present k q stones squares
+    × ClosesWall g.size g.present k q stones squares × IsNotLoneUnlessNamed name g.size g.present k q squares
     × IsSetupText text (record { size = g.size; region = squares; targets = target q; defender = k }) (with_stones g.size g.present (other k) stones) (side_of k g.to_move)
 
 -- A text is the game with marks for the stone that is meant. Stones that close its wall are added only where that is wanted, and no stone
 -- that may be meant marks a group without them.
 abbrev pub IsMarkedText : WantedMarks → List ℕ → GameState → Type 0
 IsMarkedText wanted text g = (q : ℕ) × IsMeant g.size wanted.name q × (IsEnclosedText wanted.name text g q
-    ⊎ ((wanted.closes ≡ true) × HasNoGroup wanted.name g.size g.present × IsClosedText text g q))
+    ⊎ ((wanted.closes ≡ true) × HasNoGroup wanted.name g.size g.present × IsClosedText wanted.name text g q))
 
 -- the bytes from the first `(` on
 abbrev pub from_open : List ℕ → List ℕ

@@ -7,7 +7,7 @@ ghost use Rattle.tt_game.specs.Nodes.{TR, has};
 ghost use Rattle.tt_game.specs.Problems.{game_of, posed_problem};
 ghost use Rattle.tt_board.specs.Stones.{PointNumberSet};
 ghost use Rattle.tt_marks.specs.Walls.{IsClosed, IsEnclosedGroup, IsWalledIn};
-ghost use Rattle.tsumego_show.specs.Written.{HasNoGroup, IsClosedText, IsGivenWithMore, IsInnerUnlessNamed, IsMarkedOrKept, IsMarkedText, IsSetupText, IsTaken};
+ghost use Rattle.tsumego_show.specs.Written.{HasNoGroup, IsClosedText, IsGivenWithMore, IsInnerUnlessNamed, IsNotLoneUnlessNamed, IsMarkedOrKept, IsMarkedText, IsSetupText, IsTaken};
 ghost use Rattle.tsumego_show.specs.Written.{IsTextOf, as_given, asking_nodes, has_triangles_alone, last_has_squares, target};
 
 use crate::hints::{put_hints, put_missing_mover_line, put_unclosed_comment_lines};
@@ -27,7 +27,7 @@ use std::io::Write;
 use tt_board::{Board, Colour};
 use tt_game::{Game, GameFault, Line, game_before_solution, has_value, node_count_before_solution};
 use tt_marks::{
-    Closing, WalledRegion, board_with_stones, closings, group, is_inner, is_walled_in,
+    Closing, WalledRegion, board_with_stones, closings, group, is_inner, is_lone, is_walled_in,
     proposed_stone, region,
 };
 use tt_sgf::{Node, Point, PointSet, Size};
@@ -208,11 +208,30 @@ fn put_closing_hint(
     put_ways(hints, board.size(), others, b",")
 }
 
+/// Whether a stone of this colour that nobody names would be alone in its squares.
+fn is_lone_unless_named(
+    board: &Board,
+    name: Option<PointName>,
+    colour: Colour,
+    stone: Point,
+    squares: &PointSet,
+) -> bool
+    requires { stone < point_count board.now.size }
+    ensures { result ≡ false
+        → IsNotLoneUnlessNamed name board.now.size board.now.points colour stone squares.now }
+{
+    match name {
+        Some(_) => false,
+        None => is_lone(board, colour, stone, squares),
+    }
+}
+
 /// The tree with the best stones that close the wall around a group of this colour, and marks, where such stones are found; with the other
-/// ways among the hints.
+/// ways among the hints. For a stone that nobody names and that would be alone it is none.
 fn closed_tree(
     alloc: Global,
     hints: &mut Vec<u8>,
+    name: Option<PointName>,
     tree: &GivenTree,
     game: Game,
     colour: Colour,
@@ -225,13 +244,16 @@ fn closed_tree(
     requires open { IsWalledIn game.size game.present colour stone → ⊥ }
     ensures { IfOk result
         (λ made. IfSome made (λ text. IsGivenWithMore tree.now.bytes.now tree.now.main.nodes text.items
-        × IsClosedText text.items game stone)) }
+        × IsClosedText name text.items game stone)) }
 {
     let board = game.present();
     let ways = closings(alloc, board, colour, stone)?;
     let Some((best, others)) = ways.as_slice().split_first() else {
         return Ok(None);
     };
+    if is_lone_unless_named(board, name, colour, stone, &best.region) {
+        return Ok(None);
+    }
     put_closing_hint(hints, board, colour, best, others)?;
     let Some(next) = board_with_stones(board, colour.other(), &best.stones) else {
         return Err(ShowFault::OtherProblem);
@@ -308,7 +330,7 @@ fn marked_tree(
     if is_walled_in(board, colour, stone) {
         return Ok(None);
     }
-    match closed_tree(alloc, hints, tree, game, colour, stone)? {
+    match closed_tree(alloc, hints, wanted.name, tree, game, colour, stone)? {
         Some(text) => Ok(Some(text)),
         None => Ok(None),
     }

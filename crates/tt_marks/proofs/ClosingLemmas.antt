@@ -15,8 +15,8 @@ use Rattle.tt_board.specs.Setup.{AllHaveLiberties}
 use Rattle.tt_board.specs.Reach.{entry_at}
 use Rattle.tt_board.specs.Stones.{IsSetOnBoard, PointNumberSet}
 use Rattle.tt_marks.specs.declared.gaps.Closing.{Closing}
-use Rattle.tt_marks.specs.Walls.{IsClosed, IsInner, IsRegion, IsWalledIn, IsWholeWall, empty_set}
-use Rattle.tt_marks.specs.Closings.{AreClosings, AreEmptyPoints, AreEnclosing, ClosesWall, with_stones}
+use Rattle.tt_marks.specs.Walls.{IsClosed, IsInner, IsOfInnerGroup, IsRegion, IsWalledIn, IsWholeWall, empty_set}
+use Rattle.tt_marks.specs.Closings.{AreClosings, AreEmptyPoints, AreEnclosing, ClosesWall, EnclosesAlone, with_stones}
 use Rattle.tt_marks.proofs.SetLemmas.{has_passing, passing_below}
 
 empty_entry : (x : Option Colour) → is_empty x ≡ true → x ≡ None
@@ -63,6 +63,28 @@ walled_in_there s c k j q stones b same made (alive, walled) =
     let on = subst (λ (x : Colour). IsWalledIn s (with_stones s c x stones) k q) (sym same) walled in
     subst (λ (n : Position). IsWalledIn n.size n.points k q) (sym made.0) on
 
+-- where one stone is enough, the group is enclosed on the board with it
+pub enclosed_there : (s : Size) (c : Colouring) (k j : Colour) (q p : ℕ) (one : PointNumberSet) (b : Position) → j ≡ other k → one ≡ set.insert set.empty p
+    → (b ≡ record { size = s; points = with_stones s c j one }) × AllHaveLiberties s (with_stones s c j one)
+    → EnclosesAlone s c k q p → IsOfInnerGroup b.size b.points q
+enclosed_there s c k j q p one b same is made (lt, empty, alive, inner) =
+    let on = subst (λ (x : Colour). IsOfInnerGroup s (with_stones s c x (set.insert set.empty p)) q) (sym same) inner in
+    let placed = subst (λ (x : PointNumberSet). IsOfInnerGroup s (with_stones s c j x) q) (sym is) on in
+    subst (λ (n : Position). IsOfInnerGroup n.size n.points q) (sym made.0) placed
+
+module _ (s : Size) (c : Colouring) (k : Colour) (q : ℕ) where
+  -- no stone on a point below number n is enough
+  abbrev pub NoneBelow : ℕ → Type 0
+  NoneBelow n = (p : ℕ) → p < n → EnclosesAlone s c k q p → ⊥
+
+  pub none_more : (n : ℕ) → (EnclosesAlone s c k q n → ⊥) → NoneBelow n → NoneBelow (n + 1)
+  none_more n one before p lt = elim (cases_lt p n) [
+    | inl below ↦ before p below
+    | inr past ↦
+        let same : p ≡ n = omega arith in
+        subst (λ (x : ℕ). EnclosesAlone s c k q x → ⊥) (sym same) one
+  ]
+
 module _ (s : Size) (c : Colouring) (k : Colour) (q : ℕ) (stones : PointNumberSet) where
   -- each stone below number n is needed
   abbrev pub AreNeededBelow : ℕ → Type 0
@@ -84,8 +106,8 @@ pub closing_is : (s : Size) (c : Colouring) (k j : Colour) (q : ℕ) (stones wal
     → AreEmptyPoints s c stones → (b ≡ record { size = s; points = with_stones s c j stones }) × AllHaveLiberties s (with_stones s c j stones)
     → IsWholeWall b.size b.points k q (set.contains wall) → IsRegion b.size b.points k q (set.contains wall) (set.contains region)
     → IsSetOnBoard b.size wall → IsSetOnBoard b.size region → IsClosed wall region → ((p : ℕ) → set.contains stones p ≡ true → set.contains wall p ≡ true)
-    → IsInner b.size b.points region → AreNeeded s c k q stones → ClosesWall s c k q stones region
-closing_is s c k j q stones wall region b stands same some few on_empty made whole within wall_on_board on_board closed of_wall inner needed = record {
+    → IsInner b.size b.points region → AreNeeded s c k q stones → (1 < set.len stones → (p : ℕ) → EnclosesAlone s c k q p → ⊥) → ClosesWall s c k q stones region
+closing_is s c k j q stones wall region b stands same some few on_empty made whole within wall_on_board on_board closed of_wall inner needed fewest = record {
   stands = stands;
   some = some;
   few = few;
@@ -101,6 +123,7 @@ closing_is s c k j q stones wall region b stands same some few on_empty made who
   closed = closed;
   inner = subst (λ x. IsInner s (with_stones s c x stones) region) same (subst (λ n. IsInner n.size n.points region) made.0 inner);
   needed = λ p h. needed p (on_empty p h).0 h;
+  fewest = fewest;
 }
 
 -- none are closings

@@ -11,7 +11,7 @@ use Rattle.tt_board.specs.Reach.{entry_at}
 use Rattle.tt_board.specs.Setup.{AllHaveLiberties, placed}
 use Rattle.tt_board.specs.Stones.{IsSetOnBoard, PointNumberSet}
 use Rattle.tt_marks.specs.declared.gaps.Closing.{Closing}
-use Rattle.tt_marks.specs.Walls.{IsClosed, IsInner, IsRegion, IsWalledIn, IsWholeWall}
+use Rattle.tt_marks.specs.Walls.{IsClosed, IsInner, IsOfInnerGroup, IsRegion, IsWalledIn, IsWholeWall}
 
 -- the colouring with stones of colour k added on these points
 abbrev pub with_stones : Size → Colouring → Colour → PointNumberSet → Colouring
@@ -27,9 +27,15 @@ AreEmptyPoints s c points = (p : ℕ) → set.contains points p ≡ true → (p 
 abbrev pub AreEnclosing : Size → Colouring → Colour → ℕ → PointNumberSet → Type 0
 AreEnclosing s c k q stones = AllHaveLiberties s (with_stones s c (other k) stones) × IsWalledIn s (with_stones s c (other k) stones) k q
 
+-- one stone of the other colour on the empty point p is enough: it has a liberty then, as each stone, and the group of the stone on q is
+-- enclosed, with an inner region
+abbrev pub EnclosesAlone : Size → Colouring → Colour → ℕ → ℕ → Type 0
+EnclosesAlone s c k q p = (p < point_count s) × (entry_at c p ≡ None) × AllHaveLiberties s (with_stones s c (other k) (set.insert set.empty p))
+    × IsOfInnerGroup s (with_stones s c (other k) (set.insert set.empty p)) q
+
 -- One to three stones of the other colour on these empty points close the wall around the group of the stone of colour k that stands on q: then
--- each stone has a liberty, all of these are of the whole wall, the region of the group is this one, closed and inner, and without any one of
--- these the others don't enclose the group
+-- each stone has a liberty, all of these are of the whole wall, the region of the group is this one, closed and inner, without any one of
+-- these the others don't enclose the group, and where they are several no stone alone does
 pub record ClosesWall (s : Size) (c : Colouring) (k : Colour) (q : ℕ) (stones region : PointNumberSet) : Type 0 where
   pub stands : entry_at c q ≡ Some k
   pub some : 0 < set.len stones
@@ -45,6 +51,7 @@ pub record ClosesWall (s : Size) (c : Colouring) (k : Colour) (q : ℕ) (stones 
   pub closed : IsClosed wall region
   pub inner : IsInner s (with_stones s c (other k) stones) region
   pub needed : (p : ℕ) → set.contains stones p ≡ true → AreEnclosing s c k q (set.remove stones p) → ⊥
+  pub fewest : 1 < set.len stones → (p : ℕ) → EnclosesAlone s c k q p → ⊥
 
 -- each of these has as many stones as the others
 abbrev pub HaveAsMany : List Closing → Type 0

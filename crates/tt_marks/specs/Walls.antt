@@ -1,5 +1,5 @@
 -- A group, the wall around it, and the region within.
-use Rattle.std.specs.Prelude.{◌≡◌, ℕ, ◌<◌, ◌≤◌, ◌↔◌, None, Some, true, false}
+use Rattle.std.specs.Prelude.{◌≡◌, ◌≢◌, ◌⊎◌, ℕ, ◌<◌, ◌≤◌, ◌↔◌, None, Some, true, false}
 use Rattle.std.specs.FinSet as set
 use Rattle.tt_sgf.specs.declared.size.Size.{Size}
 use Rattle.tt_sgf.specs.Points.{passing}
@@ -28,6 +28,10 @@ module _ (s : Size) (c : Colouring) where
   -- the chain of the stone of colour k on p has a liberty that isn't inside: plays inside don't take it
   abbrev pub HasOuterLiberty : Colour → (ℕ → Type 0) → ℕ → Type 0
   HasOuterLiberty k IsInside p = IsReached s (HasStone k) (IsBesideOutside k IsInside) p
+
+-- another stone of colour k than that on q is of its group or in the region
+abbrev pub HasOtherStone : Size → Colouring → Colour → ℕ → PointNumberSet → Type 0
+HasOtherStone s c k q region = (p : ℕ) × (p < point_count s) × (p ≢ q) × HasStone s c k p × (IsOfGroup s c k q p ⊎ Has (set.contains region) p)
 
 -- what is within these stones: what is reached from the point q without passing one of them
 abbrev pub IsWithin : Size → ℕ → PointTest → ℕ → Type 0

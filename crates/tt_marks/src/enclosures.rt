@@ -22,7 +22,7 @@ fn are_among(sets: &[Bits], points: &Bits) -> bool {
 
 /// A search for gaps.
 #[derive(Drop)]
-struct Search<'a> {
+struct GapSearch<'a> {
     ways: &'a Ways,
     /// Stones that close the wall, whether they are all needed or not.
     known: Vec<Bits>,
@@ -31,7 +31,7 @@ struct Search<'a> {
     found: Vec<Gap>,
 }
 
-impl Search<'_> {
+impl GapSearch<'_> {
     /// The stones of a gap without the first one that isn't needed: the others wall the group in.
     fn without_unneeded(&mut self, gap: &Gap) -> Result<Option<Bits>, NoMemory> {
         let inside = gap.region.or(&self.ways.group);
@@ -144,18 +144,15 @@ impl Ways {
         (count(&gap.stones), count(&beside), room)
     }
 
-    /// The gaps with so many stones or, where some of these aren't needed, with fewer. The best come first.
-    pub(crate) fn gaps_by(&self, alloc: Global, stones: usize) -> Result<Vec<Gap>, NoMemory> {
-        let mut shutting = Vec::new(alloc);
-        let way = self.shortest(&Bits::none());
-        self.list_shutting(&Bits::none(), stones, &way, &mut shutting)?;
-        let mut search = Search {
+    /// The gaps that these sets of stones close or, where some of these aren't needed, fewer. The best come first.
+    fn gaps_among(&self, alloc: Global, sets: &[Bits]) -> Result<Vec<Gap>, NoMemory> {
+        let mut search = GapSearch {
             ways: self,
             known: Vec::new(alloc),
             open: Vec::new(alloc),
             found: Vec::new(alloc),
         };
-        for stones in shutting.as_slice() {
+        for stones in sets {
             search.add(stones)?;
         }
         let mut found = search.found;
@@ -163,10 +160,50 @@ impl Ways {
         Ok(found)
     }
 
-    /// The gaps with the fewest stones, at most `MOST_STONES`. The best come first.
+    /// The gaps with so many stones or, where some of these aren't needed, with fewer, that shut all ways to what is far. The best come
+    /// first.
+    pub(crate) fn gaps_by(&self, alloc: Global, stones: usize) -> Result<Vec<Gap>, NoMemory> {
+        let mut shutting = Vec::new(alloc);
+        let way = self.shortest(&Bits::none());
+        self.list_shutting(&Bits::none(), stones, &way, &mut shutting)?;
+        self.gaps_among(alloc, shutting.as_slice())
+    }
+
+    /// The gaps with one stone, on any empty point. The best come first.
+    fn gaps_by_one(&self, alloc: Global) -> Result<Vec<Gap>, NoMemory> {
+        let mut stones = Vec::new(alloc);
+        self.list_with_each(&Bits::none(), &self.empty, &mut stones)?;
+        self.gaps_among(alloc, stones.as_slice())
+    }
+
+    /// Whether fewer stones than these close the wall.
+    pub(crate) fn do_fewer_close(&self, alloc: Global, stones: usize) -> Result<bool, NoMemory> {
+        if 1 < stones && !self.gaps_by_one(alloc)?.is_empty() {
+            return Ok(true);
+        }
+        for fewer in 2..stones {
+            if !self.gaps_by(alloc, fewer)?.is_empty() {
+                return Ok(true);
+            }
+        }
+        Ok(false)
+    }
+
+    /// The gaps with the fewest stones, at most `MOST_STONES`. The best come first. Where what is far is within the wall too, one stone may
+    /// close it that doesn't shut the ways there: so each is tried before several are.
     pub(crate) fn fewest_gaps(&self, alloc: Global) -> Result<Vec<Gap>, NoMemory> {
         let fewest = self.separate(&Bits::none(), MOST_STONES + 1);
-        for stones in fewest..=MOST_STONES {
+        if fewest < 2 {
+            let found = self.gaps_by(alloc, 1)?;
+            if !found.is_empty() {
+                return Ok(found);
+            }
+        }
+        let found = self.gaps_by_one(alloc)?;
+        if !found.is_empty() {
+            return Ok(found);
+        }
+        for stones in fewest.max(2)..=MOST_STONES {
             let found = self.gaps_by(alloc, stones)?;
             if !found.is_empty() {
                 return Ok(found);

@@ -1,15 +1,17 @@
 //! Stones of the other colour that close the wall around a group: what `enclosures` finds is tried on the board.
 
-ghost use Rattle.std.specs.Prelude.{◌≡◌, ℕ, ◌<◌, All, Some, IfSome, IfOk, IsTrue, MatchOption, true};
+ghost use Rattle.std.specs.Prelude.{◌≡◌, ℕ, ◌<◌, ◌≤◌, All, Some, IfSome, IfOk, IsTrue, MatchOption, true};
+ghost use Rattle.tt_marks.specs.declared.enclosures.TheConstants.{MOST_STONES};
 ghost use Rattle.std.specs.FinSet as set;
 ghost use Rattle.tt_sgf.specs.Sizes.{point_count};
 ghost use Rattle.tt_board.specs.Reach.{entry_at};
 ghost use Rattle.tt_board.specs.Setup.{AllHaveLiberties};
-ghost use Rattle.tt_marks.specs.Closings.{AreClosings, AreEnclosing, ClosesWall, HaveAsMany, with_stones};
+ghost use Rattle.tt_marks.specs.Closings.{AreClosings, AreEnclosing, ClosesWall, EnclosesAlone, HaveAsMany, with_stones};
 
 use crate::enclosures::MOST_STONES;
+use crate::proposals::is_of_inner_group;
 use crate::regions::{empties, is_inner, is_walled_in, region, set_of};
-use crate::ways::Ways;
+use crate::ways::{Ways, count};
 use std::alloc::Global;
 use tt_board::{Board, Colour};
 use tt_sgf::{NoMemory, Point, PointSet};
@@ -80,15 +82,53 @@ fn are_needed(board: &Board, colour: Colour, stone: Point, stones: &PointSet) ->
     true
 }
 
-/// The closing by these stones, where they close the wall around the group of a stone of this colour.
-fn closing_by(board: &Board, colour: Colour, stone: Point, stones: &PointSet) -> Option<Closing>
+/// Whether a stone of the other colour on an empty point encloses the group of a stone of this colour, with an inner region.
+fn is_one_enough(board: &Board, colour: Colour, stone: Point, point: Point) -> bool
+    requires { stone < point_count board.now.size }
+    ensures { EnclosesAlone board.now.size board.now.points colour stone point → IsTrue result }
+{
+    let one = PointSet::empty().with(point);
+    match board_with_stones(board, colour.other(), &one) {
+        Some(next) => is_of_inner_group(&next, stone),
+        None => false,
+    }
+}
+
+/// How many stones may close the wall around the group of a stone of this colour: one where one is enough, else `MOST_STONES`.
+fn stones_needed(board: &Board, colour: Colour, stone: Point) -> usize
+    requires { stone < point_count board.now.size }
+    ensures most { result ≤ MOST_STONES }
+    ensures fewest { 1 < result → (p : ℕ)
+        → EnclosesAlone board.now.size board.now.points colour stone p → ⊥ }
+{
+    let size = board.size();
+    for number in 0..size.point_count() {
+        let point = size.point_numbered(number);
+        if board.at(point).is_none() && is_one_enough(board, colour, stone, point) {
+            return 1;
+        }
+    }
+    MOST_STONES
+}
+
+/// The closing by these stones, where they close the wall around the group of a stone of this colour, and are at most so many.
+fn closing_by(
+    board: &Board,
+    colour: Colour,
+    stone: Point,
+    stones: &PointSet,
+    most: usize,
+) -> Option<Closing>
     requires on_board { stone < point_count board.now.size }
     requires stands { entry_at board.now.points stone ≡ Some colour }
+    requires most { most ≤ MOST_STONES }
+    requires fewest { 1 < most → (p : ℕ)
+        → EnclosesAlone board.now.size board.now.points colour stone p → ⊥ }
     ensures { IfSome result
         (λ m. ClosesWall board.now.size board.now.points colour stone m.stones m.region) }
 {
     let count = usize::from(stones.count());
-    if count == 0 || count > MOST_STONES {
+    if count == 0 || count > most {
         return None;
     }
     if !are_among(stones, &empties(board)) {
@@ -125,20 +165,24 @@ fn are_as_many(found: &[Closing], stones: &PointSet) -> bool
     }
 }
 
-/// Lists the closing by these stones, where they close the wall, and are as many as in the others.
+/// Lists the closing by these stones, where they close the wall, are at most so many, and as many as in the others.
 fn list_if_closing(
     board: &Board,
     colour: Colour,
     stone: Point,
     stones: &PointSet,
+    most: usize,
     found: &mut Vec<Closing>,
 ) -> Result<(), NoMemory>
     requires on_board { stone < point_count board.now.size }
     requires stands { entry_at board.now.points stone ≡ Some colour }
+    requires most { most ≤ MOST_STONES }
+    requires fewest { 1 < most → (p : ℕ)
+        → EnclosesAlone board.now.size board.now.points colour stone p → ⊥ }
     ensures { AreClosings board.now.size board.now.points colour stone found.old.items
         → AreClosings board.now.size board.now.points colour stone found.new.items }
 {
-    let Some(closing) = closing_by(board, colour, stone, stones) else {
+    let Some(closing) = closing_by(board, colour, stone, stones, most) else {
         return Ok(());
     };
     if are_as_many(found.as_slice(), &closing.stones) {
@@ -148,7 +192,7 @@ fn list_if_closing(
 }
 
 /// The stones that close the wall around the group of a stone of this colour: at most `MOST_STONES` together, and
-/// as many in each closing. More are looked for only where fewer weren't found, and each is needed. The best come first: those of which
+/// as many in each closing. Several are taken only where no stone alone is enough, and each is needed. The best come first: those of which
 /// fewest are beside a stone of the group's colour, then those that leave the group most room.
 pub fn closings(
     alloc: Global,
@@ -161,10 +205,15 @@ pub fn closings(
     ensures { IfOk result (λ v. AreClosings board.now.size board.now.points colour stone v.items) }
 {
     let gaps = Ways::of(board, colour, stone).fewest_gaps(alloc)?;
+    let most = if gaps.iter().any(|gap| 1 < count(&gap.stones)) {
+        stones_needed(board, colour, stone)
+    } else {
+        1
+    };
     let mut found = Vec::new(alloc);
     for gap in gaps.as_slice() {
         let stones = set_of(board.size(), &gap.stones);
-        list_if_closing(board, colour, stone, &stones, &mut found)?;
+        list_if_closing(board, colour, stone, &stones, most, &mut found)?;
     }
     Ok(found)
 }

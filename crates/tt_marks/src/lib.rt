@@ -29,7 +29,7 @@ pub use danger::{stones_in_danger, wall_in_danger};
 pub use enclosures::MOST_STONES;
 pub use gaps::{Closing, board_with_stones, closings};
 pub use point_sets::{chains, points_beside, stones_of_colour};
-pub use proposals::proposed_stone;
+pub use proposals::{is_lone, proposed_stone};
 pub use regions::{
     MOST_ENCLOSED_POINTS, WalledRegion, empties, group, is_inner, is_walled_in, region,
 };

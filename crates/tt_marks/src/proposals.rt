@@ -1,12 +1,12 @@
 //! The group that is meant where nobody names one.
 
-ghost use Rattle.std.specs.Prelude.{◌≡◌, ◌⊎◌, ℕ, ◌<◌, ◌≤◌, ◌≢◌, None, Some, IfSome, IfOk, MatchOption};
+ghost use Rattle.std.specs.Prelude.{◌≡◌, ◌⊎◌, ℕ, ◌<◌, ◌≤◌, ◌≢◌, None, Some, IfSome, IfOk, IsTrue, MatchOption, false};
 ghost use Rattle.tt_sgf.specs.Sizes.{point_count};
 ghost use Rattle.tt_board.specs.Reach.{entry_at};
-ghost use Rattle.tt_marks.specs.Walls.{IsOfInnerGroup};
+ghost use Rattle.tt_marks.specs.Walls.{HasOtherStone, IsOfInnerGroup};
 
 use crate::enclosures::MOST_STONES;
-use crate::regions::{is_inner, region, set_of};
+use crate::regions::{group, is_inner, region, set_of};
 use crate::walls::group_bits;
 use crate::ways::Ways;
 use std::alloc::Global;
@@ -56,14 +56,23 @@ fn outer_or_smaller(first: Option<Candidate>, second: Option<Candidate>) -> Opti
     smaller(Some(a), Some(b))
 }
 
-/// Whether a stone is the only one of its colour in its group and the region: then it's a stone of a wall, or a stone thrown in.
-fn is_lone(board: &Board, colour: Colour, stone: Point, region: &PointSet) -> bool
+/// Whether a stone of this colour is the only one in its group and the region: then it's a stone of a wall, or a stone thrown in.
+pub fn is_lone(board: &Board, colour: Colour, stone: Point, region: &PointSet) -> bool
     requires { stone < point_count board.now.size }
+    ensures { result ≡ false
+        → HasOtherStone board.now.size board.now.points colour stone region.now }
 {
     let size = board.size();
-    let group = set_of(size, &group_bits(board, colour, stone));
-    let stones = set_of(size, board.bits(colour));
-    group.or(&region.and(&stones)).count() < 2
+    let near = group(board, colour, stone).or(region);
+    for number in 0..size.point_count() {
+        let point = size.point_numbered(number);
+        if let Some(found) = board.at(point) {
+            if found == colour && point != stone && near.has(point) {
+                return false;
+            }
+        }
+    }
+    true
 }
 
 /// The colour of the stone on a point, where it is the first of its group.
@@ -97,6 +106,17 @@ fn closed_candidate(board: &Board, colour: Colour, stone: Point) -> Option<Candi
     })
 }
 
+/// Whether the group of the stone on a point is enclosed, with an inner region.
+pub(crate) fn is_of_inner_group(board: &Board, stone: Point) -> bool
+    requires { stone < point_count board.now.size }
+    ensures { IsOfInnerGroup board.now.size board.now.points stone → IsTrue result }
+{
+    match board.at(stone) {
+        Some(colour) => closed_candidate(board, colour, stone).is_some(),
+        None => false,
+    }
+}
+
 /// The group of a stone of this colour, where it isn't a lone one, and so many stones close its wall, and fewer don't.
 fn open_candidate(
     alloc: Global,
@@ -115,6 +135,9 @@ fn open_candidate(
     let Some(best) = gaps.first() else {
         return Ok(None);
     };
+    if ways.do_fewer_close(alloc, stones)? {
+        return Ok(None);
+    }
     let region = set_of(board.size(), &best.region);
     if is_lone(board, colour, stone, &region) {
         return Ok(None);

@@ -225,7 +225,7 @@ impl Ways {
     }
 
     /// Lists a set with each of these points.
-    fn list_with_each(
+    pub(crate) fn list_with_each(
         &self,
         shut: &Bits,
         points: &Bits,

@@ -11,5 +11,6 @@ returns c =
     let closes = closing_is c.args.board.now.size c.args.board.now.points c.args.colour c.other.result c.args.stone c.args.stones.now c.region-found.result.wall
     c.region-found.result.points c.in_ok-next.next c.requires.stands c.other.ensures (grind arith) (grind arith) on_empty c.in_ok-next.ensures
     c.region-found.ensures.wall c.region-found.ensures.points c.region-found.ensures.wall_on_board c.region-found.ensures.on_board (c.is_closed.ensures.0 c.if-not-is_closed.false)
-    (c.are_among-2.ensures c.if-not-are_among-2.false) (c.is_inner.ensures.0 c.if-not-is_inner.false) (c.are_needed.ensures c.if-not-are_needed.false) in
+    (c.are_among-2.ensures c.if-not-are_among-2.false) (c.is_inner.ensures.0 c.if-not-is_inner.false) (c.are_needed.ensures c.if-not-are_needed.false)
+    (λ several. c.requires.fewest (grind arith)) in
     subst (λ (x : PointNumberSet). ClosesWall c.args.board.now.size c.args.board.now.points c.args.colour c.args.stone x c.region-found.result.points) (sym c.copy.ensures) closes
