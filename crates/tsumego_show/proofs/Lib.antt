@@ -3,7 +3,6 @@ pub mod Limit
 pub mod Marked
 pub mod OneStatus
 pub mod ReadBack
-pub mod SameNodes
 pub mod Sets
 pub mod Taken
 pub mod TreeByTree

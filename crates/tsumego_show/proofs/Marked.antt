@@ -1,5 +1,5 @@
 -- What a text is that reads as a game with marks.
-use Rattle.std.proofs.Common.{◌≡◌, ◌∷◌, ◌-◌, ℕ, List, Option, None, Some, Ok, Err, inr, true, false, not, ap, sym, subst, ◌∙◌, length, if◌then◌else◌}
+use Rattle.std.proofs.Common.{◌≡◌, ◌∷◌, ◌-◌, ℕ, List, Option, None, Some, Ok, Err, true, false, not, ap, sym, subst, ◌∙◌, length, if◌then◌else◌}
 use Rattle.std.specs.Prelude.{slice_get}
 use Rattle.std.proofs.lemmas.Bool.{true≢false}
 use Rattle.std.specs.List.{list_any}
@@ -21,7 +21,7 @@ use Rattle.tt_marks.specs.Closings.{ClosesWall, with_stones}
 use Rattle.tt_marks.specs.Walls.{IsClosed, IsEnclosedGroup, IsWalledIn}
 use Rattle.tsumego_show.specs.declared.mode.PointName.{PointName}
 use Rattle.tsumego_show.specs.declared.mode.WantedMarks.{WantedMarks}
-use Rattle.tsumego_show.specs.Written.{HasNoGroup, IsClosedText, IsEnclosedText, IsGivenWithMore, IsInnerUnlessNamed, IsMarkedOrKept, IsMarkedText, IsNotLoneUnlessNamed}
+use Rattle.tsumego_show.specs.Written.{HasNoGroup, IsClosedText, IsEnclosedText, IsInnerUnlessNamed, IsMarkedOrKept, IsMarkedText, IsNotLoneUnlessNamed}
 use Rattle.tsumego_show.specs.Written.{IsSetupText, IsTaken, IsTextOf, MarksNoGroup, as_given, asking_nodes, has_squares, has_triangles_alone, last_has_squares, target}
 
 -- with marks alone
@@ -105,8 +105,8 @@ module _ (wanted : WantedMarks) (given : List ℕ) (nodes : List Node) (text : L
 
     -- else it gets marks
     pub marked_there : list_any (has TR) (asking_nodes nodes) ≡ false → last_has_squares (asking_nodes nodes) ≡ false
-        → IsGivenWithMore given nodes text × IsMarkedText wanted text game → IsMarkedOrKept wanted given nodes false text
-    marked_there triangles squares h = ((triangles, squares), h.0, (game, plays, h.1))
+        → IsMarkedText wanted given nodes text game → IsMarkedOrKept wanted given nodes false text
+    marked_there triangles squares h = ((triangles, squares), (game, plays, h))
 
 -- the first node with triangles
 pub triangles_here : (n : Node) (ns : List Node) → has TR n ≡ true → has_triangles_alone (n ∷ ns) ≡ not (has SQ n)

@@ -22,18 +22,19 @@ test_same P false false x y = refl
 test_same P true false x y = absurd (false≢true (y.1 (x.0 refl)))
 test_same P false true x y = absurd (false≢true (x.1 (y.0 refl)))
 
-differ : (wanted : WantedMarks) (nodes : List Node) (text : List ℕ) (g : GameState) → (wanted.closes ≡ true → ⊥) → AsksUnmarked nodes → game_of nodes ≡ Ok g → IsMarkedText wanted text g
+differ : (wanted : WantedMarks) (given : List ℕ) (nodes : List Node) (text : List ℕ) (g : GameState) → (wanted.closes ≡ true → ⊥) → AsksUnmarked nodes → game_of nodes ≡ Ok g
+    → IsMarkedText wanted given nodes text g
     → (AsksUnmarked nodes → (h : GameState) → game_of nodes ≡ Ok h → HasNoGroup wanted.name h.size h.present) → ⊥
-differ wanted nodes text g alone asks is (q, meant, inl (k, squares, enclosed, inner, reads)) none = none asks g is q meant k squares enclosed inner
-differ wanted nodes text g alone asks is (q, meant, inr closed) none = alone closed.0
+differ wanted given nodes text g alone asks is (q, meant, inl (more, (k, squares, enclosed, inner, reads))) none = none asks g is q meant k squares enclosed inner
+differ wanted given nodes text g alone asks is (q, meant, inr closed) none = alone closed.0
 
 -- with marks alone a tree is refused or isn't, whatever its bytes are
 marked_same : (wanted : WantedMarks) (nodes : List Node) (given other_given text other_text : List ℕ) (a b : Bool) → (wanted.closes ≡ true → ⊥)
     → IsMarkedOrKept wanted given nodes a text → IsMarkedOrKept wanted other_given nodes b other_text → a ≡ b
 marked_same wanted nodes given other_given text other_text true true alone x y = refl
 marked_same wanted nodes given other_given text other_text false false alone x y = refl
-marked_same wanted nodes given other_given text other_text false true alone (asks, more, (g, is, marked)) y = absurd (differ wanted nodes text g alone asks is marked y.1)
-marked_same wanted nodes given other_given text other_text true false alone x (asks, more, (g, is, marked)) = absurd (differ wanted nodes other_text g alone asks is marked x.1)
+marked_same wanted nodes given other_given text other_text false true alone (asks, (g, is, marked)) y = absurd (differ wanted given nodes text g alone asks is marked y.1)
+marked_same wanted nodes given other_given text other_text true false alone x (asks, (g, is, marked)) = absurd (differ wanted other_given nodes other_text g alone asks is marked x.1)
 
 tree_same : (mode : Mode) (k : ℕ) (nodes : List Node) (r : Result LineWithUndo GameFault) (behind given other_given text other_text : List ℕ) (a b : Bool) → AddsNoStones mode
     → IsTreeRefused mode k r behind a → IsTreeRefused mode k r behind b → IsWrittenOn mode given nodes r a text → IsWrittenOn mode other_given nodes r b other_text → a ≡ b

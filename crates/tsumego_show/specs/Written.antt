@@ -1,6 +1,6 @@
 -- What the game trees that are written are when they are read.
 use Rattle.std.specs.Prelude.{◌≡◌, ◌⊎◌, ◌<◌, ◌≤◌, ◌+◌, ◌-◌, ◌*◌, ◌++◌, ◌==◌}
-use Rattle.std.specs.Prelude.{ℕ, Bool, true, false, not, List, [], ◌∷◌, drop, length, take, slice_get, Ok, Err, Option, None, Some, MatchOption, if◌then◌else◌}
+use Rattle.std.specs.Prelude.{ℕ, Bool, true, false, not, Contains, List, [], ◌∷◌, codes, drop, length, take, slice_get, Ok, Err, Option, None, Some, MatchOption, if◌then◌else◌}
 use Rattle.std.specs.List.{list_any}
 use Rattle.std.specs.declared.result.Result.{Result}
 use Rattle.std.specs.FinSet as set
@@ -12,15 +12,17 @@ use Rattle.tt_sgf.specs.Bytes.{close_tree, newline, open_tree}
 use Rattle.tt_sgf.specs.Sizes.{point_count}
 use Rattle.tt_sgf.specs.Grammar.{GameTree, FirstTreeEndsAt, HasOpeningParenthesis, main_line}
 use Rattle.tt_board.specs.declared.Colour.{Colour}
+use Rattle.tt_board.specs.declared.Colour.TheVariants.{Black, White}
 use Rattle.tt_board.specs.Play.{other}
 use Rattle.tt_board.specs.Position.{Colouring}
+use Rattle.tt_board.specs.Reach.{entry_at}
 use Rattle.tt_board.specs.Stones.{PointNumberSet}
 use Rattle.tt_game.specs.declared.faults.GameFault.{GameFault}
 use Rattle.tt_game.specs.declared.frame.Frame.{Frame}
 use Rattle.tt_game.specs.declared.frame.Side.{Side}
 use Rattle.tt_game.specs.Games.{GameState}
 use Rattle.tt_game.specs.Line.{LineWithUndo}
-use Rattle.tt_game.specs.Nodes.{SQ, TR, has}
+use Rattle.tt_game.specs.Nodes.{AB, AW, PL, SQ, TR, has}
 use Rattle.tt_game.specs.Problems.{game_of, node_count_before_solution, posed_problem, problem_of, side_of}
 use Rattle.tt_marks.specs.Closings.{ClosesWall, with_stones}
 use Rattle.tt_marks.specs.Walls.{HasOtherStone, IsEnclosedGroup, IsInner, IsWalledIn}
@@ -103,12 +105,6 @@ IsClosedText name text g q = (k : Colour) × (squares : PointNumberSet) × (ston
     × ClosesWall g.size g.present k q stones squares × IsNotLoneUnlessNamed name g.size g.present k q squares
     × IsSetupText text (record { size = g.size; region = squares; targets = target q; defender = k }) (with_stones g.size g.present (other k) stones) (side_of k g.to_move)
 
--- A text is the game with marks for the stone that is meant. Stones that close its wall are added only where that is wanted, and no stone
--- that may be meant marks a group without them.
-abbrev pub IsMarkedText : WantedMarks → List ℕ → GameState → Type 0
-IsMarkedText wanted text g = (q : ℕ) × IsMeant g.size wanted.name q × (IsEnclosedText wanted.name text g q
-    ⊎ ((wanted.closes ≡ true) × HasNoGroup wanted.name g.size g.present × IsClosedText wanted.name text g q))
-
 -- the bytes from the first `(` on
 abbrev pub from_open : List ℕ → List ℕ
 from_open [] = []
@@ -118,27 +114,73 @@ from_open (b ∷ bs) = if b == open_tree then b ∷ bs else from_open bs
 abbrev pub as_given : List ℕ → List ℕ
 as_given given = given ++ (newline ∷ [])
 
--- a node is another one with more properties in front
-abbrev pub IsNodeWithMore : Node → Node → Type 0
-IsNodeWithMore given read = (more : List Property) × (read.props ≡ more ++ given.props)
-
--- a main line is another one with one node more, or with more properties in front at one node
-abbrev pub IsLineWithMore : List Node → List Node → Type 0
-IsLineWithMore given read = (front : List Node) × (added : Node) × (behind : List Node) × (read ≡ front ++ (added ∷ behind))
-    × ((given ≡ front ++ behind) ⊎ ((n : Node) × (given ≡ front ++ (n ∷ behind)) × IsNodeWithMore n added))
-
--- a text, if it isn't too long to be read, is one tree, whose main line has these nodes and more in one place: so no move is lost in a comment
-abbrev pub IsTextWithNodes : List Node → List ℕ → Type 0
-IsTextWithNodes nodes text = length text ≤ MAX_BYTES → (count : ℕ) × (t : GameTree) × IsOneTree text count t × IsLineWithMore nodes (main_line t)
-
--- the bytes of a tree with these nodes, and at most 1,024 bytes more in one place
-abbrev pub IsGivenWithMore : List ℕ → List Node → List ℕ → Type 0
-IsGivenWithMore given nodes text = ((front : List ℕ) × (more : List ℕ) × (behind : List ℕ) × (given ≡ front ++ behind) × (length more ≤ 1024)
-    × (text ≡ front ++ (more ++ as_given behind))) × IsTextWithNodes nodes text
-
 -- the nodes of a main line but those of a solution
 abbrev pub asking_nodes : List Node → List Node
 asking_nodes nodes = take (node_count_before_solution false nodes) nodes
+
+-- the names of properties, in order
+abbrev pub property_names : List Property → List (List ℕ)
+property_names [] = []
+property_names (p ∷ ps) = p.ident ∷ property_names ps
+
+-- the property of a comment
+abbrev pub C : List ℕ
+C = codes "C"
+
+-- the property that adds stones of a colour
+abbrev pub name_of_stones : Colour → List ℕ
+name_of_stones Black = AB
+name_of_stones White = AW
+
+-- a node is another one with triangles and squares in front, and nothing else
+abbrev pub IsNodeWithMarks : Node → Node → Type 0
+IsNodeWithMarks given read = (marks : List Property) × (property_names marks ≡ TR ∷ SQ ∷ []) × (read.props ≡ marks ++ given.props)
+
+-- a node adds stones of this colour, and has the side to move, triangles, squares and a comment, and nothing else
+abbrev pub IsNodeWithStones : Colour → Node → Type 0
+IsNodeWithStones k n = property_names n.props ≡ name_of_stones k ∷ PL ∷ TR ∷ SQ ∷ C ∷ []
+
+-- a main line is another one with marks at the node where that asks
+abbrev pub IsLineWithMarks : List Node → List Node → Type 0
+IsLineWithMarks given read = (front : List Node) × (asks : Node) × (marked : Node) × (behind : List Node) × (asking_nodes given ≡ front ++ (asks ∷ []))
+    × (given ≡ front ++ (asks ∷ behind)) × (read ≡ front ++ (marked ∷ behind)) × IsNodeWithMarks asks marked
+
+-- a main line is another one with a node that adds stones of this colour behind the node where that asks
+abbrev pub IsLineWithStones : Colour → List Node → List Node → Type 0
+IsLineWithStones k given read = (added : Node) × (behind : List Node) × (given ≡ asking_nodes given ++ behind)
+    × (read ≡ asking_nodes given ++ (added ∷ behind)) × IsNodeWithStones k added
+
+-- a main line is another one with marks alone, or with stones of a colour too, where they are added
+abbrev pub IsLineWithMore : Option Colour → List Node → List Node → Type 0
+IsLineWithMore None given read = IsLineWithMarks given read
+IsLineWithMore (Some k) given read = IsLineWithStones k given read
+
+-- A text, if it isn't too long to be read, is one tree, whose main line is that of these nodes with marks, and with stones where they are added:
+-- so no move is lost in a comment.
+abbrev pub IsTextWithNodes : Option Colour → List Node → List ℕ → Type 0
+IsTextWithNodes stones nodes text = length text ≤ MAX_BYTES → (count : ℕ) × (t : GameTree) × IsOneTree text count t
+    × IsLineWithMore stones nodes (main_line t)
+
+-- no parenthesis is among these bytes: so they begin no tree and end none
+abbrev pub HasNoParenthesis : List ℕ → Type 0
+HasNoParenthesis bytes = (HasOpeningParenthesis bytes → ⊥) × (Contains bytes close_tree → ⊥)
+
+-- The bytes of a tree with these nodes, and at most 1,024 bytes more in one place, none of them a parenthesis: they are marks, and stones of a
+-- colour where they are added.
+abbrev pub IsGivenWithMore : Option Colour → List ℕ → List Node → List ℕ → Type 0
+IsGivenWithMore stones given nodes text = ((front : List ℕ) × (more : List ℕ) × (behind : List ℕ) × (given ≡ front ++ behind) × (length more ≤ 1024)
+    × HasNoParenthesis more × (text ≡ front ++ (more ++ as_given behind))) × IsTextWithNodes stones nodes text
+
+-- the same with stones of the colour other than that of the stone on q
+abbrev pub IsGivenWithStones : List ℕ → List Node → GameState → ℕ → List ℕ → Type 0
+IsGivenWithStones given nodes g q text = (k : Colour) × (entry_at g.present q ≡ Some k) × IsGivenWithMore (Some (other k)) given nodes text
+
+-- A text is a tree, with these bytes and nodes, with marks for the stone that is meant in its game. Stones that close its wall are added only
+-- where that is wanted, and no stone that may be meant marks a group without them.
+abbrev pub IsMarkedText : WantedMarks → List ℕ → List Node → List ℕ → GameState → Type 0
+IsMarkedText wanted given nodes text g = (q : ℕ) × IsMeant g.size wanted.name q
+    × ((IsGivenWithMore None given nodes text × IsEnclosedText wanted.name text g q)
+    ⊎ ((wanted.closes ≡ true) × HasNoGroup wanted.name g.size g.present × IsGivenWithStones given nodes g q text × IsClosedText wanted.name text g q))
 
 -- the last of some nodes has squares
 abbrev pub has_squares : Option Node → Bool
@@ -160,7 +202,7 @@ AsksUnmarked nodes = (list_any (has TR) (asking_nodes nodes) ≡ false) × (last
 -- A tree without a problem, with these bytes and nodes, gets marks; or it is refused, and stays as it was. It is refused only where marks
 -- stand there already, its game can't be played, or no stone that may be meant marks a group.
 abbrev pub IsMarkedOrKept : WantedMarks → List ℕ → List Node → Bool → List ℕ → Type 0
-IsMarkedOrKept wanted given nodes false text = AsksUnmarked nodes × IsGivenWithMore given nodes text × ((g : GameState) × (game_of nodes ≡ Ok g) × IsMarkedText wanted text g)
+IsMarkedOrKept wanted given nodes false text = AsksUnmarked nodes × ((g : GameState) × (game_of nodes ≡ Ok g) × IsMarkedText wanted given nodes text g)
 IsMarkedOrKept wanted given nodes true text = (text ≡ as_given given)
     × (AsksUnmarked nodes → (g : GameState) → game_of nodes ≡ Ok g → HasNoGroup wanted.name g.size g.present)
 

@@ -12,7 +12,7 @@
 //! | `variations`, `depths` | the answer and its strategies as an SGF tree, the depth at which they are cut |
 //! | `diagram`, `windows` | the diagram (SVG), and the points it shows |
 //! | `marking`, `unmarked` | `--mark`: the tree with marks, and with stones that close the wall; why a tree has none, and how its wall may be closed |
-//! | `reading_back`, `same_nodes` | sees that the game trees which are written read as the problems that are meant, and no node is lost |
+//! | `reading_back`, `same_nodes` | sees that the game trees which are written read as the problems that are meant, no node is lost, and only marks or a node with stones are added |
 //! | `tree_bytes`, `points` | the bytes of a tree, points by number |
 //! | `laws` | an input has one status, unless stones may be added |
 #![tactic(auto)]

@@ -1,14 +1,15 @@
 //! Writes problems with the marks that are proposed for them.
-ghost use Rattle.std.specs.Prelude.{◌≡◌, ◌<◌, ◌↔◌, IfOk, IfSome, IsTrue, MatchOption, Ok, Some, false, is_some, true};
+ghost use Rattle.std.specs.Prelude.{◌≡◌, ◌<◌, ◌↔◌, IfOk, IfSome, IsTrue, MatchOption, None, Ok, Some, false, is_some, true};
 ghost use Rattle.std.specs.List.{list_any};
 ghost use Rattle.tt_sgf.specs.Sizes.{point_count};
+ghost use Rattle.tt_board.specs.Play.{other};
 ghost use Rattle.tt_board.specs.Reach.{entry_at};
 ghost use Rattle.tt_game.specs.Nodes.{TR, has};
 ghost use Rattle.tt_game.specs.Problems.{game_of, posed_problem};
 ghost use Rattle.tt_board.specs.Stones.{PointNumberSet};
 ghost use Rattle.tt_marks.specs.Walls.{IsClosed, IsEnclosedGroup, IsWalledIn};
-ghost use Rattle.tsumego_show.specs.Written.{HasNoGroup, IsClosedText, IsGivenWithMore, IsInnerUnlessNamed, IsNotLoneUnlessNamed, IsMarkedOrKept, IsMarkedText, IsSetupText, IsTaken};
-ghost use Rattle.tsumego_show.specs.Written.{IsTextOf, as_given, asking_nodes, has_triangles_alone, last_has_squares, target};
+ghost use Rattle.tsumego_show.specs.Written.{HasNoGroup, IsClosedText, IsGivenWithMore, IsGivenWithStones, IsInnerUnlessNamed, IsMarkedOrKept, IsMarkedText, IsNotLoneUnlessNamed};
+ghost use Rattle.tsumego_show.specs.Written.{IsSetupText, IsTaken, IsTextOf, as_given, asking_nodes, has_triangles_alone, last_has_squares, target};
 
 use crate::hints::{put_hints, put_missing_mover_line, put_unclosed_comment_lines};
 use crate::mode::{PointName, WantedMarks};
@@ -99,13 +100,14 @@ fn put_node_with_stones(out: &mut Vec<u8>, line: &Line, added: &PointSet) -> Res
 
 /// The tree with the marks of a problem at the head of the node where it asks.
 fn tree_with_marks(alloc: Global, tree: &GivenTree, line: &Line) -> Result<Vec<u8>, ShowFault>
-    ensures given { IfOk result (λ text. IsGivenWithMore tree.now.bytes.now tree.now.main.nodes text.items) }
+    ensures given { IfOk result
+        (λ text. IsGivenWithMore None tree.now.bytes.now tree.now.main.nodes text.items) }
     ensures reads { IfOk result (λ text. IsTextOf text.items line.now) }
 {
     let mut marks = Vec::new(alloc);
     put_marks(&mut marks, line)?;
     let at = semicolon_end(tree.bytes, node_count_before_solution(tree.nodes()));
-    let text = tree.with_more(alloc, at, marks.as_slice())?;
+    let text = tree.with_more(alloc, at, marks.as_slice(), None)?;
     check_problem(alloc, text.as_slice(), line)?;
     Ok(text)
 }
@@ -119,15 +121,18 @@ fn tree_with_stones(
     board: &Board,
     added: &PointSet,
 ) -> Result<Vec<u8>, ShowFault>
-    ensures given { IfOk result (λ text. IsGivenWithMore tree.now.bytes.now tree.now.main.nodes text.items) }
+    ensures given { IfOk result
+        (λ text. IsGivenWithMore (Some (other line.now.frame.defender)) tree.now.bytes.now tree.now.main.nodes text.items) }
     ensures reads { IfOk result
         (λ text. IsSetupText text.items line.now.frame board.now.points line.now.state.to_move) }
 {
     let mut node = Vec::new(alloc);
     put_node_with_stones(&mut node, line, added)?;
     let at = node_end(tree.bytes, node_count_before_solution(tree.nodes()));
-    let text = tree.with_more(alloc, at, node.as_slice())?;
-    check_setup(alloc, text.as_slice(), line.frame(), board, line.to_move())?;
+    let frame = line.frame();
+    let stones = Some(frame.defender.other());
+    let text = tree.with_more(alloc, at, node.as_slice(), stones)?;
+    check_setup(alloc, text.as_slice(), frame, board, line.to_move())?;
     Ok(text)
 }
 
@@ -243,7 +248,7 @@ fn closed_tree(
         → IsEnclosedGroup game.size game.present colour stone squares → ⊥ }
     requires open { IsWalledIn game.size game.present colour stone → ⊥ }
     ensures { IfOk result
-        (λ made. IfSome made (λ text. IsGivenWithMore tree.now.bytes.now tree.now.main.nodes text.items
+        (λ made. IfSome made (λ text. IsGivenWithStones tree.now.bytes.now tree.now.main.nodes game stone text.items
         × IsClosedText name text.items game stone)) }
 {
     let board = game.present();
@@ -303,8 +308,7 @@ fn marked_tree(
     requires { IsTaken wanted.name game.size game.present (Some stone) }
     ensures { IfOk result
         (λ made. MatchOption made (HasNoGroup wanted.name game.size game.present)
-        (λ text. IsGivenWithMore tree.now.bytes.now tree.now.main.nodes text.items
-        × IsMarkedText wanted text.items game)) }
+        (λ text. IsMarkedText wanted tree.now.bytes.now tree.now.main.nodes text.items game)) }
 {
     let board = game.present();
     let Some(colour) = board.at(stone) else {
@@ -347,8 +351,7 @@ fn tree_with_any_marks(
 ) -> Result<Option<Vec<u8>>, ShowFault>
     requires { IsTaken wanted.name game.size game.present stone }
     ensures { IfOk result (λ made. MatchOption made (HasNoGroup wanted.name game.size game.present)
-        (λ text. IsGivenWithMore tree.now.bytes.now tree.now.main.nodes text.items
-        × IsMarkedText wanted text.items game)) }
+        (λ text. IsMarkedText wanted tree.now.bytes.now tree.now.main.nodes text.items game)) }
 {
     let Some(stone) = stone else {
         return Ok(None);

@@ -9,7 +9,7 @@ ghost use Rattle.tsumego_show.specs.Written.{IsOneTree, IsProblemText, IsSetupTe
 use crate::same_nodes::is_line_with_more;
 use crate::shown::ShowFault;
 use std::alloc::Global;
-use tt_board::Board;
+use tt_board::{Board, Colour};
 use tt_game::{Frame, GameFault, Line, Side, problem};
 use tt_sgf::{MainLine, Node, SgfFault, has_tree, laws, read_tree};
 
@@ -49,12 +49,17 @@ fn only_line(alloc: Global, text: &[u8]) -> Result<Option<MainLine>, ShowFault>
     }
 }
 
-/// Sees that a text is one tree, whose main line has these nodes and more in one place.
-pub fn check_nodes(alloc: Global, text: &[u8], nodes: &[Node]) -> Result<(), ShowFault>
-    ensures { IfOk result (λ _. IsTextWithNodes nodes.now text.now) }
+/// Sees that a text is one tree, whose main line is that of these nodes with marks alone, or with stones of a colour too, where they are added.
+pub fn check_nodes(
+    alloc: Global,
+    text: &[u8],
+    nodes: &[Node],
+    stones: Option<Colour>,
+) -> Result<(), ShowFault>
+    ensures { IfOk result (λ _. IsTextWithNodes stones nodes.now text.now) }
 {
     match only_line(alloc, text) {
-        Ok(Some(main)) if !is_line_with_more(nodes, main.nodes.as_slice()) => {
+        Ok(Some(main)) if !is_line_with_more(nodes, main.nodes.as_slice(), stones) => {
             Err(ShowFault::OtherProblem)
         }
         Ok(_) => Ok(()),

@@ -1,7 +1,10 @@
-//! Whether a main line is another one with more in one place.
-ghost use Rattle.std.specs.Prelude.{◌≡◌, ◌≤◌, IsTrue, length, take};
-ghost use Rattle.tsumego_show.specs.Written.{IsLineWithMore, IsNodeWithMore};
+//! Whether a main line is another one with marks, or with a node that adds stones, where it asks.
+ghost use Rattle.std.specs.Prelude.{◌≡◌, ◌≤◌, ◌++◌, ◌∷◌, [], IfSome, IsTrue, length, take};
+ghost use Rattle.tt_sgf.specs.declared.nodes.Property.{Property};
+ghost use Rattle.tsumego_show.specs.Written.{IsLineWithMarks, IsLineWithMore, IsLineWithStones, IsNodeWithMarks, IsNodeWithStones, name_of_stones};
 
+use tt_board::Colour;
+use tt_game::node_count_before_solution;
 use tt_sgf::{Node, Property, SmallBytes};
 
 /// What is compared item by item.
@@ -52,29 +55,107 @@ fn are_same<T: Same>(one: &[T], other: &[T]) -> bool
     one.len() == other.len() && common_count(one, other) == one.len()
 }
 
-/// Whether a node is another one with more properties in front.
-fn is_node_with_more(given: &Node, read: &Node) -> bool
-    ensures { IsTrue result → IsNodeWithMore given.now read.now }
+/// What stands behind the first of some properties, where that has this name.
+fn behind_named<'a>(properties: &'a [Property], name: &[u8]) -> Option<&'a [Property]>
+    ensures { IfSome result
+        (λ behind. (p : Property) × (properties.now ≡ p ∷ behind.now) × (p.ident ≡ name.now)) }
 {
-    let kept = given.props.as_slice();
-    let all = read.props.as_slice();
-    kept.len() <= all.len() && are_same(&all[all.len() - kept.len()..], kept)
+    match properties.split_first() {
+        Some((property, behind)) if property.ident.as_slice() == name => Some(behind),
+        _ => None,
+    }
 }
 
-/// Whether a main line is another one with one node more, or with more properties in front at one node.
-pub fn is_line_with_more(given: &[Node], read: &[Node]) -> bool
-    ensures { IsTrue result → IsLineWithMore given.now read.now }
+/// Whether a node is another one with TR and SQ in front, and nothing else.
+fn is_node_with_marks(given: &Node, read: &Node) -> bool
+    ensures { IsTrue result → IsNodeWithMarks given.now read.now }
 {
-    let count = common_count(given, read);
-    let kept = &given[count..];
-    let Some((added, behind)) = read[count..].split_first() else {
+    let Some(squares) = behind_named(read.props.as_slice(), b"TR") else {
         return false;
     };
-    if are_same(kept, behind) {
-        return true;
+    let Some(others) = behind_named(squares, b"SQ") else {
+        return false;
+    };
+    are_same(others, given.props.as_slice())
+}
+
+/// The name of the property that adds stones of a colour.
+fn name_of_stones(colour: Colour) -> &'static [u8]
+    ensures { result.now ≡ name_of_stones colour }
+{
+    match colour {
+        Colour::Black => b"AB",
+        Colour::White => b"AW",
     }
-    match kept.split_first() {
-        Some((node, rest)) => is_node_with_more(node, added) && are_same(rest, behind),
+}
+
+/// Whether a node adds stones of this colour, and has PL, TR, SQ and C, and nothing else.
+fn is_node_with_stones(node: &Node, colour: Colour) -> bool
+    ensures { IsTrue result → IsNodeWithStones colour node.now }
+{
+    let Some(mover) = behind_named(node.props.as_slice(), name_of_stones(colour)) else {
+        return false;
+    };
+    let Some(triangles) = behind_named(mover, b"PL") else {
+        return false;
+    };
+    let Some(squares) = behind_named(triangles, b"TR") else {
+        return false;
+    };
+    let Some(comment) = behind_named(squares, b"SQ") else {
+        return false;
+    };
+    match behind_named(comment, b"C") {
+        Some(others) => others.is_empty(),
         None => false,
+    }
+}
+
+/// The node of a main line that stands alone between these in front and those behind.
+fn node_between<'a>(line: &'a [Node], front: &[Node], behind: &[Node]) -> Option<&'a Node>
+    ensures { IfSome result (λ node. line.now ≡ front.now ++ (node.now ∷ behind.now)) }
+{
+    let count = common_count(front, line);
+    if count < front.len() {
+        return None;
+    }
+    match line[count..].split_first() {
+        Some((node, rest)) if are_same(rest, behind) => Some(node),
+        _ => None,
+    }
+}
+
+/// Whether a main line is another one with TR and SQ in front at the node where that asks.
+fn is_line_with_marks(given: &[Node], read: &[Node]) -> bool
+    ensures { IsTrue result → IsLineWithMarks given.now read.now }
+{
+    let (asking, behind) = given.split_at(node_count_before_solution(given));
+    let Some((asks, front)) = asking.split_last() else {
+        return false;
+    };
+    match node_between(read, front, behind) {
+        Some(marked) => is_node_with_marks(asks, marked),
+        None => false,
+    }
+}
+
+/// Whether a main line is another one with a node that adds stones of this colour behind the node where that asks.
+fn is_line_with_stones(given: &[Node], read: &[Node], colour: Colour) -> bool
+    ensures { IsTrue result → IsLineWithStones colour given.now read.now }
+{
+    let (asking, behind) = given.split_at(node_count_before_solution(given));
+    match node_between(read, asking, behind) {
+        Some(added) => is_node_with_stones(added, colour),
+        None => false,
+    }
+}
+
+/// Whether a main line is another one with marks alone, or with stones of a colour too, where they are added.
+pub fn is_line_with_more(given: &[Node], read: &[Node], stones: Option<Colour>) -> bool
+    ensures { IsTrue result → IsLineWithMore stones given.now read.now }
+{
+    match stones {
+        None => is_line_with_marks(given, read),
+        Some(colour) => is_line_with_stones(given, read, colour),
     }
 }

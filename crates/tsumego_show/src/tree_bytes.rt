@@ -1,11 +1,12 @@
 //! A tree as it was given.
-ghost use Rattle.std.specs.Prelude.{◌≡◌, ◌≤◌, IfOk, length};
-ghost use Rattle.tsumego_show.specs.Written.{IsGivenWithMore, as_given, from_open};
+ghost use Rattle.std.specs.Prelude.{◌≡◌, ◌≤◌, IfOk, IsTrue, length};
+ghost use Rattle.tsumego_show.specs.Written.{HasNoParenthesis, IsGivenWithMore, as_given, from_open};
 
 use crate::reading_back::check_nodes;
 use crate::shown::ShowFault;
 use std::alloc::Global;
-use tt_sgf::{MainLine, Node};
+use tt_board::Colour;
+use tt_sgf::{MainLine, Node, has_tree};
 
 /// Bytes that are added to a tree at most: marks on 41 points, up to three stones, their names in a comment, and the side to move.
 const MOST_MORE: usize = 1_024;
@@ -37,13 +38,20 @@ impl<'a> GivenTree<'a> {
         Ok(text)
     }
 
-    /// The tree with more bytes in front of that of this index: no more than marks and added stones take, and no node is lost by them.
-    pub fn with_more(&self, alloc: Global, at: usize, more: &[u8]) -> Result<Vec<u8>, ShowFault>
+    /// The tree with more bytes in front of that of this index: they are marks alone, or stones of a colour too, where they are added, and no
+    /// node is lost by them.
+    pub fn with_more(
+        &self,
+        alloc: Global,
+        at: usize,
+        more: &[u8],
+        stones: Option<Colour>,
+    ) -> Result<Vec<u8>, ShowFault>
         requires { at ≤ length self.now.bytes.now }
         ensures { IfOk result
-            (λ text. IsGivenWithMore self.now.bytes.now self.now.main.nodes text.items) }
+            (λ text. IsGivenWithMore stones self.now.bytes.now self.now.main.nodes text.items) }
     {
-        if MOST_MORE < more.len() {
+        if MOST_MORE < more.len() || !has_no_parenthesis(more) {
             return Err(ShowFault::OtherProblem);
         }
         let mut text = Vec::new(alloc);
@@ -51,9 +59,16 @@ impl<'a> GivenTree<'a> {
         text.extend_from_slice(more)?;
         text.extend_from_slice(&self.bytes[at..])?;
         text.push(b'\n')?;
-        check_nodes(alloc, text.as_slice(), self.nodes())?;
+        check_nodes(alloc, text.as_slice(), self.nodes(), stones)?;
         Ok(text)
     }
+}
+
+/// Whether no parenthesis is among these bytes.
+fn has_no_parenthesis(bytes: &[u8]) -> bool
+    ensures { IsTrue result → HasNoParenthesis bytes.now }
+{
+    !has_tree(bytes) && !bytes.contains(&b')')
 }
 
 /// The index of the first byte from this one on that is one of these and stands in no value; the length where there is none.

@@ -25,13 +25,13 @@ returns-then-is_enclosed c =
       on_board = c.region-found.ensures.on_board;
       closed = closed.0;
     } in (
-      c.in_ok-text.ensures.given,
-      (
-        c.args.stone,
-        c.requires.1,
-        inl (marked_board c.args.wanted.name c.in_ok-text.text.items c.args.game c.args.stone c.in-Some.colour squares board.size board.points
+      c.args.stone,
+      c.requires.1,
+      inl (
+        c.in_ok-text.ensures.given,
+        marked_board c.args.wanted.name c.in_ok-text.text.items c.args.game c.args.stone c.in-Some.colour squares board.size board.points
             c.present-board.ensures.size c.present-board.ensures.points enclosed closed.1
-            (subst (λ (l : LineWithUndo). IsTextOf c.in_ok-text.text.items l) c.in_ok-line.ensures c.in_ok-text.ensures.reads)),
+            (subst (λ (l : LineWithUndo). IsTextOf c.in_ok-text.text.items l) c.in_ok-line.ensures c.in_ok-text.ensures.reads),
       ),
     )
 
@@ -88,7 +88,7 @@ returns-in-Some-2 c =
     c.region-found.result.wall c.region-found.result.points (sym c.in-Some.ensures) c.region-found.ensures.only
     (λ h. false≢true (sym c.if-is_enclosed.false ∙ c.is_enclosed.ensures.1 h)) in
     let made = rw c.in-Some-2.is at c.in_ok-text-2.ensures in
-    (made.0, (c.args.stone, c.requires.1, inr (search rules, none, made.1)))
+    (c.args.stone, c.requires.1, inr (search rules, none, made.0, made.1))
 
 pub returns-in_default : goal.returns-in_default
 returns-in_default c =

@@ -9,5 +9,5 @@ returns-clause-reads c =
     let text = c.in_ok-text.text.items in
     let points = c.args.board.now.points in
     subst (λ (side : Side). IsSetupText text c.args.line.now.frame points side) c.to_move.ensures
-    (subst (λ (f : Frame). IsSetupText text f points c.to_move.result) c.frame.ensures.value
-    (subst (λ (read : List ℕ). IsSetupText read c.frame.result.now points c.to_move.result) c.as_slice-2.ensures.value c.in_ok-check_setup.ensures))
+    (subst (λ (f : Frame). IsSetupText text f points c.to_move.result) c.frame-frame.ensures.value
+    (subst (λ (read : List ℕ). IsSetupText read c.frame-frame.result.now points c.to_move.result) c.as_slice-2.ensures.value c.in_ok-check_setup.ensures))
