@@ -9,7 +9,8 @@ returns-in-Some g c =
     (λ t. decided_within c.args.line.now c.args.self.now.options.limits t c.args.self.now.options.cert _ (search (rules, c.in-Some.is, c.try_dfpn-found.ensures.decided)))
 
 pub returns : goal.returns
-returns g c = leaving c.args.line.now c.args.self.now.options.limits _ _ c.args.total c.total_left.result c.in_ok-answer.granted c.in_ok-answer.ensures c.total_left.ensures (λ t. c.in_ok-solution.ensures t)
+returns g c = leaving c.args.line.now c.args.self.now.options.limits _ _ c.args.total c.total_left.result c.in_ok-answer.granted
+    c.in_ok-answer.ensures c.total_left.ensures (λ t. c.in_ok-solution.ensures t)
 
 pub solution_of_answer-requires-clause-answer : goal.solution_of_answer-requires-clause-answer
 solution_of_answer-requires-clause-answer g c = (c.args.total, c.in_ok-answer.ensures.within)
