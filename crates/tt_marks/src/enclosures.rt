@@ -192,17 +192,11 @@ impl Ways {
     /// The gaps with the fewest stones, at most `MOST_STONES`. The best come first. Where what is far is within the wall too, one stone may
     /// close it that doesn't shut the ways there: so each is tried before several are.
     pub(crate) fn fewest_gaps(&self, alloc: Global) -> Result<Vec<Gap>, NoMemory> {
-        let fewest = self.separate(&Bits::none(), MOST_STONES + 1);
-        if fewest < 2 {
-            let found = self.gaps_by(alloc, 1)?;
-            if !found.is_empty() {
-                return Ok(found);
-            }
-        }
         let found = self.gaps_by_one(alloc)?;
         if !found.is_empty() {
             return Ok(found);
         }
+        let fewest = self.separate(&Bits::none(), MOST_STONES + 1);
         for stones in fewest.max(2)..=MOST_STONES {
             let found = self.gaps_by(alloc, stones)?;
             if !found.is_empty() {
