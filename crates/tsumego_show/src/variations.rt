@@ -17,7 +17,8 @@ use tt_game::{Line, Turn, first_value, has_value};
 use tt_proof::{MOST_DEPTH, Tree, put_turn};
 use tt_sgf::{Node, Property, Size};
 
-/// How many turns are written where no depth is asked, and where one is: no certificate of 1 MiB without shared parts has as many.
+/// How many turns are written where no depth is asked, and where one is: no certificate of 1 MiB without shared parts has as many. Several
+/// certificates share them.
 const MOST_TURNS: usize = 2_000;
 
 const MOST_TURNS_TO_DEPTH: usize = 350_000;
@@ -276,8 +277,28 @@ fn put_tree_variations(
     Ok(())
 }
 
-/// Writes the strategies as variations behind the text: of each the main line, and the rest as deep as there are not too many turns. Says
-/// whether first turns are left out.
+/// Whether a first turn is legal, and no strategy begins with it or answers it.
+fn is_bare(line: &Line, found: &Answers, turn: Turn) -> bool {
+    let is_written = found
+        .strategies
+        .iter()
+        .any(|known| known.1.first().unwrap_or(turn) == turn);
+    !is_written && line.is_legal(turn)
+}
+
+/// How many first turns stand beside the strategies.
+fn bare_count(line: &Line, found: &Answers) -> usize {
+    let mut count: usize = 0;
+    for (turn, _) in found.first_turns.as_slice() {
+        if is_bare(line, found, *turn) {
+            count = count.saturating_add(1);
+        }
+    }
+    count
+}
+
+/// Writes the strategies as variations behind the text: of each the main line, and the rest as deep as there are not too many turns of all
+/// together. Says whether first turns are left out.
 fn put_strategies(
     alloc: Global,
     out: &mut Vec<u8>,
@@ -286,10 +307,11 @@ fn put_strategies(
     asked: Option<usize>,
 ) -> Result<bool, ShowFault> {
     let depth = asked.unwrap_or(usize::from(MOST_DEPTH));
-    let most = match asked {
+    let turns = match asked {
         Some(_) => MOST_TURNS_TO_DEPTH,
-        None => MOST_TURNS / found.strategies.len().max(1),
+        None => MOST_TURNS,
     };
+    let most = turns.saturating_sub(bare_count(line, found)) / found.strategies.len().max(1);
     let mut is_any_cut = false;
     for (side, tree) in found.strategies.as_slice() {
         let mut main = main_line(alloc, line, tree)?;
@@ -308,11 +330,7 @@ fn put_strategies(
 /// Writes the first turns that no strategy begins with or answers as variations behind the text.
 fn put_bare_first_turns(out: &mut Vec<u8>, line: &Line, found: &Answers) -> Result<(), ShowFault> {
     for (turn, wins) in found.first_turns.as_slice() {
-        let is_written = found
-            .strategies
-            .iter()
-            .any(|known| known.1.first().unwrap_or(*turn) == *turn);
-        if !is_written && line.is_legal(*turn) {
+        if is_bare(line, found, *turn) {
             put_move_node(out, line, *turn, Some(*wins))?;
             out.push(b')')?;
         }
@@ -347,7 +365,7 @@ fn front_text(
 }
 
 /// The problem of a tree, which the line is at, as a game tree of SGF: its nodes, and the answer that stands behind it as words and
-/// variations, with at most 2,000 turns, or so many turns deep where that is asked; comments say where turns are left out. It is read as
+/// variations, with at most 2,000 turns beside long main lines, or so many turns deep where that is asked; comments say where turns are left out. It is read as
 /// the same problem.
 pub fn sgf_text(
     alloc: Global,

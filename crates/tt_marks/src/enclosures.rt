@@ -16,7 +16,7 @@ pub(crate) struct Gap {
 }
 
 /// Whether a set is among others.
-fn are_among(sets: &[Bits], points: &Bits) -> bool {
+fn is_listed(sets: &[Bits], points: &Bits) -> bool {
     sets.iter().any(|other| other.same(points))
 }
 
@@ -44,7 +44,7 @@ impl GapSearch<'_> {
             rest.clear_bit(p);
             let mut others = gap.stones;
             others.clear_bit(p);
-            if !are_among(self.open.as_slice(), &others) {
+            if !is_listed(self.open.as_slice(), &others) {
                 if self
                     .ways
                     .walled_in_by(&others, &Bits::none(), &inside)
@@ -62,7 +62,7 @@ impl GapSearch<'_> {
     fn add(&mut self, stones: &Bits) -> Result<(), NoMemory> {
         let mut stones = *stones;
         for _stone in 0..MOST_STONES {
-            if has_none(&stones) || are_among(self.known.as_slice(), &stones) {
+            if has_none(&stones) || is_listed(self.known.as_slice(), &stones) {
                 return Ok(());
             }
             let Some(region) = self.ways.region_closed_by(&stones) else {

@@ -14,7 +14,7 @@ use crate::walls::{group_bits, wall_bits, within};
 use tt_board::{Board, Colour};
 use tt_sgf::{Bits, Point, PointSet, Size};
 
-/// The most points of a region that is closed: with more of them no search comes to an end.
+/// The most points of a region that is closed: with more of them hardly any search comes to an end.
 pub const MOST_ENCLOSED_POINTS: u16 = 40;
 
 /// The points of a board that are kept as bits, as a set.
