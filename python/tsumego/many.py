@@ -21,8 +21,9 @@ Indexed = Tuple[int, bytes]
 def verdicts(problems: Iterable[Union[str, bytes, GameTree]], seconds: float = SECONDS, positions: int = POSITIONS, jobs: int = JOBS) -> List[Verdict]:
     """Who wins each of many problems that have marks, in their order. Each text is one problem in SGF: a second tree of it isn't read.
 
-    A text that is no problem gets `refused` and hurts no neighbour. `seconds` bounds each problem, `positions` those that df-pn visits,
-    `jobs` the processes side by side. Raises ProgramError where the program isn't there.
+    A text that is no problem gets `refused` and hurts no neighbour. `seconds` bounds a problem that is asked alone: many in one process have
+    twice as long together, and the one that it was at then is asked again alone. `positions` bounds those that df-pn visits, `jobs` the
+    processes side by side. Raises ProgramError where the program isn't there.
     """
     found: List[Verdict] = []
 
