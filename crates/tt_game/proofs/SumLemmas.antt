@@ -18,7 +18,7 @@ use Rattle.tt_board.specs.Play.{is_stone_of}
 use Rattle.tt_sgf.specs.declared.size.Size.{Size}
 use Rattle.tt_sgf.specs.Sizes.{point_count}
 use Rattle.tt_sgf.specs.laws.SizeLaws.{point_count_is_bounded}
-use Rattle.tt_game.specs.declared.history.bloom_filter.TheConstants.{FILTER_HASH_DIVISOR, MIXER, FILTER_BITS, MIXER_POWERS}
+use Rattle.tt_game.specs.declared.history.bloom_filter.TheConstants.{HASH_DIVISOR, MIXER, FILTER_BITS, MIXER_POWERS}
 use Rattle.tt_game.specs.Keys.{bits_of, value_of_bits, words_of, bit_words}
 use Rattle.tt_game.specs.Mixing.{mix, mix_board}
 use Rattle.tt_game.specs.BloomFilter.{filter_index}
@@ -184,12 +184,12 @@ module _ (g : Size) (c : Colouring) (p : ℕ) (fits : length c ≡ point_count g
 
 -- the hash of a colouring with a stone more, by what the words make without it
 pub hash_more : (g : Size) (c : Colouring) (p : ℕ) (k : Colour) (sum w : ℕ) → length c ≡ point_count g → p < point_count g → entry_at c p ≡ None → sum ≡ mix_board g c
-    → w ≡ MIXER ^ (behind k - p / 64) % 2 ^ 64 → (sum + 2 ^ (p % 64) * w % 2 ^ 64) % 2 ^ 64 * MIXER % 2 ^ 64 / FILTER_HASH_DIVISOR % FILTER_BITS ≡ filter_index g (set c p (Some k))
+    → w ≡ MIXER ^ (behind k - p / 64) % 2 ^ 64 → (sum + 2 ^ (p % 64) * w % 2 ^ 64) % 2 ^ 64 * MIXER % 2 ^ 64 / HASH_DIVISOR % FILTER_BITS ≡ filter_index g (set c p (Some k))
 unfolding filter_index
 hash_more g c p k sum w fits on free is weighs =
     let d = 2 ^ (p % 64) in
     let power = MIXER ^ (behind k - p / 64) in
-    ap (λ n. n * MIXER % 2 ^ 64 / FILTER_HASH_DIVISOR % FILTER_BITS) (
+    ap (λ n. n * MIXER % 2 ^ 64 / HASH_DIVISOR % FILTER_BITS) (
     ap (λ n. (n + d * w % 2 ^ 64) % 2 ^ 64) is
     ∙ add-mod-mod (mix_board g c) (d * w) (2 ^ 64)
     ∙ ap (λ n. (mix_board g c + d * n) % 2 ^ 64) weighs

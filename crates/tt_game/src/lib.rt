@@ -33,7 +33,7 @@ mod turns;
 pub use faults::{GameFault, Refused, Why, reason_of_code};
 pub use frame::{Frame, Side};
 pub use game::Game;
-pub use history::bloom_filter::{BloomFilter, board_hash};
+pub use history::bloom_filter::{BloomFilter, HASH_DIVISOR, board_hash};
 pub use history::snapshot::Snapshot;
 pub use keys::Key;
 pub use line::Line;

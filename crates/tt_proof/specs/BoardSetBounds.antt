@@ -9,9 +9,9 @@ use Rattle.tt_board.specs.declared.Colour.TheVariants.{Black, White}
 use Rattle.tt_board.specs.Position.{Position}
 use Rattle.tt_board.specs.Play.{is_stone_of}
 use Rattle.tt_board.specs.Reach.{entry_at}
+use Rattle.tt_game.specs.declared.history.bloom_filter.TheConstants.{HASH_DIVISOR}
 use Rattle.tt_game.specs.Mixing.{board_hash}
 use Rattle.tt_proof.specs.declared.board_set_bounds.BoardSetBound.{BoardSetBound}
-use Rattle.tt_proof.specs.declared.board_set_bounds.TheConstants.{HASH_DIVISOR}
 
 -- the board has each of these stones of the colour
 abbrev pub HasAllStones : Bits → Colour → Position → Type 0

@@ -5,11 +5,8 @@ ghost use Rattle.tt_sgf.specs.declared.bits.TheConstants.{BITS};
 ghost use Rattle.tt_proof.specs.BoardSetBounds.{MayContainBoard, IsWiderOrSame, HasAllStones, hash_bit};
 
 use tt_board::{Board, Colour};
-use tt_game::board_hash;
+use tt_game::{HASH_DIVISOR, board_hash};
 use tt_sgf::{BITS, Bits};
-
-/// The lowest bits of a hash say least, so its bit is taken from those above.
-const HASH_DIVISOR: u64 = 0x100_0000_0000;
 
 /// The stones of each colour that all of some boards have, and a bit for the hash of each of these boards.
 #[derive(Clone, Copy)]

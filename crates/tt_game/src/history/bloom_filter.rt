@@ -20,8 +20,8 @@ const FILTER_BITS: usize = 49_152;
 /// An odd number with bits of both kinds all over: 2^64 by the golden ratio.
 pub(crate) const MIXER: u64 = 0x9e37_79b9_7f4a_7c15;
 
-/// The lowest bits of a product say little of its factors, so a hash is taken from those above.
-const FILTER_HASH_DIVISOR: u64 = 0x100_0000_0000;
+/// The lowest bits of a product say little of its factors, so where a hash gives an index, it is by the bits above.
+pub const HASH_DIVISOR: u64 = 0x100_0000_0000;
 
 /// The powers of `MIXER` by which words count, that of the last one first.
 const MIXER_POWERS: [u64; 12] = [
@@ -74,9 +74,9 @@ pub fn board_hash(board: &Board) -> u64
 
 /// The index by what both colours' words make: its highest bits, since the last word was only added.
 fn filter_index_of_sum(sum: u64) -> usize
-    ensures { result ≡ sum * MIXER % 2 ^ 64 / FILTER_HASH_DIVISOR % FILTER_BITS }
+    ensures { result ≡ sum * MIXER % 2 ^ 64 / HASH_DIVISOR % FILTER_BITS }
 {
-    (sum.wrapping_mul(MIXER) / FILTER_HASH_DIVISOR) as usize % FILTER_BITS
+    (sum.wrapping_mul(MIXER) / HASH_DIVISOR) as usize % FILTER_BITS
 }
 
 /// The index of a colouring with one stone more, which a play of `colour` puts on `p`, by what the words make without it. No board is

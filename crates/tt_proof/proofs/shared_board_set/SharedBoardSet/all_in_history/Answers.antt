@@ -16,7 +16,8 @@ returns-then-all_in_history-2 c =
       | then-all_in_history w ↦
           let first : IsTrue c.all_in_history.result = search rules in
           let second : IsTrue w.all_in_history-then-all_in_history.result = search rules in (
-            λ y. all_of_three (λ b. HasBoardInHistory line.frame line.state b) a m z c.args.self.now c.self.view_is (c.all_in_history.ensures.0 first) (w.all_in_history-then-all_in_history.ensures.0 second) (last.0 y),
+            λ y. all_of_three (λ b. HasBoardInHistory line.frame line.state b) a m z c.args.self.now c.self.view_is
+                (c.all_in_history.ensures.0 first) (w.all_in_history-then-all_in_history.ensures.0 second) (last.0 y),
             λ h. last.1 (λ b x. h b ((in_three a m z c.args.self.now c.self.view_is b).1 (inr (inr x)))),
           )
       | else-all_in_history w ↦ absurd (false≢true (search rules))
