@@ -17,4 +17,5 @@ mod workers;
 mod zobrist;
 
 pub use advisor::Advisor;
+pub use shared_table::MOST_DFPN_WORKERS;
 pub use workers::{Finding, Guess, SharedSearch, SharedWork};

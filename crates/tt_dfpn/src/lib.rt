@@ -34,5 +34,5 @@ mod team;
 pub use advice::{Advice, VisitsLeft};
 pub use attempts::{MOST_POSITIONS, OneFinder, WinnerSearch, find_life_proof, find_proof};
 pub use certifier::Certifier;
-pub use finder::{Advisor, Finding, Guess, SharedSearch, SharedWork};
+pub use finder::{Advisor, Finding, Guess, MOST_DFPN_WORKERS, SharedSearch, SharedWork};
 pub use team::SharedCertification;

@@ -6,10 +6,11 @@ ghost use Rattle.tt_share.specs.declared.capacity.TheConstants.{MOST_WORKERS};
 ghost use Rattle.tt_solve.specs.declared.options.CertKind.{CertKind};
 ghost use Rattle.tt_solve.specs.declared.options.TheConstants.{MOST_TOTAL};
 
-use tt_search::Limits;
+use tt_game::MOST_LEGAL;
+use tt_search::{Limits, MOST_EXPANDED};
 
-/// The greatest total: the greatest budget behind each of 362 first turns.
-pub const MOST_TOTAL: u32 = 362_000_000;
+/// The greatest total: the greatest budget behind each first turn.
+pub const MOST_TOTAL: u32 = MOST_LEGAL as u32 * MOST_EXPANDED;
 
 /// Which certificate of each verdict is written.
 #[derive(Clone, Copy, Debug, PartialEq, Eq)]

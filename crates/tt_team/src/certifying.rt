@@ -3,9 +3,9 @@
 ghost use Rattle.std.specs.Prelude.{◌≡◌, ◌≤◌, IfOk};
 ghost use Rattle.tt_proof.specs.declared.tree.TheConstants.{MOST_DEPTH};
 
-use crate::rounds::{MOST_DFPN_WORKERS, Workers, count_visits};
+use crate::rounds::{Workers, count_visits};
 use std::thread::Threads;
-use tt_dfpn::{Advisor, Certifier, Finding, SharedCertification};
+use tt_dfpn::{Advisor, Certifier, Finding, MOST_DFPN_WORKERS, SharedCertification};
 use tt_game::{Line, Side};
 use tt_sgf::NoMemory;
 

@@ -9,13 +9,11 @@ use std::alloc::Global;
 use std::thread;
 use std::thread::Threads;
 use tt_dfpn::{
-    Advisor, Certifier, Finding, Guess, OneFinder, SharedWork, VisitsLeft, WinnerSearch,
+    Advisor, Certifier, Finding, Guess, MOST_DFPN_WORKERS, OneFinder, SharedWork, VisitsLeft,
+    WinnerSearch,
 };
 use tt_game::{Line, Side};
 use tt_sgf::NoMemory;
-
-/// So many workers search at most. The number was chosen without a measurement of more.
-pub(crate) const MOST_DFPN_WORKERS: usize = 8;
 
 /// In the first attempts all workers search: the one that leaves out turns, and the one that leaves out none. In those after, the
 /// first worker has to know which lines the certifier refused.

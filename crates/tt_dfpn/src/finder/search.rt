@@ -4,7 +4,8 @@
 //! Positions that differ by their history alone share one entry, but for lines that were found to differ (A. Kishimoto,
 //! M. Müller, "A General Solution to the Graph History Interaction Problem", 2004).
 
-ghost use Rattle.std.specs.Prelude.{◌≡◌, ◌<◌, ◌≤◌, length, true, false, None, IfSome};
+ghost use Rattle.std.specs.Prelude.{◌≡◌, ◌<◌, ◌≤◌, ◌↔◌, length, true, false, None, Some, IfSome, IsTrue};
+ghost use Rattle.tt_dfpn.specs.declared.finder.search.Stop.{Stop};
 
 use crate::advice::VisitsLeft;
 use crate::finder::board::{CELLS, SearchBoard, SearchTurn, index};
@@ -481,7 +482,9 @@ impl Finder {
     }
 
     /// Whether it was stopped for want of memory.
-    pub(crate) fn lacks_memory(&self) -> bool {
+    pub(crate) fn lacks_memory(&self) -> bool
+        ensures { IsTrue result ↔ (self.now.stop ≡ Some Stop.NoMemory) }
+    {
         self.stop == Some(Stop::NoMemory)
     }
 

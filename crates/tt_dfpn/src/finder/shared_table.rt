@@ -5,7 +5,7 @@
 //! their key is another, so nothing is known by them.
 
 use crate::finder::board::SearchTurn;
-use crate::finder::transpositions::{Entry, INFINITE, ProofNumbers, UNKNOWN};
+use crate::finder::transpositions::{Entry, INFINITE, NUMBER_BITS, ProofNumbers, UNKNOWN};
 use std::alloc::Global;
 use std::sync::atomic::{AtomicBool, AtomicU64, Ordering};
 use tt_sgf::NoMemory;
@@ -20,15 +20,23 @@ struct Slot {
 /// Two slots to a bucket, for the keys that end alike.
 type Bucket = [Slot; 2];
 
-/// The bits of a number.
-const NUMBER_MASK: u64 = 0x1ff_ffff;
+/// The bits of a number: infinity has all.
+const NUMBER_MASK: u64 = INFINITE as u64;
 
-/// The bits of a turn: its cell, or one of the numbers above.
-const TURN_MASK: u64 = 0x1ff;
+/// How many bits a turn has.
+const TURN_BITS: u32 = 9;
+
+/// The bits of a turn: those of its cell, or of one of the numbers below, which no cell of a board has.
+const TURN_MASK: u64 = (1 << TURN_BITS) - 1;
 
 const PASS_BITS: u16 = 511;
 
 const NO_TURN_BITS: u16 = 510;
+
+/// In an entry's second word the proof number is lowest, then come the disproof number, the best turn and the effort.
+const TURN_SHIFT: u32 = 2 * NUMBER_BITS;
+
+const EFFORT_SHIFT: u32 = TURN_SHIFT + TURN_BITS;
 
 /// What an empty slot says, with the key 0.
 const NOTHING: Entry = Entry {
@@ -57,13 +65,13 @@ fn turn_of_bits(bits: u16) -> Option<SearchTurn> {
     }
 }
 
-/// The second word of an entry: its numbers of 25 bits each, the best turn of 9, and the effort of 5.
+/// The second word of an entry.
 #[inline(always)]
 fn packed(entry: &Entry) -> u64 {
     let proof = u64::from(entry.numbers.proof.min(INFINITE));
     let disproof = u64::from(entry.numbers.disproof.min(INFINITE));
     let best = u64::from(turn_bits(entry.best)) & TURN_MASK;
-    proof | disproof << 25 | best << 50 | u64::from(entry.effort) << 59
+    proof | disproof << NUMBER_BITS | best << TURN_SHIFT | u64::from(entry.effort) << EFFORT_SHIFT
 }
 
 /// The entry whose second word this is.
@@ -72,10 +80,10 @@ fn unpacked(data: u64) -> Entry {
     Entry {
         numbers: ProofNumbers {
             proof: (data & NUMBER_MASK) as u32,
-            disproof: (data >> 25 & NUMBER_MASK) as u32,
+            disproof: (data >> NUMBER_BITS & NUMBER_MASK) as u32,
         },
-        effort: (data >> 59) as u32,
-        best: turn_of_bits((data >> 50 & TURN_MASK) as u16),
+        effort: (data >> EFFORT_SHIFT) as u32,
+        best: turn_of_bits((data >> TURN_SHIFT & TURN_MASK) as u16),
     }
 }
 
@@ -132,8 +140,9 @@ const PLACE_BITS: u32 = u16::BITS;
 
 const PLACES: usize = 1 << PLACE_BITS;
 
-/// So many workers at a place count at most.
-const MOST_COUNTED: u64 = 8;
+/// So many workers search over one table at most, and so many count at a place, which some positions share. The number was chosen
+/// without a measurement of more.
+pub const MOST_DFPN_WORKERS: usize = 8;
 
 /// Where the workers at a key's position are counted: by bits that tell no buckets apart.
 #[inline(always)]
@@ -250,7 +259,7 @@ impl SharedTable {
     #[inline(always)]
     pub(crate) fn workers_at(&self, place: u16) -> u32 {
         match self.workers.get(usize::from(place)) {
-            Some(count) => count.load(Ordering::Relaxed).min(MOST_COUNTED) as u32,
+            Some(count) => count.load(Ordering::Relaxed).min(MOST_DFPN_WORKERS as u64) as u32,
             None => 0,
         }
     }

@@ -16,8 +16,11 @@ pub(crate) const INITIAL_PATH_BUCKETS: usize = 256;
 
 pub(crate) const MOST_PATH_BUCKETS: usize = 262_144;
 
-/// Stands for infinity: the greatest number of 25 bits.
-pub(crate) const INFINITE: u32 = 0x1ff_ffff;
+/// How many bits a number has.
+pub(crate) const NUMBER_BITS: u32 = 25;
+
+/// Stands for infinity: the greatest number.
+pub(crate) const INFINITE: u32 = (1 << NUMBER_BITS) - 1;
 
 /// Proof and disproof number of a position, from the side that moves there: 0 and infinity where it wins.
 #[derive(Clone, Copy, PartialEq, Eq)]
