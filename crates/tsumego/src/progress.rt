@@ -77,7 +77,9 @@ impl<X: Eprint + Sync> Progress for ProgressLine<'_, X> {
         let _ = self.rt.eprint("\r\u{1b}[K");
         if let Some(reason) = unsettled {
             if self.gives_tips {
-                let _ = self.rt.eprintln(unsettled_tip(self.command, reason));
+                if let Ok(tip) = unsettled_tip(self.alloc, self.command, reason) {
+                    let _ = self.rt.eprintln(tip.as_str());
+                }
             }
         }
     }

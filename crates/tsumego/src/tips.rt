@@ -49,21 +49,31 @@ pub fn file_tips(alloc: Global, words: &[String], fault: &str) -> Result<String,
 }
 
 /// What may settle a problem that a command left unsettled for this reason.
-pub fn unsettled_tip(command: &Command, reason: Reason) -> &'static str {
+pub fn unsettled_tip(
+    alloc: Global,
+    command: &Command,
+    reason: Reason,
+) -> Result<String, AllocError> {
     let positions = match command {
         Command::Solve { dfpn: Some(n), .. } => *n,
         _ => 0,
     };
+    let more = if positions < MANY_POSITIONS {
+        MANY_POSITIONS
+    } else {
+        MOST_POSITIONS
+    };
     match reason {
-        Reason::Memory if positions == 0 => "try more memory, or fewer squares (SQ)",
-        Reason::Memory => "try more memory, a smaller --dfpn, or fewer squares (SQ)",
-        Reason::Depth => "try a larger --depth, or fewer squares (SQ)",
-        Reason::Budget | Reason::Total if positions < MANY_POSITIONS => {
-            "try --dfpn 5000000, or fewer squares (SQ)"
+        Reason::Memory if positions == 0 => {
+            format!(in alloc; "try more memory, or fewer squares (SQ)")
         }
-        Reason::Budget | Reason::Total if positions < MOST_POSITIONS => {
-            "try --dfpn 100000000, or fewer squares (SQ)"
+        Reason::Memory => {
+            format!(in alloc; "try more memory, a smaller --dfpn, or fewer squares (SQ)")
         }
-        Reason::Budget | Reason::Total => "try fewer squares (SQ)",
+        Reason::Depth => format!(in alloc; "try a larger --depth, or fewer squares (SQ)"),
+        Reason::Budget | Reason::Total if positions < more => {
+            format!(in alloc; "try --dfpn {more}, or fewer squares (SQ)")
+        }
+        Reason::Budget | Reason::Total => format!(in alloc; "try fewer squares (SQ)"),
     }
 }

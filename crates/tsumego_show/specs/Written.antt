@@ -26,6 +26,8 @@ use Rattle.tt_game.specs.Nodes.{AB, AW, PL, SQ, TR, has}
 use Rattle.tt_game.specs.Problems.{game_of, node_count_before_solution, posed_problem, problem_of, side_of}
 use Rattle.tt_marks.specs.Closings.{ClosesWall, with_stones}
 use Rattle.tt_marks.specs.Walls.{HasOtherStone, IsEnclosedGroup, IsInner, IsWalledIn}
+use Rattle.tsumego_show.specs.declared.reading_back.TheConstants.{MOST_ANSWER}
+use Rattle.tsumego_show.specs.declared.tree_bytes.TheConstants.{MOST_MORE}
 use Rattle.tsumego_show.specs.declared.mode.Mode.{Mode}
 use Rattle.tsumego_show.specs.declared.mode.Mode.TheVariants.{Picture, Diagram, Marks, Variations}
 use Rattle.tsumego_show.specs.declared.mode.PointName.{PointName}
@@ -45,10 +47,10 @@ abbrev pub IsTextOf : List ℕ → LineWithUndo → Type 0
 IsTextOf text p = length text ≤ MAX_BYTES → (q : LineWithUndo) × IsProblemText text q × (q.frame ≡ p.frame) × (q.state ≡ p.state)
 
 -- A text is the problem p with variations, for a tree with these bytes. What stands in front of the variations, with the end of the tree
--- behind it, is the problem too, and has at most 4,096 bytes more than were given.
+-- behind it, is the problem too, and has no more bytes than were given and an answer may have.
 abbrev pub IsTextWithVariations : List ℕ → List ℕ → LineWithUndo → Type 0
 IsTextWithVariations given text p = IsTextOf text p × ((front : List ℕ) × (variations : List ℕ) × (text ≡ front ++ variations)
-    × (length front ≤ length given + 4096) × IsTextOf (front ++ (close_tree ∷ [])) p)
+    × (length front ≤ length given + MOST_ANSWER) × IsTextOf (front ++ (close_tree ∷ [])) p)
 
 -- A text, if it isn't too long to be read, is a problem with this frame, these stones and this side to move. Nothing stood before, as behind
 -- any setup.
@@ -165,10 +167,10 @@ IsTextWithNodes stones nodes text = length text ≤ MAX_BYTES → (count : ℕ) 
 abbrev pub HasNoParenthesis : List ℕ → Type 0
 HasNoParenthesis bytes = (HasOpeningParenthesis bytes → ⊥) × (Contains bytes close_tree → ⊥)
 
--- The bytes of a tree with these nodes, and at most 1,024 bytes more in one place, none of them a parenthesis: they are marks, and stones of a
--- colour where they are added.
+-- The bytes of a tree with these nodes, and in one place more, no more than may be added, none of them a parenthesis: they are marks, and stones
+-- of a colour where they are added.
 abbrev pub IsGivenWithMore : Option Colour → List ℕ → List Node → List ℕ → Type 0
-IsGivenWithMore stones given nodes text = ((front : List ℕ) × (more : List ℕ) × (behind : List ℕ) × (given ≡ front ++ behind) × (length more ≤ 1024)
+IsGivenWithMore stones given nodes text = ((front : List ℕ) × (more : List ℕ) × (behind : List ℕ) × (given ≡ front ++ behind) × (length more ≤ MOST_MORE)
     × HasNoParenthesis more × (text ≡ front ++ (more ++ as_given behind))) × IsTextWithNodes stones nodes text
 
 -- the same with stones of the colour other than that of the stone on q

@@ -223,7 +223,7 @@ fn is_lone_unless_named(
 ) -> bool
     requires { stone < point_count board.now.size }
     ensures { result ≡ false
-        → IsNotLoneUnlessNamed name board.now.size board.now.points colour stone squares.now }
+        ↔ IsNotLoneUnlessNamed name board.now.size board.now.points colour stone squares.now }
 {
     match name {
         Some(_) => false,

@@ -10,6 +10,7 @@ use Rattle.tt_board.specs.Play.{is_empty, is_stone_of, other}
 use Rattle.tt_board.specs.Position.{Colouring}
 use Rattle.tt_board.specs.Reach.{entry_at}
 use Rattle.tt_board.specs.Stones.{IsSetOnBoard, PointNumberSet}
+use Rattle.tt_marks.specs.declared.regions.TheConstants.{MOST_ENCLOSED_POINTS}
 use Rattle.tt_marks.specs.Reached.{Has, IsReached, PointTest}
 
 module _ (s : Size) (c : Colouring) where
@@ -55,9 +56,13 @@ module _ (s : Size) (c : Colouring) (k : Colour) (q : ℕ) where
 abbrev pub empty_set : Size → Colouring → PointNumberSet
 empty_set s c = passing (λ p. is_empty (entry_at c p)) (point_count s)
 
--- the region is closed: its wall has a stone, and it has 2 to 40 points, so that it's worth a question and can be answered
+-- a region has so many points that it's worth a question and can be answered
+abbrev pub IsFitCount : ℕ → Type 0
+IsFitCount points = (1 < points) × (points ≤ MOST_ENCLOSED_POINTS)
+
+-- the region is closed: its wall has a stone, and it has neither too few points nor too many
 abbrev pub IsClosed : PointNumberSet → PointNumberSet → Type 0
-IsClosed wall points = (0 < set.len wall) × (1 < set.len points) × (set.len points ≤ 40)
+IsClosed wall points = (0 < set.len wall) × IsFitCount (set.len points)
 
 -- no more empty points are in the region than outside: else the wall is what stands inside
 abbrev pub IsInner : Size → Colouring → PointNumberSet → Type 0

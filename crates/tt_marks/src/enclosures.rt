@@ -1,6 +1,6 @@
 //! Looks for stones that close the wall around a group, all in bits. No contract says what is found: `gaps` sees whether it closes the wall.
 
-use crate::regions::MOST_ENCLOSED_POINTS;
+use crate::regions::is_fit_count;
 use crate::ways::{Ways, count, has_none};
 use std::alloc::Global;
 use tt_sgf::{BITS, Bits, NoMemory};
@@ -129,11 +129,11 @@ impl Ways {
     fn region_closed_by(&self, stones: &Bits) -> Option<Bits> {
         let inside = self.walled_in_by(stones, stones, &self.group)?;
         let region = inside.minus(&self.group);
-        let points = count(&region);
-        if points < 2 || usize::from(MOST_ENCLOSED_POINTS) < points {
-            return None;
+        if is_fit_count(count(&region)) {
+            Some(region)
+        } else {
+            None
         }
-        Some(region)
     }
 
     /// The place of a gap among others: first by the count of its stones, then by how many of these are beside one of the group's colour,

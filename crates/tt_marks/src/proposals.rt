@@ -1,9 +1,11 @@
 //! The group that is meant where nobody names one.
 
-ghost use Rattle.std.specs.Prelude.{◌≡◌, ◌⊎◌, ℕ, ◌<◌, ◌≤◌, ◌≢◌, None, Some, IfSome, IfOk, IsTrue, MatchOption, false};
+ghost use Rattle.std.specs.Prelude.{◌≡◌, ◌⊎◌, ◌↔◌, ℕ, ◌<◌, ◌≤◌, ◌≢◌, None, Some, IfSome, IfOk, IsTrue, MatchOption, false};
+ghost use Rattle.std.specs.FinSet as set;
 ghost use Rattle.tt_sgf.specs.Sizes.{point_count};
 ghost use Rattle.tt_board.specs.Reach.{entry_at};
-ghost use Rattle.tt_marks.specs.Walls.{HasOtherStone, IsOfInnerGroup};
+ghost use Rattle.tt_marks.specs.Reached.{Has};
+ghost use Rattle.tt_marks.specs.Walls.{HasOtherStone, HasStone, IsOfInnerGroup};
 
 use crate::enclosures::MOST_STONES;
 use crate::regions::{group, is_inner, region, set_of};
@@ -56,20 +58,32 @@ fn outer_or_smaller(first: Option<Candidate>, second: Option<Candidate>) -> Opti
     smaller(Some(a), Some(b))
 }
 
+/// Whether a stone of this colour, other than the one that is named, stands on a point among these.
+fn is_other_stone(
+    board: &Board,
+    colour: Colour,
+    stone: Point,
+    near: &PointSet,
+    point: Point,
+) -> bool
+    requires { point < point_count board.now.size }
+    ensures { IsTrue result
+        ↔ ((point ≢ stone) × HasStone board.now.size board.now.points colour point × Has (set.contains near.now) point) }
+{
+    point != stone && near.has(point) && board.at(point) == Some(colour)
+}
+
 /// Whether a stone of this colour is the only one in its group and the region: then it's a stone of a wall, or a stone thrown in.
 pub fn is_lone(board: &Board, colour: Colour, stone: Point, region: &PointSet) -> bool
     requires { stone < point_count board.now.size }
     ensures { result ≡ false
-        → HasOtherStone board.now.size board.now.points colour stone region.now }
+        ↔ HasOtherStone board.now.size board.now.points colour stone region.now }
 {
     let size = board.size();
     let near = group(board, colour, stone).or(region);
     for number in 0..size.point_count() {
-        let point = size.point_numbered(number);
-        if let Some(found) = board.at(point) {
-            if found == colour && point != stone && near.has(point) {
-                return false;
-            }
+        if is_other_stone(board, colour, stone, &near, size.point_numbered(number)) {
+            return false;
         }
     }
     true

@@ -8,7 +8,7 @@ ghost use Rattle.tt_sgf.specs.MachineWords.{bit_in};
 ghost use Rattle.tt_board.specs.Around.{AreOn};
 ghost use Rattle.tt_board.specs.Stones.{IsSetOnBoard, PointNumberSet};
 ghost use Rattle.tt_marks.specs.Reached.{Has};
-ghost use Rattle.tt_marks.specs.Walls.{IsClosed, IsEnclosedGroup, IsInner, IsOfGroup, IsRegion, IsWalledIn, IsWholeWall, empty_set};
+ghost use Rattle.tt_marks.specs.Walls.{IsClosed, IsEnclosedGroup, IsFitCount, IsInner, IsOfGroup, IsRegion, IsWalledIn, IsWholeWall, empty_set};
 
 use crate::walls::{group_bits, wall_bits, within};
 use tt_board::{Board, Colour};
@@ -16,6 +16,13 @@ use tt_sgf::{Bits, Point, PointSet, Size};
 
 /// The most points of a region that is closed: with more of them hardly any search comes to an end.
 pub const MOST_ENCLOSED_POINTS: u16 = 40;
+
+/// Whether a region may have so many points: one that has fewer than 2 is worth no question.
+pub(crate) fn is_fit_count(points: usize) -> bool
+    ensures { IsTrue result ↔ IsFitCount points }
+{
+    1 < points && points <= usize::from(MOST_ENCLOSED_POINTS)
+}
 
 /// The points of a board that are kept as bits, as a set.
 #[tactic(auto, using(crate::proofs::SetLemmas::passing_none, crate::proofs::SetLemmas::passing_more, crate::proofs::SetLemmas::passing_same))]
@@ -77,8 +84,7 @@ impl WalledRegion {
     pub fn is_closed(&self) -> bool
         ensures { IsTrue result ↔ IsClosed self.now.wall self.now.points }
     {
-        let count = self.points.count();
-        0 < self.wall.count() && 1 < count && count <= MOST_ENCLOSED_POINTS
+        0 < self.wall.count() && is_fit_count(usize::from(self.points.count()))
     }
 }
 

@@ -30,5 +30,5 @@ returns c =
       ),
       marked_setup c.args.name _ c.args.game q k c.other.result board.size board.points best.stones best.region c.copy.result c.in-Some-board_with_stones.next c.in_ok-line.line
           c.present-board.ensures.size c.present-board.ensures.points c.other.ensures c.copy.ensures c.requires.unmarked c.requires.open closes
-          (c.is_lone_unless_named.ensures c.if-is_lone_unless_named.false) c.in-Some-board_with_stones.ensures.0 c.in_ok-line.ensures c.in_ok-text.ensures.reads,
+          (c.is_lone_unless_named.ensures.0 c.if-is_lone_unless_named.false) c.in-Some-board_with_stones.ensures.0 c.in_ok-line.ensures c.in_ok-text.ensures.reads,
     )
