@@ -1,7 +1,7 @@
 //! Who wins at a line, as workers find. They search in rounds: where one ends that settled nothing, the table grows, as no thread
 //! reads it then.
 
-ghost use Rattle.std.specs.Prelude.{◌≡◌, ◌≤◌, ◌-◌, All, IfOk, sum_by};
+ghost use Rattle.std.specs.Prelude.{◌≡◌, ◌≤◌, ◌-◌, All, IfOk, length, sum_by};
 ghost use Rattle.std.specs.Thread.{IsSync};
 
 use crate::certifying::certify_alone;
@@ -77,7 +77,8 @@ impl<R: Threads + Sync> Workers<'_, R> {
         workers: u32,
         share: u32,
     ) -> Result<Vec<Finding<W::Found>>, NoMemory>
-        ensures { IfOk result (λ v. All (λ f. f.visited ≤ share) v.items) }
+        ensures count { IfOk result (λ v. length v.items ≡ workers) }
+        ensures shares { IfOk result (λ v. All (λ f. f.visited ≤ share) v.items) }
     {
         let mut numbers = Vec::new(self.alloc);
         for worker in 0..workers {
