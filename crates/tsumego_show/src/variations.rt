@@ -13,7 +13,7 @@ use crate::tree_bytes::GivenTree;
 use std::alloc::Global;
 use std::io::Write;
 use tt_board::Colour;
-use tt_game::{Line, Turn, first_value, has_value};
+use tt_game::{Line, Turn, has_value};
 use tt_proof::{MOST_DEPTH, Tree, put_turn};
 use tt_sgf::{Node, Property, Size};
 
@@ -42,12 +42,26 @@ pub fn colour_letter(colour: Colour) -> char {
     }
 }
 
-/// The comment of the first of these nodes that has TR: the problem stands there.
-fn given_comment(nodes: &[Node]) -> Option<&[u8]> {
-    let node = nodes
+/// Writes the comments of the first of these nodes that has TR, where the problem stands, behind the text, with an empty line between two.
+fn put_given_comments(out: &mut Vec<u8>, nodes: &[Node]) -> Result<(), ShowFault> {
+    let Some(node) = nodes
         .iter()
-        .find(|node| has_value(node.props.as_slice(), b"TR"))?;
-    first_value(node.props.as_slice(), b"C")
+        .find(|node| has_value(node.props.as_slice(), b"TR"))
+    else {
+        return Ok(());
+    };
+    let start = out.len();
+    for property in node.props.as_slice() {
+        if property.ident.as_slice() == b"C".as_slice() {
+            for value in property.values.as_slice() {
+                if out.len() > start {
+                    out.extend_from_slice(b"\n\n")?;
+                }
+                out.extend_from_slice(value.as_slice())?;
+            }
+        }
+    }
+    Ok(())
 }
 
 /// Writes a property as it was given behind the text.
@@ -109,25 +123,28 @@ fn put_labels(out: &mut Vec<u8>, size: Size, found: &Answers) -> Result<(), Show
     Ok(())
 }
 
-/// Writes a comment behind the text: the one that was given, and the answer, also that it has ended there, or that turns are left out there.
+/// Writes a comment behind the text: what these nodes say of the problem, and the answer, also that it has ended there, or that turns are
+/// left out there.
 fn put_comment(
     out: &mut Vec<u8>,
-    given: Option<&[u8]>,
+    nodes: &[Node],
     line: &Line,
     found: &Answers,
     is_end: bool,
     is_cut: bool,
 ) -> Result<(), ShowFault> {
     let has_answer = !found.strategies.is_empty() || !found.first_turns.is_empty();
-    if given.is_none() && !has_answer {
+    let start = out.len();
+    out.extend_from_slice(b"C[")?;
+    let begun = out.len();
+    put_given_comments(out, nodes)?;
+    let has_given = out.len() > begun;
+    if !has_given && !has_answer {
+        out.truncate(start);
         return Ok(());
     }
-    out.extend_from_slice(b"C[")?;
-    if let Some(value) = given {
-        out.extend_from_slice(value)?;
-        if has_answer {
-            out.extend_from_slice(b"\n\n")?;
-        }
+    if has_given && has_answer {
+        out.extend_from_slice(b"\n\n")?;
     }
     if has_answer {
         found.put_words(out, line)?;
@@ -353,20 +370,13 @@ fn front_text(
     put_given_nodes(&mut out, tree.nodes())?;
     put_name(&mut out, line, found)?;
     put_labels(&mut out, line.frame().size, found)?;
-    put_comment(
-        &mut out,
-        given_comment(tree.nodes()),
-        line,
-        found,
-        is_end,
-        is_cut,
-    )?;
+    put_comment(&mut out, tree.nodes(), line, found, is_end, is_cut)?;
     Ok(out)
 }
 
 /// The problem of a tree, which the line is at, as a game tree of SGF: its nodes, and the answer that stands behind it as words and
-/// variations, with at most 2,000 turns beside long main lines, or so many turns deep where that is asked; comments say where turns are left out. It is read as
-/// the same problem.
+/// variations, with at most 2,000 turns beside long main lines, or so many turns deep where that is asked; comments say where turns are
+/// left out. It is read as the same problem.
 pub fn sgf_text(
     alloc: Global,
     tree: &GivenTree,
