@@ -7,7 +7,7 @@ use Rattle.std.proofs.Crossing.{crosses}
 use Rattle.tt_proof.proofs.Sent.{life_proof_send, life_proof_sync}
 use Rattle.tt_dfpn.proofs.finder.workers.SharedSearch.TheSendSync.{the_sync as search_sync}
 use Rattle.tt_dfpn.specs.contracts.shared_proofs.SharedProofs as SharedProofs
-use Rattle.tt_dfpn.specs.contracts.team.SharedCertification as SharedCertification
+use Rattle.tt_dfpn.specs.contracts.shared_certification.SharedCertification as SharedCertification
 
 shared_proofs_send : IsSend SharedProofs.the_row
 shared_proofs_send = search (sendable, crosses, once_send, life_proof_send) depth 40

@@ -3,7 +3,7 @@
 //!
 //! `find_proof` joins two halves. The finder searches with one table for all histories, which is fast and may err; it says what a
 //! side should play. The certifier makes a proof bottom up at the exact line, and believes nothing of that. It knows the finder by
-//! `Advice` alone, and the finder doesn't know it: only `attempts` and `team` name both.
+//! `Advice` alone, and the finder doesn't know it: only `attempts` and `shared_certification` name both.
 //!
 //! | Module | What it has |
 //! |---|---|
@@ -12,7 +12,7 @@
 //! | `certifier` | makes a proof from the leaves up; it may end at life |
 //! | `memo` | the proofs that the certifier keeps, and which of them it may use at a `Line` |
 //! | `shared_proofs` | proofs that several certifiers share |
-//! | `team` | several certifiers of one proof |
+//! | `shared_certification` | several certifiers of one proof |
 //! | `no_life` | life as the certifier sees it: it need not look again where there was none |
 //! | `life_cache` | what is known of the targets' life: each half has one |
 //! | `mixing` | numbers whose bits are mixed, of which both halves make their hashes |
@@ -28,11 +28,11 @@ mod life_cache;
 mod memo;
 mod mixing;
 mod no_life;
+mod shared_certification;
 mod shared_proofs;
-mod team;
 
 pub use advice::{Advice, VisitsLeft};
 pub use attempts::{MOST_POSITIONS, OneFinder, WinnerSearch, find_life_proof, find_proof};
 pub use certifier::Certifier;
 pub use finder::{Advisor, Finding, Guess, MOST_DFPN_WORKERS, SharedSearch, SharedWork};
-pub use team::SharedCertification;
+pub use shared_certification::SharedCertification;

@@ -15,6 +15,8 @@ const IS_KNOWN: u64 = 2;
 
 const IS_ALIVE: u64 = 1;
 
+const LAST_BITS: u64 = IS_KNOWN | IS_ALIVE;
+
 /// A word stands at its key's index, and is the key but for the last two bits. It's the last that was kept there. A key is a hash: nobody
 /// has to believe what is found.
 #[derive(Drop)]
@@ -40,7 +42,7 @@ impl LifeCache {
     #[inline(always)]
     pub(crate) fn find(&self, key: u64) -> Option<bool> {
         let word = *self.words.get(index_of(key))?;
-        if (word ^ key) | 3 == 3 && word & IS_KNOWN != 0 {
+        if (word ^ key) | LAST_BITS == LAST_BITS && word & IS_KNOWN != 0 {
             Some(word & IS_ALIVE != 0)
         } else {
             None
@@ -51,7 +53,7 @@ impl LifeCache {
     #[inline(always)]
     pub(crate) fn keep(&mut self, key: u64, lives: bool) {
         if let Some(word) = self.words.get_mut(index_of(key)) {
-            *word = key & !3 | IS_KNOWN | u64::from(lives);
+            *word = key & !LAST_BITS | IS_KNOWN | u64::from(lives);
         }
     }
 }

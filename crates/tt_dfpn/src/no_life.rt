@@ -16,7 +16,7 @@ fn life_key(line: &Line) -> u64 {
     let theirs = line.present().bits(frame.defender.other()).words();
     let region = frame.region.bits().words();
     let mut key = 0u64;
-    for k in 0..6 {
+    for k in 0..own.len() {
         key = mixed(key ^ own[k]);
         key = mixed(key ^ theirs[k] & !region[k]);
     }

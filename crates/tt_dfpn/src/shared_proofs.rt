@@ -1,5 +1,5 @@
-//! Proofs that several certifiers share without a lock: what one of them made, the others find. Nothing is promised of what is found here: a
-//! proof is a proof, and is taken where it is seen to fit.
+//! Proofs that several certifiers share without a lock: what one of them made, the others find. Nothing is promised of what is found
+//! here: a proof is a proof, and is taken where it is seen to fit.
 
 ghost use Rattle.std.specs.Prelude.{◌≡◌, IfOk, IfSome};
 ghost use Rattle.tt_game.specs.Game.{IsLegal};

@@ -102,18 +102,6 @@ impl Model for BoardSet {
     ghost invariant = { λ b. DoHashesRise b.boards.items };
 }
 
-/// Whether the board is one of them. The last one is looked at first: most of what is repeated stood not long ago.
-fn is_among(board: &Board, boards: &[Board]) -> bool
-    ensures { IsTrue result ↔ Contains boards.now board.now }
-{
-    for k in 0..boards.len() {
-        if boards[boards.len() - 1 - k].same(board) {
-            return true;
-        }
-    }
-    false
-}
-
 impl BoardSet {
     /// None at all. It takes no memory.
     pub fn new(alloc: Global) -> BoardSet
@@ -250,7 +238,7 @@ impl BoardSet {
     }
 
     /// Whether the others are the same boards in the same order.
-    pub(crate) fn has_same_as(&self, others: &BoardSet) -> bool
+    pub fn has_same_as(&self, others: &BoardSet) -> bool
         ensures { IsTrue result → (b : Position) → Contains others.now b → Contains self.now b }
     {
         if self.boards.len() != others.boards.len() {
@@ -320,18 +308,6 @@ impl BoardSet {
         Ok(BoardSet { boards })
     }
 
-    /// Whether all are among the boards.
-    pub fn all_among(&self, boards: &[Board]) -> bool
-        ensures { IsTrue result ↔ ((b : Position) → Contains self.now b → Contains boards.now b) }
-    {
-        for held in &self.boards {
-            if !is_among(held.board(), boards) {
-                return false;
-            }
-        }
-        true
-    }
-
     /// Whether all are boards of the line's history.
     pub fn all_in_history(&self, line: &Line) -> bool
         ensures { IsTrue result
@@ -346,22 +322,8 @@ impl BoardSet {
         true
     }
 
-    /// Whether none is a board of the line's history.
+    /// Whether none is a board of the line's history. Where the history has fewer boards, each of them is looked up here.
     pub fn none_in_history(&self, line: &Line) -> bool
-        ensures { IsTrue result
-            ↔ ((b : Position)
-            → Contains self.now b → HasBoardInHistory line.now.frame line.now.state b → ⊥) }
-    {
-        for held in &self.boards {
-            if line.has_board_in_history(held.board()) {
-                return false;
-            }
-        }
-        true
-    }
-
-    /// The same. Where the history has fewer boards, each of them is looked up here.
-    pub(crate) fn has_none_of_history(&self, line: &Line) -> bool
         ensures { IsTrue result
             ↔ ((b : Position)
             → Contains self.now b → HasBoardInHistory line.now.frame line.now.state b → ⊥) }
@@ -370,6 +332,11 @@ impl BoardSet {
         if boards.len() < self.boards.len() {
             return self.has_none_of(boards);
         }
-        self.none_in_history(line)
+        for held in &self.boards {
+            if line.has_board_in_history(held.board()) {
+                return false;
+            }
+        }
+        true
     }
 }

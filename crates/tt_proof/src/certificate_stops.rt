@@ -27,8 +27,8 @@ fn begins_turn(byte: u8, size: Size, least: u16) -> bool
     }
 }
 
-/// What follows a turn at the front of the bytes whose number is at least `least`, and that number; else the bytes from the one on with which
-/// no such turn goes on.
+/// What follows a turn at the front of the bytes whose number is at least `least`, and that number; else the bytes from the one on with
+/// which no such turn goes on.
 fn skip_turn(bytes: &[u8], size: Size, least: u16) -> Result<(u16, &[u8]), &[u8]>
     requires { least ≤ point_count size }
     ensures { MatchResult result
@@ -50,7 +50,8 @@ fn skip_turn(bytes: &[u8], size: Size, least: u16) -> Result<(u16, &[u8]), &[u8]
     Ok((number, behind))
 }
 
-/// What follows a tree at the front of the bytes whose depth is at most `left`; else the bytes from the one on with which no such tree goes on.
+/// What follows a tree at the front of the bytes whose depth is at most `left`; else the bytes from the one on with which no such tree
+/// goes on.
 #[cycle(skip)]
 fn skip_tree(bytes: &[u8], size: Size, left: u16) -> Result<&[u8], &[u8]>
     ensures { MatchResult result

@@ -234,7 +234,7 @@ impl SharedBoardSet {
             ↔ ((b : Position)
             → Contains self.now b → HasBoardInHistory line.now.frame line.now.state b → ⊥) }
     {
-        self.added.has_none_of_history(line)
+        self.added.none_in_history(line)
             && self.middle.none_in_history(line)
             && self.base.none_in_history(line)
     }

@@ -153,7 +153,7 @@ impl SharedList {
             → Contains self.now b → HasBoardInHistory line.now.frame line.now.state b → ⊥) }
     {
         match &self.boards {
-            Some(set) => set.has_none_of_history(line),
+            Some(set) => set.none_in_history(line),
             None => true,
         }
     }

@@ -356,8 +356,8 @@ impl ChildNodes {
         }
     }
 
-    /// A step at a fresh child, whose node is put among those that have grown and takes the step there, so that it is written once. There is
-    /// room for the node before its expansion is asked for and its proof is offered, so nothing is granted or kept of a node that the
+    /// A step at a fresh child, whose node is put among those that have grown and takes the step there, so that it is written once. There
+    /// is room for the node before its expansion is asked for and its proof is offered, so nothing is granted or kept of a node that the
     /// search can't hold. Where the step is stuck, the child has no node as before.
     #[inline(always)]
     fn first_step_at<S: Store, G: Grants>(

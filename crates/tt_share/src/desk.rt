@@ -287,10 +287,10 @@ impl Desk {
         if seats.len() != self.seats {
             return Err((self, seats));
         }
-        let Some(first) = seats.pop() else {
+        let Some(last) = seats.pop() else {
             unreachable!()
         };
-        let whole = join_all_seats(&self.table, first, seats);
+        let whole = join_all_seats(&self.table, last, seats);
         let Desk { table, total, .. } = self;
         let words = table.close_with(whole);
         let draws = words.word(0);

@@ -60,11 +60,12 @@ pub(crate) fn search_together<R: Threads + Wait + Sync, G: Gate, S: Store>(
     }
 }
 
-/// Solves the line by `workers` workers, 1 to `MOST_WORKERS`, or as many as there are legal turns where these are fewer. They
-/// share the log: each of them, and the caller, has a view of it. The log is asked first for a proof that wins at the line itself.
-/// Else each legal turn, in rising order, is a job: workers draw them and search each with the same budget and a depth one less,
-/// until one is settled for the side to move. Where none is, the caller searches what they left, up to a turn that wins. The proof
-/// that the results make is offered to the log. Where there is a total, all searches together expand at most so many nodes. The depth is at least 1, and nobody has won at the line.
+/// Solves the line by `workers` workers, 1 to `MOST_WORKERS`, or as many as there are legal turns where these are fewer. They share the
+/// log: each of them, and the caller, has a view of it. The log is asked first for a proof that wins at the line itself. Else each legal
+/// turn, in rising order, is a job: workers draw them and search each with the same budget and a depth one less, until one is settled for
+/// the side to move. Where none is, the caller searches what they left, up to a turn that wins. The proof that the results make is
+/// offered to the log. Where there is a total, all searches together expand at most so many nodes. The depth is at least 1, and nobody
+/// has won at the line.
 pub fn solve<R: Threads + Wait + Sync, G: Gate>(
     rt: &R,
     alloc: Global,

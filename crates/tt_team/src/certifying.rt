@@ -5,7 +5,7 @@ ghost use Rattle.tt_proof.specs.declared.tree.TheConstants.{MOST_DEPTH};
 
 use crate::rounds::{Workers, count_visits};
 use std::thread::Threads;
-use tt_dfpn::{Advisor, Certifier, Finding, MOST_DFPN_WORKERS, SharedCertification};
+use tt_dfpn::{Advisor, Certifier, Finding, SharedCertification};
 use tt_game::{Line, Side};
 use tt_sgf::NoMemory;
 
@@ -55,7 +55,7 @@ impl<R: Threads + Sync> Workers<'_, R> {
         requires depth { depth ≤ MOST_DEPTH }
         ensures fewer { certifier.new.visits.left ≤ certifier.old.visits.left }
     {
-        let workers = self.count.min(MOST_DFPN_WORKERS) as u32;
+        let workers = self.workers();
         let share = certifier.visits.left / workers.saturating_add(1);
         let shared = SharedCertification::of(certifier, line, side, depth)?;
         let findings = self.run_workers(&shared, workers, share);

@@ -70,6 +70,11 @@ fn guessed_winner(findings: &[Finding<Guess>]) -> Result<Option<Side>, NoMemory>
 }
 
 impl<R: Threads + Sync> Workers<'_, R> {
+    /// How many workers search or certify together.
+    pub(crate) fn workers(&self) -> u32 {
+        self.count.min(MOST_DFPN_WORKERS) as u32
+    }
+
     /// What so many workers find within a share of visits each, in a thread of its own each where one can be made.
     pub(crate) fn run_workers<W: SharedWork + Sync>(
         &self,
@@ -133,13 +138,13 @@ impl<R: Threads + Sync> Workers<'_, R> {
         if alone.is_some() {
             return Ok(alone);
         }
-        let finders = self.count.min(MOST_DFPN_WORKERS) as u32;
+        let workers = self.workers();
         let mut most = FIRST_ROUND_VISITS;
         for _ in 0..MOST_ROUNDS {
             if visits.left == 0 {
                 break;
             }
-            let winner = self.search_round(line, advisor, finders, most, visits)?;
+            let winner = self.search_round(line, advisor, workers, most, visits)?;
             if winner.is_some() {
                 return Ok(winner);
             }

@@ -14,20 +14,19 @@ use tt_game::Line;
 use tt_proof::{BoardSet, Footprint, Proof, footprint_of, read_cert};
 use tt_sgf::Size;
 
-/// Whether these boards are held, and no others.
-fn shows(kept: &BoardSet, boards: &[Board]) -> bool {
+/// The set of these boards.
+fn set_of(alloc: Global, boards: &[Board]) -> Option<BoardSet> {
+    let mut made = BoardSet::new(alloc);
     for board in boards {
-        if !kept.has(board) {
-            return false;
-        }
+        made.add(alloc, board).ok()?;
     }
-    kept.all_among(boards)
+    Some(made)
 }
 
 /// Whether the boards that the text draws are held, and no others.
 fn are_drawn(alloc: Global, kept: &BoardSet, size: Size, text: &[u8]) -> Option<bool> {
-    let boards = boards_of(alloc, size, text)?;
-    Some(shows(kept, &boards))
+    let drawn = set_of(alloc, &boards_of(alloc, size, text)?)?;
+    Some(kept.has_same_as(&drawn))
 }
 
 /// Whether the footprint is that of the boards which the texts draw.
@@ -59,7 +58,10 @@ fn has_any(kept: &BoardSet, boards: &[Board]) -> bool {
 fn fits_so(alloc: Global, found: &Footprint, size: Size, text: &[u8]) -> Option<bool> {
     let (sign, drawn) = text.split_first()?;
     let history = boards_of(alloc, size, drawn)?;
-    let fits = found.needs.all_among(&history) && !has_any(&found.avoids, &history);
+    let all = set_of(alloc, &history)?;
+    let mut with_needs = all.try_clone(alloc).ok()?;
+    with_needs.join(found.needs.try_clone(alloc).ok()?).ok()?;
+    let fits = with_needs.has_same_as(&all) && !has_any(&found.avoids, &history);
     Some(fits == (*sign == b'+'))
 }
 

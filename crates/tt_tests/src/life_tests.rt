@@ -5,9 +5,9 @@ use crate::rows::{Table, cut, holding};
 use std::alloc::Global;
 use tt_life::has_unconditional_life;
 
-/// Whether the targets of a problem are unconditionally alive, and the problem. The first has two eyes by the rule that a chain touches each
-/// empty point of an eye; then come an eye with a stone of the attacker, eyes that two chains share, a liberty outside the region, the same
-/// liberty within, and one eye too few.
+/// Whether the targets of a problem are unconditionally alive, and the problem. The first has two eyes by the rule that a chain touches
+/// each empty point of an eye; then come an eye with a stone of the attacker, eyes that two chains share, a liberty outside the region,
+/// the same liberty within, and one eye too few.
 const LIVES: &str = "\
 0|(;SZ[5:1]AB[ca]AW[aa][ea]PL[W]TR[ca])
 1|(;SZ[5:1]AB[ba][da]PL[B]TR[da])

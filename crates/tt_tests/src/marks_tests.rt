@@ -38,8 +38,8 @@ const TAKEN_OUT: &str = "\
 3|13|..BW...WB......cWWWWWc......BBBcBBB......................................................................................................................................
 ";
 
-/// How many closings a diagram has, a stone of the group, the side of the board, and the board with `f` and `l` on the points of the first and
-/// the last of them, where these are known: the last is beside a stone of the group, and the first leaves it most room.
+/// How many closings a diagram has, a stone of the group, the side of the board, and the board with `f` and `l` on the points of the
+/// first and the last of them, where these are known: the last is beside a stone of the group, and the first leaves it most room.
 const CLOSINGS: &str = "\
 3|17|13|....l.f......WWWWWB.......BBBBB..........................................................................................................................................
 9|16|13|..W.............WB..........WWWB........BBB..............................................................................................................................

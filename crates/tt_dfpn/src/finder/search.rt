@@ -364,13 +364,13 @@ impl Finder {
     }
 
     /// The attacker's play that takes the first target's chain at once.
-    pub(crate) fn first_target_capture(&self, attacker: Colour) -> Option<u16> {
+    pub(crate) fn first_target_capture(&self) -> Option<u16> {
         let target = *self.region.targets.first()?;
         let p = self.board.only_liberty(target)?;
         if !self.region.inside[index(p)] {
             return None;
         }
-        let effect = self.board.preview_play(attacker, p);
+        let effect = self.board.preview_play(self.region.defender.other(), p);
         if effect.takes_target && !effect.is_suicide && !self.board.history().has(effect.hash) {
             return Some(p);
         }
@@ -435,7 +435,7 @@ impl Finder {
     /// Lists the turns of a colour, without the attacker's pass, unless one wins at once.
     pub(crate) fn list_turns(&mut self, mover: Colour, list: &mut Vec<Child>) -> Listed {
         let attacks = mover != self.region.defender;
-        let capture = self.first_target_capture(self.region.defender.other());
+        let capture = self.first_target_capture();
         if let Some(p) = capture {
             if attacks {
                 return Listed::Win(SearchTurn::Play(p));

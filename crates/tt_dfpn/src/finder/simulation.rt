@@ -132,7 +132,7 @@ impl Finder {
     fn turn_of_twin(&self, mover: Colour, twin: u64) -> Option<(SearchTurn, bool)> {
         let attacks = mover != self.region.defender;
         if attacks {
-            if let Some(p) = self.first_target_capture(mover) {
+            if let Some(p) = self.first_target_capture() {
                 return Some((SearchTurn::Play(p), true));
             }
         }

@@ -115,19 +115,23 @@ impl<'a> SharedSearch<'a> {
         self.table.set_ended(true);
     }
 
-    /// An advisor over the table, with the finder of the worker of a number.
-    pub(crate) fn advisor(&self, worker: u32) -> Result<Advisor, NoMemory> {
+    /// The finder of the worker of a number, over the table.
+    fn finder(&self, worker: u32) -> Result<Finder, NoMemory> {
         let mut finder = Finder::of_worker(self.alloc, self.line, &self.table, &self.wins, worker)?;
         finder.prunes = self.prunes;
-        Ok(Advisor::of_finder(finder, self.visited))
+        Ok(finder)
+    }
+
+    /// An advisor with the finder of the worker of a number.
+    pub(crate) fn advisor(&self, worker: u32) -> Result<Advisor, NoMemory> {
+        Ok(Advisor::of_finder(self.finder(worker)?, self.visited))
     }
 
     /// What the finder of the worker of a number says. One that knows who wins ends the searches of all.
     fn search(&self, worker: u32, visits: &mut VisitsLeft) -> Result<Guess, NoMemory>
         ensures fewer { visits.new.left ≤ visits.old.left }
     {
-        let mut finder = Finder::of_worker(self.alloc, self.line, &self.table, &self.wins, worker)?;
-        finder.prunes = self.prunes;
+        let mut finder = self.finder(worker)?;
         let mover = self.line.to_move();
         let colour = finder.colour_of_side(mover);
         let numbers = finder.search_from_board(colour, u32::MAX, visits);

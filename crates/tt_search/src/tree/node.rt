@@ -18,9 +18,9 @@ pub(crate) struct Node {
     pub(crate) node_state: NodeState,
 }
 
-/// What a node has become. An expanded node in a large region, where nobody has won behind any turn and none has been tried, has its mover and
-/// the points of its plays. An expanded node that has offered its proof is of its own kind: it has its mover, its
-/// children, and the proof, so that the nodes above take its tree from there.
+/// What a node has become. An expanded node in a large region, where nobody has won behind any turn and none has been tried, has its
+/// mover and the points of its plays. An expanded node that has offered its proof is of its own kind: it has its mover, its children, and
+/// the proof, so that the nodes above take its tree from there.
 #[cycle(node)]
 #[derive(Drop)]
 pub(crate) enum NodeState {

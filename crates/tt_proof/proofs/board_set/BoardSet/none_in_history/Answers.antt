@@ -1,6 +1,7 @@
 use Rattle.std.proofs.Common.{rules, ◌≡◌, ◌<◌, ◌≤◌, length, get_or, sym, subst, ap, ◌∙◌, arith}
 use Rattle.std.proofs.lemmas.Bool.{false≢true}
 use Rattle.tt_game.specs.Line.{HasBoardInHistory}
+use Rattle.tt_proof.proofs.RisingLemmas.{in_history, of_history}
 use Rattle.tt_proof.proofs.SharedLemmas.{shown_at, one_more_place, stands_in}
 use Rattle.tt_proof.proofs.board_set.BoardSet.none_in_history.Goals as goal
 
@@ -39,3 +40,11 @@ returns c =
       λ yes b m k. let lt = m.1 in c.loop-held.invariant m.0 b (omega (arith, lt, all, long)) (subst (λ x. HasBoardInHistory line.frame line.state x) (sym m.2) k),
       λ h. search rules,
     )
+
+pub returns-then-boards-len : goal.returns-then-boards-len
+returns-then-boards-len c =
+    let line = c.args.line.now in
+    let found = c.has_none_of.ensures in
+    let there = in_history line.frame line.state c.history-boards.result.now c.history-boards.ensures.colourings c.history-boards.ensures.sizes in
+    let back = of_history line.frame line.state c.history-boards.result.now c.history-boards.ensures.colourings c.history-boards.ensures.sizes in
+    (λ y b m h. found.0 y b m (there b h), λ n. found.1 (λ b m h. n b m (back b h)))

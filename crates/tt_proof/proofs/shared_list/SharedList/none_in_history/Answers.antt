@@ -7,4 +7,4 @@ pub returns-in-Some : goal.returns-in-Some
 returns-in-Some c =
     let line = c.args.line.now in
     let is : c.deref.result.now ≡ c.args.self.now = search rules in
-    subst (λ (xs : List Position). IsTrue c.has_none_of_history.result ↔ ((b : Position) → Contains xs b → HasBoardInHistory line.frame line.state b → ⊥)) is c.has_none_of_history.ensures
+    subst (λ (xs : List Position). IsTrue c.none_in_history.result ↔ ((b : Position) → Contains xs b → HasBoardInHistory line.frame line.state b → ⊥)) is c.none_in_history.ensures
