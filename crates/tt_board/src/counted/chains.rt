@@ -147,9 +147,9 @@ impl Chains {
         made
     }
 
-    /// What four names tell of a play of `colour` on the empty point `p`, where no chain of the opponent's has `p` as its one liberty. It
-    /// takes no stone off where the stone has a liberty or joins a chain that has another one, and it is a suicide of one stone where the
-    /// opponent's stones are all that is beside `p`.
+    /// What four names tell of a play of `colour` on the empty point `p`, where no chain of the opponent's has `p` as its one liberty.
+    /// It takes no stone off where the stone has a liberty or joins a chain that has another one, and it is a suicide of one stone where the opponent's
+    /// stones are all that is beside `p`.
     #[inline(always)]
     pub(crate) fn play_kind(&self, colour: Colour, p: usize) -> PlayKind
         requires on_board { p < point_count self.now.size }

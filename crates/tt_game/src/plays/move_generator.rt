@@ -12,8 +12,8 @@ use tt_board::{Colour, PlayKind};
 use tt_sgf::{BITS, Bits, Point};
 
 /// The colour that moves, the empty points of the region, some of them where its play takes nothing off, some of these where it also
-/// makes a new colouring, where stones of that colour have stood so far, and what the words of the present board make, where hashes by it
-/// tell new colourings.
+/// makes a new colouring, where stones of that colour have stood so far, and what the words of the present board make, where hashes by it tell new
+/// colourings.
 #[derive(Clone, Copy)]
 pub(crate) struct MoveGenerator {
     colour: Colour,
@@ -126,8 +126,8 @@ impl Line {
     }
 
     /// What is foretold of a play of the side to move on an empty point, by the points beside it and by the stones that stood there, and
-    /// what is known by the points beside it alone. It captures nothing where it takes nothing off and makes a colouring that hasn't
-    /// been, and is a suicide of one stone where its colouring is the present one.
+    /// what is known by the points beside it alone. It captures nothing where it takes nothing off and makes a colouring that hasn't been, and is
+    /// a suicide of one stone where its colouring is the present one.
     fn foretold_and_local_kind(&self, moves: &MoveGenerator, p: Point) -> (PlayKind, PlayKind)
         requires moves { IsMoveGenerator moves.now self.now.frame self.now.state }
         requires on_board { p < point_count self.now.frame.size }
