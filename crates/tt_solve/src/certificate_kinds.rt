@@ -1,12 +1,17 @@
-//! The solution that a proof at a line is, with a certificate of the kind that is asked for.
-ghost use Rattle.std.specs.Prelude.{◌≡◌, ◌≤◌, IfOk, None};
+//! The solution that a proof at a line is, with a certificate of the kind that is asked for, whichever engine found the proof.
+ghost use Rattle.std.specs.Prelude.{◌≡◌, ◌≢◌, ◌≤◌, ℕ, IfOk, IfSome, None};
 ghost use Rattle.tt_game.specs.Game.{winner_of};
 ghost use Rattle.tt_game.specs.GameLaws.{IsWellFormedState};
+ghost use Rattle.tt_game.specs.Line.{LineWithUndo};
 ghost use Rattle.tt_proof.specs.declared.tree.TheConstants.{MOST_DEPTH};
 ghost use Rattle.tt_proof.specs.CertificateText.{certificate_text};
 ghost use Rattle.tt_proof.specs.ProofClaim.{IsWinningTree, StandsAt, first_turn_of};
 ghost use Rattle.tt_parts.specs.SharedWins.{IsWinningSharedCertificate};
+ghost use Rattle.tt_proof.specs.Strategy as strategy;
 ghost use Rattle.tt_proof.specs.Strategy.{depth};
+ghost use Rattle.tt_search.specs.declared.limits.Limits.{Limits};
+ghost use Rattle.tt_solve.specs.declared.options.CertKind.{CertKind};
+ghost use Rattle.tt_solve.specs.inside.Lengths.{IsCertificateWithin};
 ghost use Rattle.tt_solve.specs.Solutions.{IsCertificateAsked, IsDecided};
 
 use crate::options::{CertKind, Options};
@@ -14,7 +19,7 @@ use crate::solution::Solution;
 use std::alloc::Global;
 use tt_game::Line;
 use tt_parts::write_shared_cert;
-use tt_proof::{Proof, write_cert};
+use tt_proof::{LifeProof, Proof, write_cert};
 use tt_search::Limits;
 use tt_sgf::{ItemList, NoMemory};
 
@@ -104,4 +109,105 @@ pub(crate) fn solution_of_proof(
         first,
         certificate,
     })
+}
+
+/// The solution by a proof that ends at wins, where its certificate takes at most so many bytes. None where there is no proof.
+pub(crate) fn plain_solution(
+    alloc: Global,
+    line: &Line,
+    options: Options,
+    proof: Option<Proof>,
+    most_bytes: usize,
+) -> Result<Option<Solution>, NoMemory>
+    requires open { winner_of line.now.frame line.now.state ≡ None }
+    requires state { IsWellFormedState line.now.frame line.now.state }
+    requires stands { IfSome proof (λ p. StandsAt p line.now.frame line.now.state) }
+    requires shallow { IfSome proof (λ p. strategy.depth p.tree ≤ options.limits.depth) }
+    ensures decided { IfOk result (λ o. IfSome o (IsDecided line.now options.limits options.cert)) }
+    ensures within { IfOk result (λ o. IfSome o (IsCertificateWithin most_bytes)) }
+{
+    let Some(proof) = proof else {
+        return Ok(None);
+    };
+    // each node takes a byte or more
+    if proof.nodes() > most_bytes as u64 {
+        return Ok(None);
+    }
+    let solution = solution_of_proof(alloc, line, options, &proof)?;
+    if solution.has_certificate_within(most_bytes) {
+        Ok(Some(solution))
+    } else {
+        Ok(None)
+    }
+}
+
+/// The solution that a proof at the line is whose tree may end at life, without a certificate.
+fn bare_solution(proof: &LifeProof) -> Solution
+    ensures decided { (line : LineWithUndo) (limits : Limits) → winner_of line.frame line.state ≡ None
+        → IsWellFormedState line.frame line.state
+        → StandsAt proof.now line.frame line.state → IsDecided line limits CertKind.Unasked result }
+    ensures within { (most : ℕ) → IsCertificateWithin most result }
+{
+    let side = proof.side();
+    let first = proof.first();
+    Solution::Settled {
+        side,
+        first,
+        certificate: None,
+    }
+}
+
+/// The same, with a certificate with shared parts of at most so many bytes, where one is found.
+fn shared_solution(
+    alloc: Global,
+    line: &Line,
+    limits: &Limits,
+    proof: &LifeProof,
+    most_bytes: usize,
+) -> Result<Option<Solution>, NoMemory>
+    requires open { winner_of line.now.frame line.now.state ≡ None }
+    requires state { IsWellFormedState line.now.frame line.now.state }
+    requires stands { StandsAt proof.now line.now.frame line.now.state }
+    ensures decided { IfOk result (λ o. IfSome o (IsDecided line.now limits.now CertKind.Shared)) }
+    ensures within { IfOk result (λ o. IfSome o (IsCertificateWithin most_bytes)) }
+{
+    let side = proof.side();
+    let tree = proof.tree();
+    let depth = limits.depth();
+    let Some(text) = write_shared_cert(alloc, side, tree, line, depth, most_bytes)? else {
+        return Ok(None);
+    };
+    let first = proof.first();
+    Ok(Some(Solution::Settled {
+        side,
+        first,
+        certificate: Some(ItemList::from_vec(text)),
+    }))
+}
+
+/// The solution by a proof whose tree may end at life, with the certificate that is asked for, where that takes at most so many bytes. None
+/// where there is no proof.
+pub(crate) fn life_solution(
+    alloc: Global,
+    line: &Line,
+    options: Options,
+    proof: Option<LifeProof>,
+    most_bytes: usize,
+) -> Result<Option<Solution>, NoMemory>
+    requires open { winner_of line.now.frame line.now.state ≡ None }
+    requires state { IsWellFormedState line.now.frame line.now.state }
+    requires kind { options.cert ≢ CertKind.Plain }
+    requires stands { IfSome proof (λ p. StandsAt p line.now.frame line.now.state) }
+    ensures decided { IfOk result (λ o. IfSome o (IsDecided line.now options.limits options.cert)) }
+    ensures within { IfOk result (λ o. IfSome o (IsCertificateWithin most_bytes)) }
+{
+    let limits = options.limits;
+    let Some(proof) = proof else {
+        return Ok(None);
+    };
+    if options.cert == CertKind::Unasked {
+        Ok(Some(bare_solution(&proof)))
+    } else {
+        shared_solution(alloc, line, &limits, &proof, most_bytes)
+    }
 }

@@ -4,7 +4,7 @@ use Rattle.tt_parts.specs.SharedWins.{IsWinningSharedCertificate}
 use Rattle.tt_solve.specs.declared.options.CertKind.TheVariants.{Shared}
 use Rattle.tt_solve.proofs.ProofCertificates.{shared_asked}
 use Rattle.tt_solve.proofs.ProofSolutions.{decided}
-use Rattle.tt_solve.proofs.dfpn.shared_solution.Goals as goal
+use Rattle.tt_solve.proofs.certificate_kinds.shared_solution.Goals as goal
 
 pub returns-clause-decided : goal.returns-clause-decided
 returns-clause-decided c =

@@ -1,7 +1,7 @@
 use Rattle.std.proofs.Common.{None}
 use Rattle.tt_solve.specs.declared.options.CertKind.TheVariants.{Unasked}
 use Rattle.tt_solve.proofs.ProofSolutions.{decided}
-use Rattle.tt_solve.proofs.dfpn.bare_solution.Goals as goal
+use Rattle.tt_solve.proofs.certificate_kinds.bare_solution.Goals as goal
 
 pub returns-clause-decided : goal.returns-clause-decided
 returns-clause-decided c = λ line limits nobody formed at.

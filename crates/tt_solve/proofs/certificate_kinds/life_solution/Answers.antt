@@ -1,5 +1,5 @@
 use Rattle.std.proofs.Common.{rules}
-use Rattle.tt_solve.proofs.dfpn.life_solution.Goals as goal
+use Rattle.tt_solve.proofs.certificate_kinds.life_solution.Goals as goal
 
 pub returns-then-eq-clause-decided : goal.returns-then-eq-clause-decided
 returns-then-eq-clause-decided c =
