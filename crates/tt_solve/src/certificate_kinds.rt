@@ -58,8 +58,7 @@ fn shared_certificate(
     if let Some(text) = found {
         return Ok(text);
     }
-    let text = plain_certificate(alloc, proof, line)?;
-    Ok(text)
+    plain_certificate(alloc, proof, line)
 }
 
 /// The certificate of a proof at the line, of the kind that is asked for.
