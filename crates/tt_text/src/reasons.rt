@@ -1,4 +1,6 @@
-//! The words of each refusal: they stand where its fault is found.
+//! The words of each refusal. They stand where its fault is declared: of an input in `tt_sgf`, of a main line in `tt_game`, of a
+//! certificate in `tt_proof`. Number and words of a shared part that doesn't fit stand here: its replay in `tt_parts` answers none, and no
+//! fault.
 
 ghost use Rattle.std.specs.Prelude.{◌≢◌, []};
 ghost use Rattle.tt_text.specs.Reasons.{IsRefusalNumber};
@@ -8,7 +10,7 @@ use tt_proof::CertFault;
 use tt_sgf::SgfFault;
 
 /// The number of the refusal of a certificate with a shared part that doesn't fit.
-pub(crate) const UNFIT_PART: u8 = 32;
+pub const UNFIT_PART: u8 = 32;
 
 /// Why an input, a main line or a certificate is refused with this number, in English words. No newline ends them. Empty where no
 /// refusal has the number.
