@@ -93,7 +93,7 @@ abbrev pub AreTurnValuesAsked : LineWithUndo → Limits → Option ℕ → Bool 
 AreTurnValuesAsked p limits total false values = values ≡ []
 AreTurnValuesAsked p limits total true values = (left : Option ℕ) × AreTurnValues p limits total left (legal_turns p.frame p.state) values
 
--- the problem is solved, and its turns have what it left of the total; workers and df-pn have no part in it
+-- the problem is solved, and its turns have what it left of the total; which engine found it, and how many workers it had, has no part in it
 abbrev pub IsSolved : Options → LineWithUndo → Solved → Type 0
 IsSolved options p s = (granted : ℕ) × HoldsByGrants p options.limits (λ n. IsSolution p options.limits n options.cert s.solution) options.total granted
     × AreTurnValuesAsked p options.limits (total_left options.total granted) options.turns s.turn_values.items

@@ -84,6 +84,6 @@ abbrev pub SolvesProblemAs : Options → Result LineWithUndo GameFault → TreeO
 SolvesProblemAs options (Ok p) o = (s : Solved) × (o ≡ Answered (value_of s.solution) (answer_text p.frame.size s)) × IsSolved options p s
 SolvesProblemAs options (Err e) o = o ≡ Refused (code_of e)
 
--- what `solve` makes of a main line; workers and df-pn have no part in it
+-- what `solve` makes of a main line; which engine found it, and how many workers it had, has no part in it
 abbrev pub Solves : Options → List Node → TreeOutcome → Type 0
 Solves options nodes o = SolvesProblemAs options (problem_of nodes) o
