@@ -4,7 +4,7 @@
 //! |---|---|
 //! | `options` | how problems are solved |
 //! | `solution` | what solving a problem gives |
-//! | `solving` | `solve`: the problem, and then the position behind each legal turn where these are asked for, within one total; `solve_alone`, without threads |
+//! | `solving` | `solve`: the problem, and each position after a legal turn if asked for, within one total; `solve_alone` without threads |
 //! | `dfpn` | the solution that df-pn finds, first: in the caller's thread, or by workers |
 //! | `searches` | the search that comes next: in the caller's thread, or by workers |
 //! | `certificate_kinds` | the solution that a proof is, with a certificate of the kind that is asked for |

@@ -66,8 +66,8 @@ struct Solver<'a, X> {
 }
 
 impl<X: Threads + Wait + Sync> Solver<'_, X> {
-    /// Solves the problem at a line within what is left of the total: by df-pn, where it is asked for, or else by a search, both by workers;
-    /// and what is left then. The total of the options isn't read.
+    /// Solves the problem at a line within what is left of the total: by df-pn, where it is asked for, or else by a search, both by
+    /// workers; and what is left then. The total of the options isn't read.
     fn solve_line<G: Gate>(
         &self,
         line: &Line,
