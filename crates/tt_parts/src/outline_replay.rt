@@ -387,9 +387,9 @@ fn answer_of_result(found: &ReplayResult) -> Option<bool>
     }
 }
 
-/// Whether the outline's tree wins for the side from the line's state, where it may end at life; none exactly where a part doesn't fit the history where it
-/// stands in for its tree. Each part is played once. The outline's turns are in order. The line stands as before, also after want of
-/// memory.
+/// Whether the outline's tree wins for the side from the line's state, where it may end at life; none exactly where a part doesn't fit
+/// the history where it stands in for its tree. Each part is played once. The outline's turns are in order. The line stands as before,
+/// also after want of memory.
 pub fn replay_shared_cert(
     alloc: Global,
     o: &Outline,

@@ -69,9 +69,9 @@ fn draft_text(
     Ok(Some(text))
 }
 
-/// A certificate with shared parts of a tree that wins for the side at the line, or ends at life, is at most so deep and begins as this one does,
-/// where that takes at most so many bytes. A tree whose position comes again is written once where it wins there too, whatever
-/// tree this one has there. The depth is at most 512, the points lie on the board, and the turns of each reply rise.
+/// A certificate with shared parts of a tree that wins for the side at the line, or ends at life, is at most so deep and begins as this
+/// one does, where that takes at most so many bytes. A tree whose position comes again is written once where it wins there too,
+/// whatever tree this one has there. The depth is at most 512, the points lie on the board, and the turns of each reply rise.
 pub fn write_shared_cert(
     alloc: Global,
     s: Side,
