@@ -14,7 +14,7 @@ use Rattle.tt_board.specs.Play.{is_empty, other}
 use Rattle.tt_board.specs.Setup.{AllHaveLiberties}
 use Rattle.tt_board.specs.Reach.{entry_at}
 use Rattle.tt_board.specs.Stones.{IsSetOnBoard, PointNumberSet}
-use Rattle.tt_marks.specs.declared.gaps.Closing.{Closing}
+use Rattle.tt_marks.specs.declared.closing_stones.Closing.{Closing}
 use Rattle.tt_marks.specs.Walls.{IsClosed, IsInner, IsOfInnerGroup, IsRegion, IsWalledIn, IsWholeWall, empty_set}
 use Rattle.tt_marks.specs.Closings.{AreClosings, AreEmptyPoints, AreEnclosing, ClosesWall, EnclosesAlone, with_stones}
 use Rattle.tt_marks.proofs.SetLemmas.{has_passing, passing_below}

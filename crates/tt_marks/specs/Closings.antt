@@ -10,7 +10,7 @@ use Rattle.tt_board.specs.Position.{Colouring}
 use Rattle.tt_board.specs.Reach.{entry_at}
 use Rattle.tt_board.specs.Setup.{AllHaveLiberties, placed}
 use Rattle.tt_board.specs.Stones.{IsSetOnBoard, PointNumberSet}
-use Rattle.tt_marks.specs.declared.gaps.Closing.{Closing}
+use Rattle.tt_marks.specs.declared.closing_stones.Closing.{Closing}
 use Rattle.tt_marks.specs.Walls.{IsClosed, IsInner, IsOfInnerGroup, IsRegion, IsWalledIn, IsWholeWall}
 
 -- the colouring with stones of colour k added on these points

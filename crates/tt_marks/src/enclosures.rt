@@ -1,4 +1,5 @@
-//! Looks for stones that close the wall around a group, all in bits. No contract says what is found: `gaps` sees whether it closes the wall.
+//! Looks for stones that close the wall around a group, all in bits. No contract says what is found: `closing_stones` sees whether it
+//! closes the wall.
 
 use crate::regions::is_fit_count;
 use crate::ways::{Ways, count, has_none};
@@ -10,7 +11,7 @@ pub const MOST_STONES: usize = 3;
 
 /// Stones that close the wall, and the region of the group once they stand.
 #[derive(Clone, Copy)]
-pub(crate) struct Gap {
+pub(crate) struct Enclosure {
     pub stones: Bits,
     pub region: Bits,
 }
@@ -20,29 +21,29 @@ fn is_listed(sets: &[Bits], points: &Bits) -> bool {
     sets.iter().any(|other| other.same(points))
 }
 
-/// A search for gaps.
+/// A search for enclosures.
 #[derive(Drop)]
-struct GapSearch<'a> {
+struct EnclosureSearch<'a> {
     ways: &'a Ways,
     /// Stones that close the wall, whether they are all needed or not.
     known: Vec<Bits>,
     /// Stones that don't wall the group in.
     open: Vec<Bits>,
-    found: Vec<Gap>,
+    found: Vec<Enclosure>,
 }
 
-impl GapSearch<'_> {
-    /// The stones of a gap without the first one that isn't needed: the others wall the group in.
-    fn without_unneeded(&mut self, gap: &Gap) -> Result<Option<Bits>, NoMemory> {
-        let inside = gap.region.or(&self.ways.group);
-        let mut rest = gap.stones;
+impl EnclosureSearch<'_> {
+    /// The stones of an enclosure without the first one that isn't needed: the others wall the group in.
+    fn without_unneeded(&mut self, enclosure: &Enclosure) -> Result<Option<Bits>, NoMemory> {
+        let inside = enclosure.region.or(&self.ways.group);
+        let mut rest = enclosure.stones;
         for _stone in 0..MOST_STONES {
             let p = rest.first_from(0);
             if p == BITS {
                 break;
             }
             rest.clear_bit(p);
-            let mut others = gap.stones;
+            let mut others = enclosure.stones;
             others.clear_bit(p);
             if !is_listed(self.open.as_slice(), &others) {
                 if self
@@ -69,11 +70,11 @@ impl GapSearch<'_> {
                 return Ok(());
             };
             self.known.push(stones)?;
-            let gap = Gap { stones, region };
-            match self.without_unneeded(&gap)? {
+            let enclosure = Enclosure { stones, region };
+            match self.without_unneeded(&enclosure)? {
                 Some(others) => stones = others,
                 None => {
-                    self.found.push(gap)?;
+                    self.found.push(enclosure)?;
                     return Ok(());
                 }
             }
@@ -136,17 +137,17 @@ impl Ways {
         }
     }
 
-    /// The place of a gap among others: first by the count of its stones, then by how many of these are beside one of the group's colour,
-    /// then the more points the region has, the lower.
-    fn rank(&self, gap: &Gap) -> (usize, usize, usize) {
-        let beside = self.grid.neighbours(&self.own()).and(&gap.stones);
-        let room = BITS.saturating_sub(count(&gap.region));
-        (count(&gap.stones), count(&beside), room)
+    /// The place of an enclosure among others: first by the count of its stones, then by how many of these are beside one of the group's
+    /// colour, then the more points the region has, the lower.
+    fn rank(&self, enclosure: &Enclosure) -> (usize, usize, usize) {
+        let beside = self.grid.neighbours(&self.own()).and(&enclosure.stones);
+        let room = BITS.saturating_sub(count(&enclosure.region));
+        (count(&enclosure.stones), count(&beside), room)
     }
 
-    /// The gaps that these sets of stones close or, where some of these aren't needed, fewer. The best come first.
-    fn gaps_among(&self, alloc: Global, sets: &[Bits]) -> Result<Vec<Gap>, NoMemory> {
-        let mut search = GapSearch {
+    /// The enclosures by these sets of stones or, where some of these aren't needed, by fewer. The best come first.
+    fn enclosures_among(&self, alloc: Global, sets: &[Bits]) -> Result<Vec<Enclosure>, NoMemory> {
+        let mut search = EnclosureSearch {
             ways: self,
             known: Vec::new(alloc),
             open: Vec::new(alloc),
@@ -156,49 +157,53 @@ impl Ways {
             search.add(stones)?;
         }
         let mut found = search.found;
-        found.sort_by_key(|gap| self.rank(gap))?;
+        found.sort_by_key(|enclosure| self.rank(enclosure))?;
         Ok(found)
     }
 
-    /// The gaps with so many stones or, where some of these aren't needed, with fewer, that shut all ways to what is far. The best come
+    /// The enclosures by so many stones that shut all ways to what is far or, where some of these aren't needed, by fewer. The best come
     /// first.
-    pub(crate) fn gaps_by(&self, alloc: Global, stones: usize) -> Result<Vec<Gap>, NoMemory> {
+    pub(crate) fn enclosures_by(
+        &self,
+        alloc: Global,
+        stones: usize,
+    ) -> Result<Vec<Enclosure>, NoMemory> {
         let mut shutting = Vec::new(alloc);
         let way = self.shortest(&Bits::none());
         self.list_shutting(&Bits::none(), stones, &way, &mut shutting)?;
-        self.gaps_among(alloc, shutting.as_slice())
+        self.enclosures_among(alloc, shutting.as_slice())
     }
 
-    /// The gaps with one stone, on any empty point. The best come first.
-    fn gaps_by_one(&self, alloc: Global) -> Result<Vec<Gap>, NoMemory> {
+    /// The enclosures by one stone, on any empty point. The best come first.
+    fn enclosures_by_one(&self, alloc: Global) -> Result<Vec<Enclosure>, NoMemory> {
         let mut stones = Vec::new(alloc);
         self.list_with_each(&Bits::none(), &self.empty, &mut stones)?;
-        self.gaps_among(alloc, stones.as_slice())
+        self.enclosures_among(alloc, stones.as_slice())
     }
 
     /// Whether fewer stones than these close the wall.
     pub(crate) fn do_fewer_close(&self, alloc: Global, stones: usize) -> Result<bool, NoMemory> {
-        if 1 < stones && !self.gaps_by_one(alloc)?.is_empty() {
+        if 1 < stones && !self.enclosures_by_one(alloc)?.is_empty() {
             return Ok(true);
         }
         for fewer in 2..stones {
-            if !self.gaps_by(alloc, fewer)?.is_empty() {
+            if !self.enclosures_by(alloc, fewer)?.is_empty() {
                 return Ok(true);
             }
         }
         Ok(false)
     }
 
-    /// The gaps with the fewest stones, at most `MOST_STONES`. The best come first. Where what is far is within the wall too, one stone may
-    /// close it that doesn't shut the ways there: so each is tried before several are.
-    pub(crate) fn fewest_gaps(&self, alloc: Global) -> Result<Vec<Gap>, NoMemory> {
-        let found = self.gaps_by_one(alloc)?;
+    /// The enclosures by the fewest stones, at most `MOST_STONES`. The best come first. Where what is far is within the wall too, one
+    /// stone may close it that doesn't shut the ways there: so each is tried before several are.
+    pub(crate) fn fewest_enclosures(&self, alloc: Global) -> Result<Vec<Enclosure>, NoMemory> {
+        let found = self.enclosures_by_one(alloc)?;
         if !found.is_empty() {
             return Ok(found);
         }
         let fewest = self.separate(&Bits::none(), MOST_STONES + 1);
         for stones in fewest.max(2)..=MOST_STONES {
-            let found = self.gaps_by(alloc, stones)?;
+            let found = self.enclosures_by(alloc, stones)?;
             if !found.is_empty() {
                 return Ok(found);
             }

@@ -8,16 +8,16 @@
 //! | `regions` | the region within a wall, whether it is closed, and inner |
 //! | `ways` | the ways that lead from a group to what is far |
 //! | `enclosures` | the stones that seem to close a wall, the best first |
-//! | `gaps` | those that close it |
+//! | `closing_stones` | those that close it |
 //! | `danger` | the stones of a wall that plays in a region may take |
 //! | `proposals` | the group that is meant where nobody names one |
 //! | `laws` | no path that avoids the wall leads out, plays within take none of its stones, and a region lacks none of its liberties |
 #![tactic(auto)]
 
+mod closing_stones;
 mod danger;
 mod enclosures;
 mod filling;
-mod gaps;
 pub mod laws;
 mod point_sets;
 mod proposals;
@@ -25,9 +25,9 @@ mod regions;
 mod walls;
 mod ways;
 
+pub use closing_stones::{Closing, board_with_stones, closings};
 pub use danger::{stones_in_danger, wall_in_danger};
 pub use enclosures::MOST_STONES;
-pub use gaps::{Closing, board_with_stones, closings};
 pub use point_sets::{chains, points_beside, stones_of_colour};
 pub use proposals::{is_lone, proposed_stone};
 pub use regions::{

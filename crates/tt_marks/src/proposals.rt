@@ -145,8 +145,8 @@ fn open_candidate(
     if stones < ways.separate(&Bits::none(), stones.saturating_add(1)) {
         return Ok(None);
     }
-    let gaps = ways.gaps_by(alloc, stones)?;
-    let Some(best) = gaps.first() else {
+    let enclosures = ways.enclosures_by(alloc, stones)?;
+    let Some(best) = enclosures.first() else {
         return Ok(None);
     };
     if ways.do_fewer_close(alloc, stones)? {

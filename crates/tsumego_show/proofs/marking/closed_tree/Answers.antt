@@ -3,7 +3,7 @@ use Rattle.std.proofs.lemmas.List.Elements.{All-head}
 use Rattle.tt_board.specs.Play.{other}
 use Rattle.tt_board.specs.Reach.{entry_at}
 use Rattle.tt_game.specs.Line.{LineWithUndo}
-use Rattle.tt_marks.specs.declared.gaps.Closing.{Closing}
+use Rattle.tt_marks.specs.declared.closing_stones.Closing.{Closing}
 use Rattle.tt_marks.specs.Closings.{AreClosings, ClosesWall}
 use Rattle.tsumego_show.proofs.Marked.{marked_setup}
 use Rattle.tsumego_show.specs.Written.{IsGivenWithMore}

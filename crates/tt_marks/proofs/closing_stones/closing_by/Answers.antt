@@ -2,7 +2,7 @@ use Rattle.std.proofs.Common.{arith, subst, sym}
 use Rattle.tt_board.specs.Stones.{PointNumberSet}
 use Rattle.tt_marks.specs.Closings.{AreEmptyPoints, ClosesWall}
 use Rattle.tt_marks.proofs.ClosingLemmas.{closing_is, in_empty_set}
-use Rattle.tt_marks.proofs.gaps.closing_by.Goals as goal
+use Rattle.tt_marks.proofs.closing_stones.closing_by.Goals as goal
 
 pub returns : goal.returns
 returns c =

@@ -3,8 +3,8 @@ use Rattle.std.proofs.lemmas.Bool.{false≢true}
 use Rattle.std.specs.FinSet as set
 use Rattle.tt_marks.specs.Closings.{AreEnclosing}
 use Rattle.tt_marks.proofs.ClosingLemmas.{needed_more, without_one}
-use Rattle.tt_marks.proofs.gaps.are_needed.Goals as goal
-use Rattle.tt_marks.proofs.gaps.are_needed.Goals.{then-has+else-are_enclosing, else-has}
+use Rattle.tt_marks.proofs.closing_stones.are_needed.Goals as goal
+use Rattle.tt_marks.proofs.closing_stones.are_needed.Goals.{then-has+else-are_enclosing, else-has}
 
 pub loop-number-preserved : goal.loop-number-preserved
 loop-number-preserved c =

@@ -1,7 +1,7 @@
 use Rattle.std.proofs.Common.{rules, ◌≡◌}
 use Rattle.std.specs.FinSet as set
 use Rattle.tt_marks.proofs.ClosingLemmas.{enclosed_there}
-use Rattle.tt_marks.proofs.gaps.is_one_enough.Goals as goal
+use Rattle.tt_marks.proofs.closing_stones.is_one_enough.Goals as goal
 
 pub returns-in-Some : goal.returns-in-Some
 returns-in-Some c = λ h.

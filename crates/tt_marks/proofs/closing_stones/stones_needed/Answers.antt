@@ -4,8 +4,8 @@ use Rattle.std.specs.Option.{is_some}
 use Rattle.tt_sgf.specs.Sizes.{point_count}
 use Rattle.tt_marks.specs.Closings.{EnclosesAlone}
 use Rattle.tt_marks.proofs.ClosingLemmas.{none_more}
-use Rattle.tt_marks.proofs.gaps.stones_needed.Goals as goal
-use Rattle.tt_marks.proofs.gaps.stones_needed.Goals.{else-is_none-via-then-is_none+else-is_one_enough, else-is_none-via-else-is_none}
+use Rattle.tt_marks.proofs.closing_stones.stones_needed.Goals as goal
+use Rattle.tt_marks.proofs.closing_stones.stones_needed.Goals.{else-is_none-via-then-is_none+else-is_one_enough, else-is_none-via-else-is_none}
 
 pub loop-number-preserved : goal.loop-number-preserved
 loop-number-preserved c =

@@ -204,15 +204,18 @@ pub fn closings(
     requires stands { entry_at board.now.points stone ≡ Some colour }
     ensures { IfOk result (λ v. AreClosings board.now.size board.now.points colour stone v.items) }
 {
-    let gaps = Ways::of(board, colour, stone).fewest_gaps(alloc)?;
-    let most = if gaps.iter().any(|gap| 1 < count(&gap.stones)) {
+    let enclosures = Ways::of(board, colour, stone).fewest_enclosures(alloc)?;
+    let most = if enclosures
+        .iter()
+        .any(|enclosure| 1 < count(&enclosure.stones))
+    {
         stones_needed(board, colour, stone)
     } else {
         1
     };
     let mut found = Vec::new(alloc);
-    for gap in gaps.as_slice() {
-        let stones = set_of(board.size(), &gap.stones);
+    for enclosure in enclosures.as_slice() {
+        let stones = set_of(board.size(), &enclosure.stones);
         list_if_closing(board, colour, stone, &stones, most, &mut found)?;
     }
     Ok(found)

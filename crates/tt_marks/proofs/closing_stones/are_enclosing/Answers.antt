@@ -1,5 +1,5 @@
 use Rattle.tt_marks.proofs.ClosingLemmas.{walled_in_there}
-use Rattle.tt_marks.proofs.gaps.are_enclosing.Goals as goal
+use Rattle.tt_marks.proofs.closing_stones.are_enclosing.Goals as goal
 
 pub returns : goal.returns
 returns c = λ h.

@@ -1,7 +1,7 @@
 use Rattle.std.proofs.Common.{sym, subst}
 use Rattle.tt_marks.specs.Closings.{AreClosings}
 use Rattle.tt_marks.proofs.ClosingLemmas.{one_more}
-use Rattle.tt_marks.proofs.gaps.list_if_closing.Goals as goal
+use Rattle.tt_marks.proofs.closing_stones.list_if_closing.Goals as goal
 
 pub returns-in_err-push : goal.returns-in_err-push
 returns-in_err-push c = λ all.
