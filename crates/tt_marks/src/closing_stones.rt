@@ -8,10 +8,11 @@ ghost use Rattle.tt_board.specs.Reach.{entry_at};
 ghost use Rattle.tt_board.specs.Setup.{AllHaveLiberties};
 ghost use Rattle.tt_marks.specs.Closings.{AreClosings, AreEnclosing, ClosesWall, EnclosesAlone, HaveAsMany, with_stones};
 
+use crate::bit_sets::count;
 use crate::enclosures::MOST_STONES;
 use crate::proposals::is_of_inner_group;
 use crate::regions::{empties, is_inner, is_walled_in, region, set_of};
-use crate::ways::{Ways, count};
+use crate::ways::Ways;
 use std::alloc::Global;
 use tt_board::{Board, Colour};
 use tt_sgf::{NoMemory, Point, PointSet};

@@ -1,8 +1,9 @@
 //! Looks for stones that close the wall around a group, all in bits. No contract says what is found: `closing_stones` sees whether it
 //! closes the wall.
 
+use crate::bit_sets::{count, has_none};
 use crate::regions::is_fit_count;
-use crate::ways::{Ways, count, has_none};
+use crate::ways::Ways;
 use std::alloc::Global;
 use tt_sgf::{BITS, Bits, NoMemory};
 

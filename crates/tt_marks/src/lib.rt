@@ -6,6 +6,7 @@
 //! | `point_sets` | the stones and chains of a board, and the points beside others, as sets |
 //! | `walls` | the group of a stone, the whole wall around it, what is within |
 //! | `regions` | the region within a wall, whether it is closed, and inner |
+//! | `bit_sets` | whether a set of bits has no point, or how many |
 //! | `ways` | the ways that lead from a group to what is far |
 //! | `enclosures` | the stones that seem to close a wall, the best first |
 //! | `closing_stones` | those that close it |
@@ -14,6 +15,7 @@
 //! | `laws` | no path that avoids the wall leads out, plays within take none of its stones, and a region lacks none of its liberties |
 #![tactic(auto)]
 
+mod bit_sets;
 mod closing_stones;
 mod danger;
 mod enclosures;

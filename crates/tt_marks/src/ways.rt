@@ -3,6 +3,7 @@
 ghost use Rattle.std.specs.Prelude.{◌<◌};
 ghost use Rattle.tt_sgf.specs.Sizes.{point_count};
 
+use crate::bit_sets::{count, has_none};
 use crate::filling::Grid;
 use crate::regions::{MOST_ENCLOSED_POINTS, set_of};
 use crate::walls::group_bits;
@@ -29,20 +30,6 @@ pub(crate) struct Ways {
     pub others: Bits,
     pub group: Bits,
     far: Bits,
-}
-
-/// Whether a set has no point.
-pub(crate) fn has_none(points: &Bits) -> bool {
-    points.first_from(0) == BITS
-}
-
-/// How many points a set has.
-pub(crate) fn count(points: &Bits) -> usize {
-    let mut count: usize = 0;
-    for word in &points.words() {
-        count = count.saturating_add(word.count_ones() as usize);
-    }
-    count
 }
 
 /// The set of the point of this number, if it is one.
