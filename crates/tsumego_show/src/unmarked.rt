@@ -10,8 +10,8 @@ use std::alloc::Global;
 use std::io::Write;
 use tt_board::{Board, Colour};
 use tt_marks::{
-    Closing, MOST_ENCLOSED_POINTS, closings, is_walled_in, region, stones_of_colour,
-    wall_in_danger, ways_out,
+    Closing, FEWEST_ENCLOSED_POINTS, MOST_ENCLOSED_POINTS, closings, is_walled_in, region,
+    stones_of_colour, wall_in_danger, ways_out,
 };
 use tt_sgf::{Point, Size};
 
@@ -134,12 +134,12 @@ fn put_why_unmarked_chain(
         let count = region(board, colour, stone).points.count();
         return Ok(writeln!(
             out,
-            " is enclosed with {count}, not with 2 to {MOST_ENCLOSED_POINTS} points: mark it by hand"
+            " is enclosed with {count}, not with {FEWEST_ENCLOSED_POINTS} to {MOST_ENCLOSED_POINTS} points: mark it by hand"
         )?);
     }
     write!(
         out,
-        " is not enclosed with 2 to {MOST_ENCLOSED_POINTS} points: "
+        " is not enclosed with {FEWEST_ENCLOSED_POINTS} to {MOST_ENCLOSED_POINTS} points: "
     )?;
     put_how_to_go_on(alloc, out, board, colour, stone)
 }
@@ -216,7 +216,7 @@ pub fn put_why_no_group_enclosed(
     }
     write!(
         out,
-        "no group was found that is enclosed with 2 to {MOST_ENCLOSED_POINTS} points: close the wall, or name a stone of the group"
+        "no group was found that is enclosed with {FEWEST_ENCLOSED_POINTS} to {MOST_ENCLOSED_POINTS} points: close the wall, or name a stone of the group"
     )?;
     if let Some(stone) = *point {
         if let Some(colour) = board.at(stone) {

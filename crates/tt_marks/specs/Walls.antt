@@ -10,7 +10,7 @@ use Rattle.tt_board.specs.Play.{is_empty, is_stone_of, other}
 use Rattle.tt_board.specs.Position.{Colouring}
 use Rattle.tt_board.specs.Reach.{entry_at}
 use Rattle.tt_board.specs.Stones.{IsSetOnBoard, PointNumberSet}
-use Rattle.tt_marks.specs.declared.regions.TheConstants.{MOST_ENCLOSED_POINTS}
+use Rattle.tt_marks.specs.declared.regions.TheConstants.{FEWEST_ENCLOSED_POINTS, MOST_ENCLOSED_POINTS}
 use Rattle.tt_marks.specs.Reached.{Has, IsReached, PointTest}
 
 module _ (s : Size) (c : Colouring) where
@@ -58,7 +58,7 @@ empty_set s c = passing (λ p. is_empty (entry_at c p)) (point_count s)
 
 -- a region has so many points that it's worth a question and can be answered
 abbrev pub IsFitCount : ℕ → Type 0
-IsFitCount points = (1 < points) × (points ≤ MOST_ENCLOSED_POINTS)
+IsFitCount points = (FEWEST_ENCLOSED_POINTS ≤ points) × (points ≤ MOST_ENCLOSED_POINTS)
 
 -- the region is closed: its wall has a stone, and it has neither too few points nor too many
 abbrev pub IsClosed : PointNumberSet → PointNumberSet → Type 0

@@ -33,6 +33,7 @@ pub use enclosures::MOST_STONES;
 pub use point_sets::{chains, points_beside, stones_of_colour};
 pub use proposals::{is_lone, proposed_stone};
 pub use regions::{
-    MOST_ENCLOSED_POINTS, WalledRegion, empties, group, is_inner, is_walled_in, region,
+    FEWEST_ENCLOSED_POINTS, MOST_ENCLOSED_POINTS, WalledRegion, empties, group, is_inner,
+    is_walled_in, region,
 };
 pub use ways::ways_out;

@@ -14,14 +14,17 @@ use crate::walls::{group_bits, wall_bits, within};
 use tt_board::{Board, Colour};
 use tt_sgf::{Bits, Point, PointSet, Size};
 
+/// The fewest points of a region that is closed: with fewer no question is worth asking.
+pub const FEWEST_ENCLOSED_POINTS: u16 = 2;
+
 /// The most points of a region that is closed: with more of them hardly any search comes to an end.
 pub const MOST_ENCLOSED_POINTS: u16 = 40;
 
-/// Whether a region may have so many points: one that has fewer than 2 is worth no question.
+/// Whether a closed region may have so many points.
 pub(crate) fn is_fit_count(points: usize) -> bool
     ensures { IsTrue result ↔ IsFitCount points }
 {
-    1 < points && points <= usize::from(MOST_ENCLOSED_POINTS)
+    usize::from(FEWEST_ENCLOSED_POINTS) <= points && points <= usize::from(MOST_ENCLOSED_POINTS)
 }
 
 /// The points of a board that are kept as bits, as a set.
@@ -80,7 +83,7 @@ pub fn region(board: &Board, colour: Colour, stone: Point) -> WalledRegion
 }
 
 impl WalledRegion {
-    /// Whether it is closed: its wall has a stone, and it has 2 to `MOST_ENCLOSED_POINTS` points.
+    /// Whether it is closed: its wall has a stone, and it has `FEWEST_ENCLOSED_POINTS` to `MOST_ENCLOSED_POINTS` points.
     pub fn is_closed(&self) -> bool
         ensures { IsTrue result ↔ IsClosed self.now.wall self.now.points }
     {
@@ -103,7 +106,8 @@ pub fn is_inner(board: &Board, points: &PointSet) -> bool
     points.and(&all).count() <= all.minus(points).count()
 }
 
-/// Whether the group of a stone of this colour is walled in: its whole wall has a stone, and its region is inner, however many points it has.
+/// Whether the group of a stone of this colour is walled in: its whole wall has a stone, and its region is inner, however many points it
+/// has.
 pub fn is_walled_in(board: &Board, colour: Colour, stone: Point) -> bool
     requires { stone < point_count board.now.size }
     ensures { IsTrue result ↔ IsWalledIn board.now.size board.now.points colour stone }
