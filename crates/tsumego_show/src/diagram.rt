@@ -276,8 +276,8 @@ fn numbered_count(board: &Board, turns: &[Turn]) -> usize
     turns.len()
 }
 
-/// Writes the boards on which the main line of a strategy is numbered up to a pass behind the text, and how it ends behind the words, or that
-/// a pass comes. The answer is how many boards.
+/// Writes the boards on which the main line of a strategy is numbered up to a pass behind the text, and how it ends behind the words, or
+/// that a pass comes. The answer is how many boards.
 fn put_main_line(
     alloc: Global,
     out: &mut Vec<u8>,

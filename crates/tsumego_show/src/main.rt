@@ -11,8 +11,10 @@
 //! | `main_lines`, `endings` | the main line of a strategy, and how it ends |
 //! | `variations`, `depths` | the answer and its strategies as an SGF tree, the depth at which they are cut |
 //! | `diagram`, `windows` | the diagram (SVG), and the points it shows |
-//! | `marking`, `unmarked` | `--mark`: the tree with marks, and with stones that close the wall; why a tree has none, and how its wall may be closed |
-//! | `reading_back`, `same_nodes` | sees that the game trees which are written read as the problems that are meant, no node is lost, and only marks or a node with stones are added |
+//! | `marking` | `--mark`: the tree with marks, and with stones that close the wall |
+//! | `unmarked` | why a tree has no marks, and how its wall may be closed |
+//! | `reading_back` | sees that the game trees which are written read as the problems that are meant |
+//! | `same_nodes` | sees that no node is lost, and only marks or a node with stones are added |
 //! | `tree_bytes`, `points` | the bytes of a tree, points by number |
 //! | `laws` | an input has one status, unless stones may be added |
 #![tactic(auto)]

@@ -79,7 +79,8 @@ fn fresh_point_count(line: &Line, turns: &[Turn]) -> u16 {
     points.count()
 }
 
-/// Whether a resistance is better than another: by its first turn, then by the points that are played on anew, then by how few turns it has.
+/// Whether a resistance is better than another: by its first turn, then by the points that are played on anew, then by how few turns it
+/// has.
 fn is_better(line: &Line, one: &[Turn], other: &[Turn]) -> bool {
     let (weak, weak_other) = (weakness(line, one), weakness(line, other));
     if weak != weak_other {

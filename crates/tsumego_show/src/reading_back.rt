@@ -49,7 +49,8 @@ fn only_line(alloc: Global, text: &[u8]) -> Result<Option<MainLine>, ShowFault>
     }
 }
 
-/// Sees that a text is one tree, whose main line is that of these nodes with marks alone, or with stones of a colour too, where they are added.
+/// Sees that a text is one tree, whose main line is that of these nodes with marks alone, or with stones of a colour too, where they are
+/// added.
 pub fn check_nodes(
     alloc: Global,
     text: &[u8],

@@ -38,8 +38,8 @@ impl<'a> GivenTree<'a> {
         Ok(text)
     }
 
-    /// The tree with more bytes in front of that of this index: they are marks alone, or stones of a colour too, where they are added, and no
-    /// node is lost by them.
+    /// The tree with more bytes in front of that of this index: they are marks alone, or stones of a colour too, where they are added, and
+    /// no node is lost by them.
     pub fn with_more(
         &self,
         alloc: Global,
