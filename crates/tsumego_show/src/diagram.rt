@@ -1,6 +1,7 @@
 //! The diagram of a problem as SVG.
 ghost use Rattle.std.specs.Prelude.{◌<◌, ◌≤◌, length};
 ghost use Rattle.tt_sgf.specs.Sizes.{point_count};
+ghost use Rattle.tsumego_show.specs.declared.diagram.TheConstants.{CELL, MARGIN};
 
 use crate::answers::read_answers;
 use crate::endings::{has_ended, put_ending};
@@ -17,6 +18,11 @@ use tt_sgf::{Point, PointSet, Size};
 
 /// The most plays that are numbered on one board.
 const MOST_NUMBERS: usize = 9;
+
+/// How far a line of the board lies from the next one, and the first one from the edge of the picture.
+const CELL: usize = 24;
+
+const MARGIN: usize = 36;
 
 /// How far a line of words stands below the one above, and how wide a letter is at the most.
 const LINE_HEIGHT: usize = 14;
@@ -104,24 +110,24 @@ fn fill_colour(colour: Colour) -> &'static str {
 
 /// How far a line goes past the last point that is drawn: half a cell, where the board goes on.
 fn overhang(goes_on: bool) -> usize
-    ensures { result ≤ 12 }
+    ensures { result ≤ CELL }
 {
-    if goes_on { 12 } else { 0 }
+    if goes_on { CELL / 2 } else { 0 }
 }
 
-/// Where a line lies in a picture that begins with another: 24 a cell, behind a margin of 36.
+/// Where a line lies in a picture that begins with another.
 fn place(first: u16, at: u16) -> usize
-    ensures { (36 ≤ result) × (result ≤ 1600000) }
+    ensures { (MARGIN ≤ result) × (result ≤ 1600000) }
 {
-    24 * usize::from(at.saturating_sub(first)) + 36
+    CELL * usize::from(at.saturating_sub(first)) + MARGIN
 }
 
 /// Writes the lines and letters of the columns behind the text.
 fn put_columns(out: &mut Vec<u8>, size: Size, w: Window) -> Result<(), ShowFault>
     requires { w.right ≤ size.columns }
 {
-    let top = 36 - overhang(0 < w.top);
-    let bottom = place(w.top, w.bottom) - 24 + overhang(w.bottom < size.rows());
+    let top = MARGIN - overhang(0 < w.top);
+    let bottom = place(w.top, w.bottom) - CELL + overhang(w.bottom < size.rows());
     for column in w.left..w.right {
         let x = place(w.left, column);
         let letter = char::from(editor_column_letter(column));
@@ -137,8 +143,8 @@ fn put_columns(out: &mut Vec<u8>, size: Size, w: Window) -> Result<(), ShowFault
 fn put_rows(out: &mut Vec<u8>, size: Size, w: Window) -> Result<(), ShowFault>
     requires { w.bottom ≤ size.rows }
 {
-    let left = 36 - overhang(0 < w.left);
-    let right = place(w.left, w.right) - 24 + overhang(w.right < size.columns());
+    let left = MARGIN - overhang(0 < w.left);
+    let right = place(w.left, w.right) - CELL + overhang(w.right < size.columns());
     for row in w.top..w.bottom {
         let y = place(w.top, row);
         let below = y + 4;
