@@ -44,25 +44,37 @@ fn is_taken(line: &Line, board: &Board, point: Point, answer: Turn) -> bool {
     }
 }
 
-/// How poor a resistance is by its first turn: 0 where this is a play whose stone stays, 1 where the answer takes it, 2 where it is a pass,
-/// 3 where it is a suicide, 4 where there is none.
-fn weakness(line: &Line, turns: &[Turn]) -> usize {
+/// What the first turn of a resistance does, the strongest first.
+#[derive(Clone, Copy, PartialEq, Eq, PartialOrd, Ord)]
+enum Resistance {
+    /// A play whose stone stays.
+    Stone,
+    /// A play whose stone the answer takes.
+    ThrowIn,
+    Pass,
+    Suicide,
+    /// There is no turn, or none that is legal.
+    Nothing,
+}
+
+/// What the first of these turns does.
+fn resistance_of(line: &Line, turns: &[Turn]) -> Resistance {
     let Some(turn) = turns.first() else {
-        return 4;
+        return Resistance::Nothing;
     };
     if !line.is_legal(*turn) {
-        return 4;
+        return Resistance::Nothing;
     }
     let Turn::Play(point) = *turn else {
-        return 2;
+        return Resistance::Pass;
     };
     let board = line.board_after_turn(*turn);
     if !has_stone(&board, point) {
-        return 3;
+        return Resistance::Suicide;
     }
     match turns.get(1) {
-        Some(answer) if is_taken(line, &board, point, *answer) => 1,
-        _ => 0,
+        Some(answer) if is_taken(line, &board, point, *answer) => Resistance::ThrowIn,
+        _ => Resistance::Stone,
     }
 }
 
@@ -82,9 +94,9 @@ fn fresh_point_count(line: &Line, turns: &[Turn]) -> u16 {
 /// Whether a resistance is better than another: by its first turn, then by the points that are played on anew, then by how few turns it
 /// has.
 fn is_better(line: &Line, one: &[Turn], other: &[Turn]) -> bool {
-    let (weak, weak_other) = (weakness(line, one), weakness(line, other));
-    if weak != weak_other {
-        return weak < weak_other;
+    let (first, first_other) = (resistance_of(line, one), resistance_of(line, other));
+    if first != first_other {
+        return first < first_other;
     }
     let (fresh, fresh_other) = (fresh_point_count(line, one), fresh_point_count(line, other));
     if fresh != fresh_other {
