@@ -356,10 +356,7 @@ fn tree_with_any_marks(
     let Some(stone) = stone else {
         return Ok(None);
     };
-    match marked_tree(alloc, hints, wanted, tree, game, stone)? {
-        Some(text) => Ok(Some(text)),
-        None => Ok(None),
-    }
+    marked_tree(alloc, hints, wanted, tree, game, stone)
 }
 
 /// Writes that a tree has no marks, why for a stone, and the tree as it was.
