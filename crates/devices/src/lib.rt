@@ -1,4 +1,4 @@
-//! Reads standard input up to a limit and writes bytes, and says what failed. Both programs stand on it.
+//! Reads standard input up to a limit and writes bytes, and says what failed. The programs stand on it.
 //!
 //! | Module | What it holds |
 //! |---|---|
