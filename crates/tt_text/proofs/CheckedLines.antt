@@ -19,7 +19,6 @@ use Rattle.tt_parts.specs.Outlines.{unfolded}
 use Rattle.tt_proof.specs.Strategy.{depth}
 use Rattle.tt_text.specs.declared.checking.CheckOutcome.{CheckOutcome}
 use Rattle.tt_text.specs.declared.checking.CheckOutcome.TheVariants.{Valid, Invalid, Refused}
-use Rattle.tt_text.specs.declared.reasons.TheConstants.{UNFIT_PART}
 use Rattle.tt_text.specs.Checking.{Finds, FindsOnProblem, FindsPlain, FindsShared, check_line, first_tree, loses, no_certificate, no_tree, shared_loses, shared_wins, too_deep}
 use Rattle.tt_text.specs.Checking.{goes_deep, too_long, unfit, unread, wins}
 use Rattle.tt_text.specs.Headline.{lines_of}
@@ -74,7 +73,7 @@ shared_found : (p : LineWithUndo) (bytes : List ℕ) (o : CheckOutcome) → o �
     → (side : Side) × CertificateWins true p side bytes × HasValue p.frame p.state (value_won_by side)
 shared_found p bytes o e is (unread a) = absurd (let bad : Refused 30 ≡ Valid = e in cc)
 shared_found p bytes o e is (goes_deep a) = absurd (let bad : Refused 31 ≡ Valid = e in cc)
-shared_found p bytes o e is (unfit side u are h) = absurd (let bad : Refused UNFIT_PART ≡ Valid = e in cc)
+shared_found p bytes o e is (unfit side u are h) = absurd (let bad : Refused 32 ≡ Valid = e in cc)
 shared_found p bytes o e is (shared_wins side u are h w) =
     (side, (u, are, w), (values_forced p.frame p.state side is).1 (game_length_bound p.frame) (strategy_forces side p.frame (unfolded [] u) p.state is w))
 shared_found p bytes o e is (shared_loses side u are h l) = absurd (let bad : Invalid ≡ Valid = e in cc)

@@ -24,7 +24,6 @@ use Rattle.tt_proof.specs.Strategy.{Strategy}
 use Rattle.tt_proof.specs.Wins.{Wins, WinsOrLives}
 use Rattle.tt_text.specs.declared.checking.CheckOutcome.{CheckOutcome}
 use Rattle.tt_text.specs.declared.checking.CheckOutcome.TheVariants.{Valid, Invalid, Refused}
-use Rattle.tt_text.specs.declared.reasons.TheConstants.{UNFIT_PART}
 use Rattle.tt_text.specs.Checking.{Finds, FindsPlain, FindsOnProblem, FindsShared, first_tree, goes_deep, loses, no_certificate, no_tree, shared_loses, shared_wins}
 use Rattle.tt_text.specs.Checking.{too_deep, too_long, unfit, unread, wins}
 
@@ -61,7 +60,7 @@ module _ (p : LineWithUndo) (f : Frame) (bytes : List ℕ) (same : f ≡ p.frame
   pub shared_loses_at : IsOutlineAnswer side p.frame o p.state (Some false) → (WinsOrLives side p.frame (unfolded [] o) p.state → ⊥) → FindsShared p bytes Invalid
   shared_loses_at h w = shared_loses side o here h w
 
-  pub unfit_at : IsOutlineAnswer side p.frame o p.state None → FindsShared p bytes (Refused UNFIT_PART)
+  pub unfit_at : IsOutlineAnswer side p.frame o p.state None → FindsShared p bytes (Refused 32)
   unfit_at h = unfit side o here h
 
 -- an input whose first tree can't be read is refused

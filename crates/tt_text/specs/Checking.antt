@@ -20,7 +20,6 @@ use Rattle.tt_proof.specs.Strategy.{Strategy}
 use Rattle.tt_proof.specs.Wins.{Wins, WinsOrLives}
 use Rattle.tt_text.specs.declared.checking.CheckOutcome.{CheckOutcome}
 use Rattle.tt_text.specs.declared.checking.CheckOutcome.TheVariants.{Valid, Invalid, Refused}
-use Rattle.tt_text.specs.declared.reasons.TheConstants.{UNFIT_PART}
 
 -- What is found on bytes at a problem: a turn lies too deep; or they are no certificate; or they are one, and its tree
 -- wins at the problem or doesn't.
@@ -39,7 +38,7 @@ pub data FindsShared (p : LineWithUndo) (bytes : List ℕ) : CheckOutcome → Ty
   unread : IsSharedCertFault p.frame.size MOST_DEPTH bytes Syntax → FindsShared p bytes (Refused 30)
   goes_deep : IsSharedCertFault p.frame.size MOST_DEPTH bytes TooDeep → FindsShared p bytes (Refused 31)
   unfit : (side : Side) (o : Outline) → IsSharedCertificate p.frame.size bytes side o → IsOutlineAnswer side p.frame o p.state None
-      → FindsShared p bytes (Refused UNFIT_PART)
+      → FindsShared p bytes (Refused 32)
   shared_wins : (side : Side) (o : Outline) → IsSharedCertificate p.frame.size bytes side o → IsOutlineAnswer side p.frame o p.state (Some true)
       → WinsOrLives side p.frame (unfolded [] o) p.state → FindsShared p bytes Valid
   shared_loses : (side : Side) (o : Outline) → IsSharedCertificate p.frame.size bytes side o → IsOutlineAnswer side p.frame o p.state (Some false)
